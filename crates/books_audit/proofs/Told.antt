@@ -1,6 +1,5 @@
 -- A query of a whole table tells its rows.
-use Rattle.std.proofs.Common.{IfOk}
-use Rattle.shop_schema.proofs.Common.{◌≡◌, ◌<◌, ℕ, zero, suc, length, get_or, arith, ◌++◌, append-nil, append_assoc, List, [], ◌∷◌, refl, map, cond, true, ap, sym, subst, ◌∙◌, Ok, Err, Result, IsPermutation, flat_map, remove, IsPermutation-map, column, Trees, Output, output, overlay, State, columns_of, columns_from, eval_all, Table, shown_same, plain_query, answers, shop_schema, IsShop, cols}
+use Rattle.shop_schema.proofs.Common.{◌≡◌, ◌<◌, ℕ, zero, suc, length, get_or, arith, ◌++◌, append-nil, append_assoc, List, [], ◌∷◌, refl, map, cond, true, ap, sym, subst, ◌∙◌, IsPermutation, flat_map, remove, IsPermutation-map, column, Trees, Output, output, overlay, State, columns_of, columns_from, eval_all, Table, shown_same, plain_query, answers, shop_schema, IsShop, cols}
 use Rattle.sqlite_value.specs.Order.{Row}
 use Rattle.sqlite.specs.State.{Shown}
 use Rattle.shop_schema.proofs.Listed.{own_rows}
@@ -18,7 +17,7 @@ module _ (t : Table) (text : List ℕ) (means : SelectsWhole t text) where
   matching [] = refl
   matching (r ∷ rows) = λ i. shown 1 width r i ∷ matching rows i
 
-  told : (old new : State) (found : List Row) → IsShop old → Shown text [] old new found → AreRowsOf t old.now.trees found × (new.now ≡ old.now)
+  pub told : (old new : State) (found : List Row) → IsShop old → Shown text [] old new found → AreRowsOf t old.now.trees found × (new.now ≡ old.now)
   told old new found has h =
       let q = plain_query t.tree [] (cols 1 1 width) [] in
       let a = answers shop_schema text q [] old new has means found h in
@@ -28,10 +27,6 @@ module _ (t : Table) (text : List ℕ) (means : SelectsWhole t text) where
         subst (λ l. IsPermutation l found) kept (subst (IsPermutation (map (λ (o : Output). o.1) a.kept)) (sym a.shown) all),
         (shown_same shop_schema text [] old new has means.plain found h).0.now_is,
       )
-
-  pub told_if : {R E : Type 0} (items : R → List Row) (r : Result R E) (old new : State) → IfOk r (λ rows. Shown text [] old new (items rows)) → IsShop old → IfOk r (λ rows. AreRowsOf t old.now.trees (items rows) × (new.now ≡ old.now))
-  told_if items (Ok rows) old new shown has = told old new (items rows) has shown
-  told_if items (Err e) old new shown has = tt
 
 -- ---- one text after another
 

@@ -9,7 +9,7 @@ use Rattle.shop_schema.specs.RowValues.{AreValues}
 use Rattle.shop_schema.specs.Shop.{StandsFor}
 use Rattle.shop_types.specs.declared.audit.Audit.{Audit}
 use Rattle.books_audit.specs.declared.tables.TableRows.{TableRows}
-use Rattle.books_audit.specs.Audits.{Counts}
+use Rattle.books_audit.specs.Audits.{Counts, IsAuditOf}
 
 -- the rows of each table, in any order
 pub record HaveTables (trees : Trees) (tables : TableRows) : Type 0 where
@@ -41,3 +41,8 @@ pub record HaveTables (trees : Trees) (tables : TableRows) : Type 0 where
 pub record IsAuditOfShop (trees : Trees) (audit : Audit) : Type 0 where
   pub sound : (rules : Rules) → IsTrue audit.sound ↔ ((books : Books) × StandsFor trees books × AreValues books × IsSound (widest rules) books)
   pub counts : (rules : Rules) (books : Books) → StandsFor trees books → AreValues books → IsSound (widest rules) books → Counts audit books
+
+-- It is the audit of rows that are these tables', whatever they hold; and of the books for which the tables stand, where they do.
+pub record AuditsTables (trees : Trees) (audit : Audit) : Type 0 where
+  pub tables : (tables : TableRows) → HaveTables trees tables → IsAuditOf tables audit
+  pub books : IsAuditOfShop trees audit

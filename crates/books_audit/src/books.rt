@@ -1,13 +1,10 @@
 //! The audit of all tables.
 
-ghost use Rattle.std.specs.Prelude.{◌≡◌, IfOk, OnOk};
-ghost use Rattle.sqlite.specs.Held.{state};
-ghost use Rattle.sqlite.specs.State.{HasCleanDisk};
-ghost use Rattle.sql_rows.specs.Calls.{StaysInside};
+ghost use Rattle.std.specs.Prelude.{◌≡◌, IfOk};
+ghost use Rattle.sql_rows.specs.Calls.{DoesInside};
 ghost use Rattle.shop_schema.specs.Shop.{IsShop};
-ghost use Rattle.books_audit.specs.declared.tables.TableRows.{TableRows};
 ghost use Rattle.books_audit.specs.Audits.{IsAuditOf};
-ghost use Rattle.books_audit.specs.Shops.{HaveTables, IsAuditOfShop};
+ghost use Rattle.books_audit.specs.Shops.{AuditsTables};
 
 use crate::counts::have_counts;
 use crate::custody::NOTHING;
@@ -37,20 +34,14 @@ pub fn check_books(alloc: Global, tables: &TableRows) -> Result<Audit, NoMemory>
     audit_ordered(alloc, &rows)
 }
 
-/// The audit of a shop's tables, whatever they hold, which reads each once and changes none (`same`), also where the
-/// transaction has written. `shop` says what `audit` does of the books for which the tables stand.
+/// The audit of a shop's tables, whatever they hold, which reads each once and changes none, also where the
+/// transaction has written.
 pub fn audit_books<S: Alter>(
     alloc: Global,
     tx: &mut Transaction<'_, S>,
 ) -> Result<Audit, StoreFault>
-    ensures inside { StaysInside S.Store tx.old.conn tx.new.conn result }
-    ensures audit { HasCleanDisk (state S.Store tx.new.conn.now) → IsShop (state S.Store tx.old.conn.now)
-        → IfOk result (λ audit. (tables : TableRows) → HaveTables (state S.Store tx.old.conn.now).now.trees tables
-        → IsAuditOf tables audit) }
-    ensures same { HasCleanDisk (state S.Store tx.new.conn.now) → IsShop (state S.Store tx.old.conn.now)
-        → OnOk result ((state S.Store tx.new.conn.now).now ≡ (state S.Store tx.old.conn.now).now) }
-    ensures shop { HasCleanDisk (state S.Store tx.new.conn.now) → IsShop (state S.Store tx.old.conn.now)
-        → IfOk result (IsAuditOfShop (state S.Store tx.old.conn.now).now.trees) }
+    ensures { DoesInside S.Store tx.old.conn tx.new.conn result
+        (λ audit old new. IsShop old → AuditsTables old.now.trees audit × (new.now ≡ old.now)) }
 {
     let tables = read_tables(alloc, tx)?;
     match check_books(alloc, &tables) {

@@ -1,9 +1,7 @@
 //! The audit of custody.
 
 ghost use Rattle.std.specs.Prelude.{◌≡◌, IfOk, map};
-ghost use Rattle.sqlite.specs.Held.{state};
-ghost use Rattle.sqlite.specs.State.{HasCleanDisk};
-ghost use Rattle.sql_rows.specs.Calls.{StaysInside};
+ghost use Rattle.sql_rows.specs.Calls.{DoesInside};
 ghost use Rattle.sql_rows.specs.Rows.{columns_of};
 ghost use Rattle.shop_schema.specs.Shop.{IsShop};
 ghost use Rattle.audit_rows.specs.Seen.{seen_copy, seen_line};
@@ -73,10 +71,9 @@ pub fn audit_custody<S: Alter>(
     alloc: Global,
     tx: &mut Transaction<'_, S>,
 ) -> Result<Audit, StoreFault>
-    ensures inside { StaysInside S.Store tx.old.conn tx.new.conn result }
-    ensures audit { HasCleanDisk (state S.Store tx.new.conn.now) → IsShop (state S.Store tx.old.conn.now)
-        → IfOk result (IsCustodyAudit (map (columns_of 6) ((state S.Store tx.old.conn.now).now.trees 25))
-        (map (columns_of 8) ((state S.Store tx.old.conn.now).now.trees 37))) }
+    ensures { DoesInside S.Store tx.old.conn tx.new.conn result
+        (λ audit old _. IsShop old
+        → IsCustodyAudit (map (columns_of 6) (old.now.trees 25)) (map (columns_of 8) (old.now.trees 37)) audit) }
 {
     let copies = read_whole(tx, COPIES)?;
     let lines = read_whole(tx, LINES)?;

@@ -1,11 +1,9 @@
 //! Each table read whole, by a text of its own.
 
-ghost use Rattle.std.specs.Prelude.{◌≡◌, IfOk, List, ◌∷◌, drop, map};
-ghost use Rattle.sqlite.specs.Held.{state};
-ghost use Rattle.sqlite.specs.State.{HasCleanDisk};
+ghost use Rattle.std.specs.Prelude.{◌≡◌, List, ◌∷◌, drop, map};
 ghost use Rattle.sqlite.specs.Table.{Table};
 ghost use Rattle.sqlite_trees.specs.Tree.{Trees};
-ghost use Rattle.sql_rows.specs.Calls.{StaysInside, StaysWithin};
+ghost use Rattle.sql_rows.specs.Calls.{DoesInside, DoesWithin};
 ghost use Rattle.shop_schema.specs.Tables.{shop_schema, chain_table};
 ghost use Rattle.shop_schema.specs.Shop.{IsShop};
 ghost use Rattle.books_audit.specs.Whole.{SelectsWhole, AreRowsOf, SelectEach, HaveEach};
@@ -55,11 +53,9 @@ pub(crate) fn read_whole<S: Alter>(
     tx: &mut Transaction<'_, S>,
     text: &str,
 ) -> Result<Vec<Row>, StoreFault>
-    ensures inside { StaysInside S.Store tx.old.conn tx.new.conn result }
-    ensures rows { HasCleanDisk (state S.Store tx.new.conn.now) → IsShop (state S.Store tx.old.conn.now) → (t : Table)
-        → SelectsWhole t text.now
-        → IfOk result (λ rows. AreRowsOf t (state S.Store tx.old.conn.now).now.trees rows.items
-        × ((state S.Store tx.new.conn.now).now ≡ (state S.Store tx.old.conn.now).now)) }
+    ensures { DoesInside S.Store tx.old.conn tx.new.conn result
+        (λ rows old new. IsShop old → (t : Table) → SelectsWhole t text.now
+        → AreRowsOf t old.now.trees rows.items × (new.now ≡ old.now)) }
 {
     query(tx, text, &[])
 }
@@ -70,12 +66,9 @@ fn read_each<S: Alter>(
     tx: &mut Transaction<'_, S>,
     texts: &[&str],
 ) -> Result<Vec<Vec<Row>>, StoreFault>
-    ensures inside { StaysWithin S.Store tx.old.conn tx.new.conn result }
-    ensures rows { HasCleanDisk (state S.Store tx.new.conn.now) → IsShop (state S.Store tx.old.conn.now)
-        → (tables : List Table) → SelectEach tables (map (λ t. t.now) texts.now)
-        → IfOk result (λ all. HaveEach tables (state S.Store tx.old.conn.now).now.trees
-        (map (λ rows. rows.items) all.items)
-        × ((state S.Store tx.new.conn.now).now ≡ (state S.Store tx.old.conn.now).now)) }
+    ensures { DoesWithin S.Store tx.old.conn tx.new.conn result
+        (λ all old new. IsShop old → (tables : List Table) → SelectEach tables (map (λ t. t.now) texts.now)
+        → HaveEach tables old.now.trees (map (λ rows. rows.items) all.items) × (new.now ≡ old.now)) }
 {
     let mut all = Vec::new(alloc);
     for text in texts {
@@ -134,10 +127,8 @@ pub(crate) fn read_tables<S: Alter>(
     alloc: Global,
     tx: &mut Transaction<'_, S>,
 ) -> Result<TableRows, StoreFault>
-    ensures inside { StaysInside S.Store tx.old.conn tx.new.conn result }
-    ensures rows { HasCleanDisk (state S.Store tx.new.conn.now) → IsShop (state S.Store tx.old.conn.now)
-        → IfOk result (λ tables. HaveTables (state S.Store tx.old.conn.now).now.trees tables
-        × ((state S.Store tx.new.conn.now).now ≡ (state S.Store tx.old.conn.now).now)) }
+    ensures { DoesInside S.Store tx.old.conn tx.new.conn result
+        (λ tables old new. IsShop old → HaveTables old.now.trees tables × (new.now ≡ old.now)) }
 {
     let chain = read_whole(tx, CHAIN)?;
     let others = read_each(alloc, tx, &OTHERS)?;

@@ -1,35 +1,30 @@
--- What the number of a row says of the calls that it was made of.
-use Rattle.shop_schema.proofs.Common.{◌≡◌, ◌+◌, ℕ, Ok, Err, Result, refl, sym, subst, IsOk, IfOk, MutBor, false≢true, Ghosts, Held, StaysInside, inside_err, inside_then, inside_when, within_of}
-use Rattle.std.specs.Prelude.{OnOk}
+-- Calls that begin with one that shows that the transaction was open, and what the number of a row says of them.
+use Rattle.shop_schema.proofs.Common.{◌≡◌, ◌+◌, ℕ, Ok, Err, Result, refl, sym, subst, IsOk, IfOk, IfOk-weaker, MutBor, false≢true, Ghosts, Held, state, State, StaysInside, clean_before, inside_as, inside_err, inside_then, within_of}
+use Rattle.std.specs.Prelude.{IsErr}
+use Rattle.sql_rows.specs.Calls.{DoesInside}
 
--- what a call says of what it answered
-pub was_ok : {X E : Type 0} (r : Result X E) (x : X) (P : X → Type 0) → r ≡ Ok x → IfOk r P → P x
-was_ok {X} {E} r x P is ok = subst (λ (it : Result X E). IfOk it P) is ok
+module _ {S X E : Type 0} {g : Ghosts S} {a b : MutBor (Held S)} {x : X} {P : X → State → State → Type 0} (one : DoesInside {E = E} g a b (Ok x) P) where
+  -- one more call from where it left the state, with what both say
+  pub then_does : {Y F : Type 0} {c : MutBor (Held S)} {r : Result Y F} {R : Y → State → State → Type 0} → DoesInside g b c r R
+      → DoesInside g a c r (λ y _ _. P x (state g a.now) (state g b.now) × R y (state g b.now) (state g c.now))
+  then_does {r = r} two = record { inside = inside_then one.inside (within_of two.inside); says = λ clean. IfOk-weaker r _ _ (λ y said. (one.says (clean_before two.inside clean), said)) (two.says clean) }
 
-when_ok : {X E : Type 0} (r : Result X E) (P : Type 0) → IsOk r → OnOk r P → P
-when_ok (Ok x) P ok p = p
-when_ok (Err e) P ok p = absurd (false≢true ok)
+  -- and so is the result
+  pub done_inside : {Y F : Type 0} {y : Y} {Q : Y → State → State → Type 0} → (P x (state g a.now) (state g b.now) → Q y (state g a.now) (state g b.now)) → DoesInside {E = F} g a b (Ok y) Q
+  done_inside more = record { inside = inside_as one.inside; says = λ clean. more (one.says clean) }
 
 -- a number that tells that a call was answered
-pub numbered_as : {X E F : Type 0} (put : Result X E) (r : Result ℕ F) (m : ℕ) (W : Type 0) (Q : ℕ → Type 0) → IfOk r (λ n. (n ≡ m) × IsOk put) → OnOk put W → (W → Q m) → IfOk r Q
-numbered_as put (Ok n) m W Q is put_it make = subst Q (sym is.0) (make (when_ok put W is.1 put_it))
-numbered_as put (Err e) m W Q is put_it make = tt
+pub numbered_as : {S X E F : Type 0} {g : Ghosts S} {a b : MutBor (Held S)} {P : X → State → State → Type 0} {Q : ℕ → State → State → Type 0} (put : Result X E) (r : Result ℕ F) (m : ℕ)
+    → IfOk r (λ n. (n ≡ m) × IsOk put) → DoesInside g a b put P → ((x : X) → P x (state g a.now) (state g b.now) → Q m (state g a.now) (state g b.now)) → DoesInside g a b r Q
+numbered_as {g = g} {a = a} {b = b} {Q = Q} (Ok x) (Ok n) m is one more = record { inside = inside_as one.inside; says = λ clean. subst (λ (it : ℕ). Q it (state g a.now) (state g b.now)) (sym is.0) (more x (one.says clean)) }
+numbered_as (Err e) (Ok n) m is one more = absurd (false≢true is.1)
+numbered_as put (Err e) m is one more = record { inside = inside_err one.inside refl; says = λ clean. tt }
 
--- so the calls stay inside
-module _ {S X E F : Type 0} {g : Ghosts S} {a b : MutBor (Held S)} where
-  pub put_inside : {put : Result X E} (r : Result ℕ F) (m : ℕ) → IfOk r (λ n. (n ≡ m) × IsOk put) → StaysInside g a b put → StaysInside g a b r
-  put_inside (Ok n) m is h = inside_when h (λ _. is.1)
-  put_inside (Err e) m is h = inside_err h refl
-
-  -- two calls, of which the first told the last number
-  pub told_then : {c : MutBor (Held S)} {last : Result ℕ E} {r : Result X F} (n : ℕ) → last ≡ Ok n → StaysInside g a b last → StaysInside g b c r → StaysInside g a c r
-  told_then n told one two = inside_then (subst (λ (it : Result ℕ E). StaysInside g a b it) told one) (within_of two)
+-- after a fault there is nothing to say
+pub err_inside : {S X E Y F : Type 0} {g : Ghosts S} {a b : MutBor (Held S)} {s : Result X E} {Q : Y → State → State → Type 0} (r : Result Y F) → IsErr r → StaysInside g a b s → DoesInside g a b r Q
+err_inside (Ok y) is stays = absurd (false≢true is)
+err_inside (Err e) is stays = record { inside = inside_err stays refl; says = λ clean. tt }
 
 -- the number is the one that comes after the last
 abbrev pub IsNext : {E : Type 0} → Result ℕ E → ℕ → Type 0
 IsNext last number = (n : ℕ) × (last ≡ Ok n) × (number ≡ n + 1)
-
--- the last number was told before
-pub added_inside : {S X E F : Type 0} {g : Ghosts S} {a b c : MutBor (Held S)} {last : Result ℕ E} {put : Result X E} {number : ℕ} (r : Result ℕ F)
-    → IsNext last number → IfOk r (λ n. (n ≡ number) × IsOk put) → StaysInside g a b last → StaysInside g b c put → StaysInside g a c r
-added_inside r next is one two = told_then next.0 next.1 one (put_inside r _ is two)

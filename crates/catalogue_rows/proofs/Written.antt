@@ -1,12 +1,13 @@
 -- What the rows of head office's commands make of the books, and that a new branch has no last moment.
 use Rattle.std.proofs.Common.{IfOk}
-use Rattle.shop_schema.proofs.Common.{◌≡◌, ◌+◌, Result, ℕ, List, [], ◌∷◌, ◌++◌, map, length, sym, ap, subst, ◌∙◌, arith, ⊤, IsOk, MutBor, Ghosts, Held, state, State, HasCleanDisk, StaysInside, clean_before, Moment, Owned, owned_by, Text, Branch, OfficeAct, OfficeCommand, Catalogue, office_acted, office_told, office_text, office_done, Books, Counts, counts_of, with_branch, IsHeld, HoldsWith}
+use Rattle.shop_schema.proofs.Common.{◌≡◌, ◌+◌, Result, ℕ, List, [], ◌∷◌, ◌++◌, map, length, sym, ap, subst, ◌∙◌, arith, ⊤, IsOk, MutBor, Ghosts, Held, state, State, Moment, Owned, owned_by, Text, Branch, OfficeAct, OfficeCommand, Catalogue, office_acted, office_told, office_text, office_done, Books, Counts, counts_of, with_branch, IsHeld, HoldsWith}
+use Rattle.sql_rows.specs.Calls.{DoesInside}
 use Rattle.shop_ledger.specs.Calls.{Finds, Stores}
 use Rattle.shop_ledger.proofs.CountsOf.{beside}
 use Rattle.shop_ledger.proofs.OfficeCounts.{lacks_next, kept_stays, none_of}
 use Rattle.shop_views.specs.Bodies.{office_members}
 use Rattle.catalogue_rows.specs.Added.{with_act, with_counts, with_kept, IsActed, IsNumbered}
-use Rattle.catalogue_rows.proofs.Numbers.{was_ok, numbered_as, IsNext}
+use Rattle.catalogue_rows.proofs.Numbers.{then_does, numbered_as, IsNext}
 
 -- ---- a branch that isn't there has no last moment
 
@@ -39,36 +40,33 @@ made_so act number books made {s = s} makes holds = (subst (λ (it : Counts × B
 abbrev pub with_rows : {W : Type 0} → (Catalogue → List W → Catalogue) → List W → Books → Books
 with_rows set rows books = record books { catalogue = set books.catalogue rows }
 
--- the number of an act, as that of the act by another name
-pub of_act : {F : Type 0} {was act : OfficeAct} (a b : State) (r : Result ℕ F) → was ≡ act → (HasCleanDisk b → IfOk r (λ n. IsNumbered act n a b))
-    → HasCleanDisk b → IfOk r (λ n. IsNumbered was n a b)
-of_act a b r is numbered clean = subst (λ (it : OfficeAct). IfOk r (λ n. IsNumbered it n a b)) (sym is) (numbered clean)
+module _ {S F : Type 0} {g : Ghosts S} {a b : MutBor (Held S)} {r : Result ℕ F} {was act : OfficeAct} where
+  -- the number of an act, as that of the act by another name
+  pub of_act : was ≡ act → DoesInside g a b r (IsNumbered act) → DoesInside g a b r (IsNumbered was)
+  of_act is = subst (λ (it : OfficeAct). DoesInside g a b r (IsNumbered it)) (sym is)
 
-module _ {S X E F : Type 0} {g : Ghosts S} {b c : MutBor (Held S)} {put : Result X E} {was act : OfficeAct} where
+module _ {S X E F : Type 0} {g : Ghosts S} {b c : MutBor (Held S)} {put : Result X E} {was act : OfficeAct} (r : Result ℕ F) (is_act : was ≡ act) where
   -- a row is put after the last of its list, whose number was told before
-  pub row_added : {W : Type 0} {last : Result ℕ E} {number n : ℕ} {row new : W} (get : Catalogue → List W) (set : Catalogue → List W → Catalogue) (a : State) (r : Result ℕ F)
-      → was ≡ act → ((books : Books) → Makes act (length (get books.catalogue) + 1) books (with_rows set (get books.catalogue ++ new ∷ []) books))
-      → row ≡ new → n ≡ number → IsNext last number → IfOk r (λ it. (it ≡ number) × IsOk put) → StaysInside g b c put
-      → Finds a (state g b.now) last (λ last books. last ≡ length (get books.catalogue))
-      → Stores (state g b.now) (state g c.now) put (λ books. n ≡ length (get books.catalogue) + 1) (λ books. with_rows set (get books.catalogue ++ row ∷ []) books)
-      → HasCleanDisk (state g c.now) → IfOk r (λ it. IsNumbered was it a (state g c.now))
-  row_added {W} {last = last} {number = number} get set a r is_act makes same own next is inside found stored =
-      let to = state g c.now in
-      of_act a to r is_act (λ clean. numbered_as put r number _ (λ it. IsNumbered act it a to) is (stored clean) (λ written. λ books holds held.
-      let told = was_ok last next.0 _ next.1 (found (clean_before inside clean)) books holds held in
+  pub row_added : {W : Type 0} {a : MutBor (Held S)} {last : Result ℕ E} {number n : ℕ} {row new : W} (get : Catalogue → List W) (set : Catalogue → List W → Catalogue)
+      → ((books : Books) → Makes act (length (get books.catalogue) + 1) books (with_rows set (get books.catalogue ++ new ∷ []) books))
+      → row ≡ new → n ≡ number → IsNext last number → IfOk r (λ it. (it ≡ number) × IsOk put)
+      → DoesInside g a b last (λ last. Finds (λ books. last ≡ length (get books.catalogue)))
+      → DoesInside g b c put (λ _. Stores (λ books. n ≡ length (get books.catalogue) + 1) (λ books. with_rows set (get books.catalogue ++ row ∷ []) books))
+      → DoesInside g a c r (IsNumbered was)
+  row_added {W} {a} {number = number} get set makes same own next is found stored =
+      let first = subst (λ (it : Result ℕ E). DoesInside g a b it (λ last. Finds (λ books. last ≡ length (get books.catalogue)))) next.1 found in
+      of_act is_act (numbered_as put r _ is (then_does first stored) (λ _ said books holds held.
+      let told = said.0 books holds held in
       let comes : number ≡ length (get books.catalogue) + 1 = next.2 ∙ ap (λ (it : ℕ). it + 1) told.1 in
-      let holds_new = written (counts_of books) books (beside (state g b.now) books told.0) (own ∙ comes) in
-      let its = made_so act _ books _ (makes books) (subst (λ (it : W). HoldsWith (counts_of books) to (with_rows set (get books.catalogue ++ it ∷ []) books)) same holds_new) in
+      let holds_new = said.1 (counts_of books) books (beside (state g b.now) books told.0) (own ∙ comes) in
+      let its = made_so act _ books _ (makes books) (subst (λ (it : W). HoldsWith (counts_of books) (state g c.now) (with_rows set (get books.catalogue ++ it ∷ []) books)) same holds_new) in
       (its.0, ap (office_members act) comes ∙ its.1)))
 
   -- a row is put that has no number, or changed
-  pub row_changed : {change : Books → Books} (r : Result ℕ F) → was ≡ act → ((books : Books) → Makes act 0 books (change books)) → IfOk r (λ it. (it ≡ 0) × IsOk put)
-      → StaysInside g b c put → Stores (state g b.now) (state g c.now) put (λ _. ⊤) change → HasCleanDisk (state g c.now) → IfOk r (λ it. IsNumbered was it (state g b.now) (state g c.now))
-  row_changed {change = change} r is_act makes is inside stored =
-      let from = state g b.now in
-      let to = state g c.now in
-      of_act from to r is_act (λ clean. numbered_as put r 0 _ (λ it. IsNumbered act it from to) is (stored clean)
-      (λ written. λ books holds held. made_so act 0 books (change books) (makes books) (written (counts_of books) books (beside from books holds) tt)))
+  pub row_changed : {change : Books → Books} → ((books : Books) → Makes act 0 books (change books)) → IfOk r (λ it. (it ≡ 0) × IsOk put)
+      → DoesInside g b c put (λ _. Stores (λ _. ⊤) change) → DoesInside g b c r (IsNumbered was)
+  row_changed {change} makes is stored = of_act is_act (numbered_as put r _ is stored (λ _ written books holds held.
+      made_so act 0 books (change books) (makes books) (written (counts_of books) books (beside (state g b.now) books holds) tt)))
 
 -- ---- the command itself
 

@@ -1,10 +1,8 @@
 //! How the rows of an accepted command of head office are written and counted, how it is kept, and what is replied of
 //! it.
 
-ghost use Rattle.std.specs.Prelude.{◌≡◌, ℕ, ◌+◌, true, string_bytes, Ok, IsOk, IfOk, OnOk};
-ghost use Rattle.sqlite.specs.Held.{state};
-ghost use Rattle.sqlite.specs.State.{HasCleanDisk};
-ghost use Rattle.sql_rows.specs.Calls.{StaysInside};
+ghost use Rattle.std.specs.Prelude.{◌≡◌, ℕ, ◌+◌, true, string_bytes, Ok, IsOk, IfOk};
+ghost use Rattle.sql_rows.specs.Calls.{DoesInside};
 ghost use Rattle.shop_model.specs.Json.{object};
 ghost use Rattle.shop_model.specs.Answers.{accepted_answer};
 ghost use Rattle.shop_model.specs.Values as model;
@@ -36,10 +34,8 @@ pub fn add<S: Alter>(
     form: &Bytes,
 ) -> Result<Answered, StoreFault>
     requires { form.now ≡ office_command_form (seen_office command.now) }
-    ensures inside { StaysInside S.Store tx.old.conn tx.new.conn result }
-    ensures added { HasCleanDisk (state S.Store tx.new.conn.now)
-        → IfOk result (λ done. (done.is_changed ≡ true) × IsAdded (seen_office command.now) (seen_reply done.reply)
-        (state S.Store tx.old.conn.now) (state S.Store tx.new.conn.now)) }
+    ensures does { DoesInside S.Store tx.old.conn tx.new.conn result
+        (λ done old new. (done.is_changed ≡ true) × IsAdded (seen_office command.now) (seen_reply done.reply) old new) }
     ensures accepted { IfOk result (λ done. (text : model.Text) × (seen_reply done.reply ≡ accepted_answer text)) }
 {
     let number = write(tx, &command.act)?;
@@ -59,10 +55,8 @@ fn keep<S: Alter>(
     reply: &str,
 ) -> Result<(), StoreFault>
     requires { form.now ≡ office_command_form (seen_office command.now) }
-    ensures inside { StaysInside S.Store tx.old.conn tx.new.conn result }
-    ensures kept { HasCleanDisk (state S.Store tx.new.conn.now)
-        → OnOk result (IsKept (seen_office command.now) reply.now (state S.Store tx.old.conn.now)
-        (state S.Store tx.new.conn.now)) }
+    ensures { DoesInside S.Store tx.old.conn tx.new.conn result
+        (λ _. IsKept (seen_office command.now) reply.now) }
 {
     put_kept(tx, Owner::Office, &command.key, form, reply)?;
     take_numbers(tx, Count::OfficeKeys, 1)?;
@@ -71,10 +65,8 @@ fn keep<S: Alter>(
 
 /// Writes the rows of an act, and gives the number of its new row, or 0 where it has none.
 fn write<S: Alter>(tx: &mut Transaction<'_, S>, act: &OfficeAct) -> Result<u32, StoreFault>
-    ensures inside { StaysInside S.Store tx.old.conn tx.new.conn result }
-    ensures numbered { HasCleanDisk (state S.Store tx.new.conn.now)
-        → IfOk result (λ number. IsNumbered (seen_office_act act.now) number (state S.Store tx.old.conn.now)
-        (state S.Store tx.new.conn.now)) }
+    ensures { DoesInside S.Store tx.old.conn tx.new.conn result
+        (IsNumbered (seen_office_act act.now)) }
 {
     match act {
         OfficeAct::Country(name) => {
@@ -155,10 +147,8 @@ fn without_number(set: Result<(), StoreFault>) -> Result<u32, StoreFault>
 
 /// Adds a branch, and begins its counts.
 fn add_branch<S: Alter>(tx: &mut Transaction<'_, S>, branch: &Branch) -> Result<u32, StoreFault>
-    ensures inside { StaysInside S.Store tx.old.conn tx.new.conn result }
-    ensures numbered { HasCleanDisk (state S.Store tx.new.conn.now)
-        → IfOk result (λ number. IsNumbered (model.AddBranch (seen_branch branch.now)) number
-        (state S.Store tx.old.conn.now) (state S.Store tx.new.conn.now)) }
+    ensures { DoesInside S.Store tx.old.conn tx.new.conn result
+        (IsNumbered (model.AddBranch (seen_branch branch.now))) }
 {
     let number = next(last_number(tx, SharedTable::Branch))?;
     put_branch(tx, &new_branch(number, branch))?;

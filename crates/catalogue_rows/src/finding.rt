@@ -1,9 +1,7 @@
 //! What the tables have of the shared rows that a command of head office names.
 
 ghost use Rattle.std.specs.Prelude.{◌≡◌, option_map, Ok, IfOk};
-ghost use Rattle.sqlite.specs.Held.{state};
-ghost use Rattle.sqlite.specs.State.{HasCleanDisk};
-ghost use Rattle.sql_rows.specs.Calls.{StaysWithin};
+ghost use Rattle.sql_rows.specs.Calls.{DoesWithin};
 ghost use Rattle.shop_model.specs.Shop.{same_rule};
 ghost use Rattle.shop_model.specs.Values as model;
 ghost use Rattle.shop_types.specs.Seen.{seen_film, seen_branch, seen_staff, seen_rule, seen_office_act, seen_office};
@@ -38,11 +36,9 @@ pub fn find<S: Alter>(
     tx: &mut Transaction<'_, S>,
     command: &OfficeCommand,
 ) -> Result<SharedFound, StoreFault>
-    ensures inside { StaysWithin S.Store tx.old.conn tx.new.conn result }
-    ensures found { Finds (state S.Store tx.old.conn.now) (state S.Store tx.new.conn.now) result
-        (λ found books. (kept : _)
-        → IsKeptFor (seen_office command.now) kept books
-        → Shares books.catalogue (seen_office command.now) (shared_of kept found)) }
+    ensures { DoesWithin S.Store tx.old.conn tx.new.conn result
+        (λ found. Finds (λ books. (kept : _) → IsKeptFor (seen_office command.now) kept books
+        → Shares books.catalogue (seen_office command.now) (shared_of kept found))) }
 {
     let keys = count_of(tx, Count::OfficeKeys)?;
     let token = office_token(tx)?;
@@ -59,9 +55,8 @@ fn find_rows<S: Alter>(
     tx: &mut Transaction<'_, S>,
     act: &OfficeAct,
 ) -> Result<SharedRows, StoreFault>
-    ensures inside { StaysWithin S.Store tx.old.conn tx.new.conn result }
-    ensures found { HasCleanDisk (state S.Store tx.new.conn.now) → IfOk result (λ rows.
-        FindsFor (seen_office_act act.now) rows (state S.Store tx.old.conn.now) (state S.Store tx.new.conn.now)) }
+    ensures { DoesWithin S.Store tx.old.conn tx.new.conn result
+        (FindsFor (seen_office_act act.now)) }
 {
     match act {
         OfficeAct::Country(name) => with_name(is_country(tx, name.as_str())),
@@ -83,10 +78,8 @@ fn find_rows<S: Alter>(
 
 /// Whether there are the language and the category of a new film.
 fn for_film<S: Alter>(tx: &mut Transaction<'_, S>, film: &Film) -> Result<SharedRows, StoreFault>
-    ensures inside { StaysWithin S.Store tx.old.conn tx.new.conn result }
-    ensures found { HasCleanDisk (state S.Store tx.new.conn.now)
-        → IfOk result (λ rows. FindsFor (model.AddFilm (seen_film film.now)) rows (state S.Store tx.old.conn.now)
-        (state S.Store tx.new.conn.now)) }
+    ensures { DoesWithin S.Store tx.old.conn tx.new.conn result
+        (FindsFor (model.AddFilm (seen_film film.now))) }
 {
     let has_language = has_language(tx, film.language)?;
     let has_category = has_category(tx, film.category)?;
@@ -103,10 +96,8 @@ fn for_cast<S: Alter>(
     film: FilmNo,
     actor: ActorNo,
 ) -> Result<SharedRows, StoreFault>
-    ensures inside { StaysWithin S.Store tx.old.conn tx.new.conn result }
-    ensures found { HasCleanDisk (state S.Store tx.new.conn.now)
-        → IfOk result (λ rows. FindsFor (model.AddCast (record { film = film; actor = actor })) rows
-        (state S.Store tx.old.conn.now) (state S.Store tx.new.conn.now)) }
+    ensures { DoesWithin S.Store tx.old.conn tx.new.conn result
+        (FindsFor (model.AddCast (record { film = film; actor = actor }))) }
 {
     let withdrawn = film_withdrawn(tx, film)?;
     let has_actor = has_actor(tx, actor)?;
@@ -124,10 +115,8 @@ fn for_branch<S: Alter>(
     tx: &mut Transaction<'_, S>,
     branch: &Branch,
 ) -> Result<SharedRows, StoreFault>
-    ensures inside { StaysWithin S.Store tx.old.conn tx.new.conn result }
-    ensures found { HasCleanDisk (state S.Store tx.new.conn.now)
-        → IfOk result (λ rows. FindsFor (model.AddBranch (seen_branch branch.now)) rows
-        (state S.Store tx.old.conn.now) (state S.Store tx.new.conn.now)) }
+    ensures { DoesWithin S.Store tx.old.conn tx.new.conn result
+        (FindsFor (model.AddBranch (seen_branch branch.now))) }
 {
     let has_token = has_token(tx, &branch.token)?;
     let has_city = has_city(tx, branch.city)?;
@@ -140,10 +129,8 @@ fn for_branch<S: Alter>(
 
 /// Whether there are the branch and the city of a new member of staff.
 fn for_staff<S: Alter>(tx: &mut Transaction<'_, S>, staff: &Staff) -> Result<SharedRows, StoreFault>
-    ensures inside { StaysWithin S.Store tx.old.conn tx.new.conn result }
-    ensures found { HasCleanDisk (state S.Store tx.new.conn.now)
-        → IfOk result (λ rows. FindsFor (model.AddStaff (seen_staff staff.now)) rows (state S.Store tx.old.conn.now)
-        (state S.Store tx.new.conn.now)) }
+    ensures { DoesWithin S.Store tx.old.conn tx.new.conn result
+        (FindsFor (model.AddStaff (seen_staff staff.now))) }
 {
     let branch = branch_of(branch_manager(tx, staff.branch)?);
     let has_city = has_city(tx, staff.person.city)?;
@@ -160,9 +147,8 @@ fn for_manager<S: Alter>(
     branch: BranchNo,
     staff: StaffNo,
 ) -> Result<SharedRows, StoreFault>
-    ensures inside { StaysWithin S.Store tx.old.conn tx.new.conn result }
-    ensures found { HasCleanDisk (state S.Store tx.new.conn.now) → IfOk result (λ rows.
-        FindsFor (model.SetManager branch staff) rows (state S.Store tx.old.conn.now) (state S.Store tx.new.conn.now)) }
+    ensures { DoesWithin S.Store tx.old.conn tx.new.conn result
+        (FindsFor (model.SetManager branch staff)) }
 {
     let managed = branch_of(branch_manager(tx, branch)?);
     let manager = staff_at(tx, staff)?;
@@ -175,10 +161,8 @@ fn for_manager<S: Alter>(
 
 /// Whether a rule is the one that is chosen already.
 fn for_rule<S: Alter>(tx: &mut Transaction<'_, S>, rule: Rule) -> Result<SharedRows, StoreFault>
-    ensures inside { StaysWithin S.Store tx.old.conn tx.new.conn result }
-    ensures found { HasCleanDisk (state S.Store tx.new.conn.now)
-        → IfOk result (λ rows. FindsFor (model.ChooseRule (seen_rule rule)) rows (state S.Store tx.old.conn.now)
-        (state S.Store tx.new.conn.now)) }
+    ensures { DoesWithin S.Store tx.old.conn tx.new.conn result
+        (FindsFor (model.ChooseRule (seen_rule rule))) }
 {
     let chosen = rule_at(tx)?;
     Ok(SharedRows {

@@ -6,7 +6,8 @@ use Rattle.shop_model.specs.Values as model
 use Rattle.shop_model.proofs.LinkLemmas.{all_at}
 use Rattle.sqlite_tied.proofs.RuleLemmas.{and_true}
 use Rattle.view_texts.specs.Actors.{FilmIn, ActorLine, shown_actor, films_by_category, lines_with}
-use Rattle.shop_schema.proofs.Numbers.{left_number, left_null}
+use Rattle.shop_schema.proofs.Numbers.{left_null}
+use Rattle.view_texts.proofs.Lefts.{by_known}
 use Rattle.view_texts.proofs.Casts.{casts_of, played_by, cast_bag, there_one, any_cast, differ_in, AreApart}
 use Rattle.view_texts.proofs.ByText.{sorted_bag}
 use Rattle.view_texts.proofs.Parted.{part, parted}
@@ -113,15 +114,13 @@ module _ (catalogue : Catalogue) (in_category : list_all (λ (it : Film). has_ro
     film_there : (c2 : sql.Row) (film : ℕ × Film) → lacks catalogue.categories film.1.category ≡ false → after_film (Null ∷ c2) (Null ∷ film_columns film) ≡ out (behind film) ∷ []
     film_there c2 film has =
         let one = there_one catalogue.categories film.1.category has in
-        left_number 2 named_columns (db 7) catalogue.categories categories (λ it. refl) (λ r. refl)
-        (λ r4. shown_of actors_query (overlay db []) end ([] ∷ its ∷ (Null ∷ c2) ∷ (Null ∷ film_columns film) ∷ r4 ∷ [])) (λ r. refl) film.1.category
-        ∙ ap (λ l. flat_map (λ c4. shown_of actors_query (overlay db []) end ([] ∷ its ∷ (Null ∷ c2) ∷ (Null ∷ film_columns film) ∷ (Null ∷ c4) ∷ [])) (or_blank 2 (map (λ name. named_columns (film.1.category, name)) l))) one.1
+        by_known 2 named_columns (db 7) catalogue.categories categories (λ it. refl) (λ r. refl)
+        (λ r4. shown_of actors_query (overlay db []) end ([] ∷ its ∷ (Null ∷ c2) ∷ (Null ∷ film_columns film) ∷ r4 ∷ [])) (λ r. refl) film.1.category one.0 one.1
         ∙ ap (λ (name : model.Text). out ((film.1.category, name), film) ∷ []) (sym (named film.1.category one.0 one.1))
 
     cast_there : (c : Cast) (x : Film) → at c.film catalogue.films ≡ x ∷ [] → after_cast (Null ∷ cast_columns c) ≡ out (behind (c.film, x)) ∷ []
     cast_there c x is =
-        left_number 12 film_columns (db 14) catalogue.films films (λ it. refl) (λ r. refl) (λ r3. after_film (Null ∷ cast_columns c) r3) (λ r. refl) c.film
-        ∙ ap (λ l. flat_map (λ c3. after_film (Null ∷ cast_columns c) (Null ∷ c3)) (or_blank 12 (map (λ y. film_columns (c.film, y)) l))) is
+        by_known 12 film_columns (db 14) catalogue.films films (λ it. refl) (λ r. refl) (λ r3. after_film (Null ∷ cast_columns c) r3) (λ r. refl) c.film x is
         ∙ ap (λ (l : List Output). l ++ []) (film_there (cast_columns c) (c.film, x) (category_there c.film x is))
 
     no_cast : after_cast (Null ∷ columns_of 2 []) ≡ actor_output (actor, None) ∷ []

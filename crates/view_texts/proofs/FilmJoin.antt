@@ -1,13 +1,14 @@
 -- What the films' join shows of the books.
-use Rattle.shop_schema.proofs.Common.{◌≡◌, ◌==◌, ◌&&◌, ◌<◌, ◌+◌, ℕ, List, [], ◌∷◌, ◌++◌, map, filter, true, false, Bool, cond, Option, Some, None, refl, sym, ap, subst, ◌∙◌, arith, is_eq, is_lt, append-nil, inl, inr, IsPermutation, Equal, ◌⊎◌, flat_map, AllByRecursion, nat_cmp, ordering_then, IsPermutation-trans, IsPermutation-map, length_permutation, Value, Null, or_null, column, value_cmp, Trees, IsAscending, end, Output, output_cmp, State, overlay, map-map, filter_same, map-flat_map, IsPermutation-same, ascending-map, ascending_weaker, ascending-append, ascending-filter, all-map, all-flat_map, all_weaker, HasRows, columns_of, number_value, answers, number_cmp, one_tested, number_tested, or_blank, shown_of, equals, left_bag, joined_rows, Climbs, at, lacks, numbered, numbered_from, Actor, Film, Cast, Catalogue, Books, is_cast, at_one, shop_schema, IsShop, StandsFor, named_columns, actor_columns, film_columns, cast_columns}
+use Rattle.shop_schema.proofs.Common.{◌≡◌, ◌==◌, ◌&&◌, ◌<◌, ◌+◌, ℕ, List, [], ◌∷◌, ◌++◌, map, true, false, Option, Some, None, refl, sym, ap, subst, ◌∙◌, arith, is_eq, is_lt, append-nil, inl, inr, IsPermutation, Equal, ◌⊎◌, flat_map, AllByRecursion, nat_cmp, ordering_then, IsPermutation-trans, IsPermutation-map, length_permutation, Value, Null, or_null, column, value_cmp, Trees, IsAscending, end, Output, output_cmp, State, overlay, map-map, filter_same, map-flat_map, IsPermutation-same, ascending-map, ascending_weaker, ascending-append, ascending-filter, all-filter, all-map, all-flat_map, all_weaker, HasRows, columns_of, number_value, answers, number_cmp, one_tested, number_tested, or_blank, shown_of, equals, left_bag, joined_rows, Climbs, at, lacks, numbered, numbered_from, Actor, Film, Cast, Catalogue, Books, is_cast, shop_schema, IsShop, StandsFor, named_columns, actor_columns, film_columns, cast_columns}
 use Rattle.sqlite.specs.declared.types.Value.TheVariants.{Text}
 use Rattle.sqlite_value.specs.Order as sql
 use Rattle.sqlite.specs.State.{Shown}
 use Rattle.shop_model.specs.Values as model
 use Rattle.shop_store.proofs.LastNumbers.{above_from, numbered_rise}
 use Rattle.view_texts.specs.Shown.{name_or_null, FilmLine, shown_film, actors_of, lines_of, film_lines}
+use Rattle.view_texts.proofs.Lefts.{by_known, by_number}
 use Rattle.view_texts.proofs.Orders.{less, greater, equal}
-use Rattle.shop_schema.proofs.Numbers.{left_number, left_null}
+use Rattle.shop_schema.proofs.Numbers.{left_null}
 use Rattle.view_texts.proofs.Casts.{casts_of, played_by, cast_bag, there_one, any_cast, differ_in, AreApart, AreThere}
 use Rattle.view_texts.proofs.FilmQuery.{select_films, films_query, films_mean, film_shows, film_order, with_actor, with_cast, with_category}
 
@@ -37,10 +38,9 @@ module _ (catalogue : Catalogue) (db : Trees) (categories : HasRows 2 (db 7) (ma
     after_cast r3 = shown_of films_query (overlay db []) with_actor ([] ∷ its ∷ (Null ∷ c2) ∷ r3 ∷ [])
 
     cast_there : (c : Cast) (x : Actor) → at c.actor catalogue.actors ≡ x ∷ [] → after_cast (Null ∷ cast_columns c) ≡ out (column c2 1) (Some (c.actor, x)) ∷ []
-    cast_there c x is =
-        left_number 3 actor_columns (db 12) catalogue.actors actors (λ it. refl) (λ r. refl)
+    cast_there c =
+        by_known 3 actor_columns (db 12) catalogue.actors actors (λ it. refl) (λ r. refl)
         (λ r4. shown_of films_query (overlay db []) end ([] ∷ its ∷ (Null ∷ c2) ∷ (Null ∷ cast_columns c) ∷ r4 ∷ [])) (λ r. refl) c.actor
-        ∙ ap (λ l. flat_map (λ c4. shown_of films_query (overlay db []) end ([] ∷ its ∷ (Null ∷ c2) ∷ (Null ∷ cast_columns c) ∷ (Null ∷ c4) ∷ [])) (or_blank 3 (map (λ y. actor_columns (c.actor, y)) l))) is
 
     no_cast : after_cast (Null ∷ columns_of 2 []) ≡ out (column c2 1) None ∷ []
     no_cast =
@@ -64,10 +64,6 @@ module _ (catalogue : Catalogue) (db : Trees) (categories : HasRows 2 (db 7) (ma
         subst (IsPermutation (played_by catalogue.actors mine)) (filter_same _ _ (λ it. sym (any_cast film.0 it.0 catalogue.casts)) (numbered catalogue.actors))
         (cast_bag catalogue.actors mine (differ_in film.0 catalogue.casts apart))
 
-    all_kept : (p : Cast → Bool) (l : List Cast) → AllByRecursion (λ (c : Cast). lacks catalogue.actors c.actor ≡ false) l → AllByRecursion (λ (c : Cast). lacks catalogue.actors c.actor ≡ false) (filter p l)
-    all_kept p [] all = tt
-    all_kept p (c ∷ l) all = elim (p c) as (λ t. AllByRecursion (λ (c : Cast). lacks catalogue.actors c.actor ≡ false) (cond t (c ∷ filter p l) (filter p l))) [ true ↦ (all.0, all_kept p l all.1) | false ↦ all_kept p l all.1 ]
-
     blank_or : (l : List Cast) (target : List (ℕ × Actor)) → AllByRecursion (λ (c : Cast). lacks catalogue.actors c.actor ≡ false) l → IsPermutation (played_by catalogue.actors l) target
         → IsPermutation (flat_map (λ c3. after_cast (Null ∷ c3)) (or_blank 2 (map cast_columns l))) (outs (column c2 1) target)
     blank_or [] [] there same = IsPermutation-same _ _ (append-nil _ ∙ no_cast)
@@ -83,7 +79,7 @@ module _ (catalogue : Catalogue) (db : Trees) (categories : HasRows 2 (db 7) (ma
         IsPermutation-trans _ _ _
         (left_bag 2 cast_columns (db 16) catalogue.casts casts (λ r. equals (column r 1) (number_value film.0) && true) (λ vs. equals (column vs 0) (number_value film.0) && true) (λ (c : Cast). c.film == film.0)
         (λ r. refl) (λ c. one_tested _ (number_tested c.film film.0)) after_cast (λ r. refl))
-        (blank_or mine (actors_of catalogue film.0) (all_kept _ catalogue.casts there) played)
+        (blank_or mine (actors_of catalogue film.0) (all-filter (λ (c : Cast). lacks catalogue.actors c.actor ≡ false) _ catalogue.casts there) played)
 
   as_lines : (category : Value) (l : List (ℕ × Actor)) → category ≡ name_or_null (at film.1.category catalogue.categories) → outs category l ≡ map (film_output catalogue) (lines_of film l)
   as_lines category [] is = ap (λ v. out v None ∷ []) is
@@ -91,25 +87,13 @@ module _ (catalogue : Catalogue) (db : Trees) (categories : HasRows 2 (db 7) (ma
 
   pub film_brings : IsPermutation (shown_of films_query (overlay db []) with_category ([] ∷ its ∷ [])) (map (film_output catalogue) (lines_of film (actors_of catalogue film.0)))
   film_brings =
-      subst (λ l. IsPermutation l (map (film_output catalogue) (lines_of film (actors_of catalogue film.0))))
-      (sym (left_number 2 named_columns (db 7) catalogue.categories categories (λ it. refl) (λ r. refl) (λ r2. shown_of films_query (overlay db []) with_cast ([] ∷ its ∷ r2 ∷ [])) (λ r. refl) film.1.category))
-      (go (at film.1.category catalogue.categories) refl (at_one film.1.category catalogue.categories))
+      by_number 2 named_columns (db 7) catalogue.categories categories (λ it. refl) (λ r. refl) (λ r2. shown_of films_query (overlay db []) with_cast ([] ∷ its ∷ r2 ∷ [])) (λ r. refl) film.1.category
+      (λ l given. at film.1.category catalogue.categories ≡ l → IsPermutation given (map (film_output catalogue) (lines_of film (actors_of catalogue film.0))))
+      (λ is. one_row (columns_of 2 []) (sym (ap name_or_null is))) (λ name is. one_row (named_columns (film.1.category, name)) (sym (ap name_or_null is))) refl
     where
-      shows : sql.Row → List Output
-      shows c2 = shown_of films_query (overlay db []) with_cast ([] ∷ its ∷ (Null ∷ c2) ∷ [])
-
-      target : List Output
-      target = map (film_output catalogue) (lines_of film (actors_of catalogue film.0))
-
-      one_row : (c2 : sql.Row) → column c2 1 ≡ name_or_null (at film.1.category catalogue.categories) → IsPermutation (shows c2 ++ []) target
-      one_row c2 is =
-          subst (λ l. IsPermutation l target) (sym (append-nil (shows c2))) (subst (IsPermutation (shows c2)) (as_lines (column c2 1) (actors_of catalogue film.0) is) (category_brings c2))
-
-      go : (l : List model.Text) → at film.1.category catalogue.categories ≡ l → (l ≡ []) ⊎ ((name : model.Text) × (l ≡ name ∷ [])) → IsPermutation (flat_map shows (or_blank 2 (map (λ name. named_columns (film.1.category, name)) l))) target
-      go l e (inl none) = subst (λ k. IsPermutation (flat_map shows (or_blank 2 (map (λ name. named_columns (film.1.category, name)) k))) target) (sym none) (one_row (columns_of 2 []) (sym (ap name_or_null (e ∙ none))))
-      go l e (inr one) =
-          subst (λ k. IsPermutation (flat_map shows (or_blank 2 (map (λ name. named_columns (film.1.category, name)) k))) target) (sym one.1)
-          (one_row (named_columns (film.1.category, one.0)) (sym (ap name_or_null (e ∙ one.1))))
+      one_row : (c2 : sql.Row) → column c2 1 ≡ name_or_null (at film.1.category catalogue.categories)
+          → IsPermutation (shown_of films_query (overlay db []) with_cast ([] ∷ its ∷ (Null ∷ c2) ∷ [])) (map (film_output catalogue) (lines_of film (actors_of catalogue film.0)))
+      one_row c2 is = subst (IsPermutation _) (as_lines (column c2 1) (actors_of catalogue film.0) is) (category_brings c2)
 
 -- ---- the order
 

@@ -1,4 +1,6 @@
 pub mod Orders
+pub mod Lefts
+pub mod CopyFilms
 pub mod PageLines
 pub mod PeopleQueries
 pub mod PersonJoin

@@ -1,16 +1,16 @@
 -- What the join of what is out shows of the books: each open rental of the branch, with its terms, its customer and the title of its film.
-use Rattle.shop_schema.proofs.Common.{◌≡◌, ◌≤◌, ◌==◌, ◌&&◌, ℕ, List, [], ◌∷◌, ◌++◌, map, filter, length, true, cond, refl, sym, ap, subst, ◌∙◌, arith, append-nil, append_assoc, inl, inr, ◌⊎◌, is_none, AllByRecursion, flat_map, filter-append, IsPermutation-refl, Value, Null, or_null, column, Trees, col, inner, end, Output, overlay, State, map-map, all-filter, IsPermutation-same, HasRows, PicksOne, columns_of, number_value, answers, kept_as_map, one_tested, number_tested, or_blank, shown_of, few_list, left_pair, joined_rows, Row, at, is_of, is_row, Film, Rental, Books, BookCopy, head, at_one, same_test, filter_filter, shop_schema, moment_value, film_columns, customer_columns, copy_columns, rental_columns, terms_columns, out_columns, is_open, out_of, IsHeld, StandsFor, Holds}
+use Rattle.shop_schema.proofs.Common.{◌≡◌, ◌≤◌, ◌==◌, ◌&&◌, ℕ, List, [], ◌∷◌, ◌++◌, map, filter, length, true, cond, refl, sym, ap, subst, ◌∙◌, arith, append-nil, append_assoc, is_none, AllByRecursion, flat_map, filter-append, IsPermutation-refl, Value, Null, or_null, column, Trees, col, inner, Output, overlay, State, map-map, all-filter, IsPermutation-same, HasRows, PicksOne, columns_of, number_value, answers, kept_as_map, or_blank, shown_of, equals, left_pair, joined_rows, Row, is_of, is_row, Film, Rental, Books, head, same_test, filter_filter, shop_schema, moment_value, customer_columns, rental_columns, terms_columns, out_columns, is_open, out_of, IsHeld, StandsFor, Holds}
 use Rattle.std.specs.Prelude.{Bool}
 use Rattle.std.proofs.lemmas.List.{length-append}
 use Rattle.sqlite.specs.declared.types.Value.TheVariants.{Text}
 use Rattle.sqlite_value.specs.Order as sql
 use Rattle.sqlite.specs.State.{Shown}
 use Rattle.shop_schema.proofs.Lists.{picks_row}
-use Rattle.shop_schema.proofs.Numbers.{left_number, left_null}
 use Rattle.shop_ledger.proofs.Rising.{of_which, which_rise}
 use Rattle.shop_store.proofs.WithTerms.{rentals_climb}
-use Rattle.view_texts.proofs.PaymentJoin.{copy_films}
-use Rattle.view_texts.proofs.OverdueQuery.{select_outs, outs_query, outs_mean, out_tests, out_shows, out_order, with_film, with_copy, with_customer, with_terms, with_rental}
+use Rattle.view_texts.proofs.CopyFilms.{copy_films, of_copy}
+use Rattle.view_texts.proofs.Orders.{kept_if}
+use Rattle.view_texts.proofs.OverdueQuery.{select_outs, outs_query, outs_mean, out_tests, out_shows, out_order, with_copy, with_customer, with_terms, with_rental}
 
 -- ---- one row at most
 
@@ -93,49 +93,13 @@ module _ (b : ℕ) (books : Books) (held : IsHeld books) (db : Trees) (s : Stand
   abbrev given : sql.Row → sql.Row → Value → List Output
   given c3 c4 title = cond (x.branch == b) ((number_value x.number ∷ [], moment_value x.it.rented ∷ column c3 3 ∷ column c4 2 ∷ column c4 3 ∷ column c4 6 ∷ title ∷ []) ∷ []) []
 
-  ends_are : (c3 c4 c5 c6 : sql.Row) → shown_of outs_query (overlay db []) end (params ∷ out ∷ rental ∷ (Null ∷ c3) ∷ (Null ∷ c4) ∷ (Null ∷ c5) ∷ (Null ∷ c6) ∷ []) ≡ given c3 c4 (column c6 1)
-  ends_are c3 c4 c5 c6 =
-      ap (λ t. cond t ((number_value x.number ∷ [], moment_value x.it.rented ∷ column c3 3 ∷ column c4 2 ∷ column c4 3 ∷ column c4 6 ∷ column c6 1 ∷ []) ∷ []) []) (one_tested _ (number_tested x.branch b))
-
   -- ---- its copy, and the film of that
 
-  module _ (c3 c4 : sql.Row) where
-    abbrev after_copy : sql.Row → List Output
-    after_copy r5 = shown_of outs_query (overlay db []) with_film (params ∷ out ∷ rental ∷ (Null ∷ c3) ∷ (Null ∷ c4) ∷ r5 ∷ [])
-
-    copy_there : (copy : Row BookCopy) → after_copy (Null ∷ copy_columns copy) ≡ given c3 c4 (title_of (at copy.it.film books.catalogue.films))
-    copy_there copy =
-        left_number 12 film_columns (db 14) books.catalogue.films s.films (λ it. refl) (λ r. refl) ends (λ r. refl) copy.it.film
-        ∙ go (at copy.it.film books.catalogue.films) (at_one copy.it.film books.catalogue.films)
-      where
-        ends : sql.Row → List Output
-        ends r6 = shown_of outs_query (overlay db []) end (params ∷ out ∷ rental ∷ (Null ∷ c3) ∷ (Null ∷ c4) ∷ (Null ∷ copy_columns copy) ∷ r6 ∷ [])
-
-        P : List Film → Type 0
-        P l = flat_map (λ c6. ends (Null ∷ c6)) (or_blank 12 (map (λ film. film_columns (copy.it.film, film)) l)) ≡ given c3 c4 (title_of l)
-
-        go : (l : List Film) → (l ≡ []) ⊎ ((film : Film) × (l ≡ film ∷ [])) → P l
-        go l (inl none) = subst P (sym none) (append-nil _ ∙ ends_are c3 c4 (copy_columns copy) (columns_of 12 []))
-        go l (inr one) = subst P (sym one.1) (append-nil _ ∙ ends_are c3 c4 (copy_columns copy) (film_columns (copy.it.film, one.0)))
-
-    no_copy : after_copy (Null ∷ columns_of 6 []) ≡ given c3 c4 Null
-    no_copy =
-        left_null 12 film_columns (db 14) books.catalogue.films s.films (λ it. refl) (λ r. refl)
-        (λ r6. shown_of outs_query (overlay db []) end (params ∷ out ∷ rental ∷ (Null ∷ c3) ∷ (Null ∷ c4) ∷ (Null ∷ columns_of 6 []) ∷ r6 ∷ [])) (λ r. refl)
-        ∙ append-nil _ ∙ ends_are c3 c4 (columns_of 6 []) (columns_of 12 [])
-
-    copy_brings : shown_of outs_query (overlay db []) with_copy (params ∷ out ∷ rental ∷ (Null ∷ c3) ∷ (Null ∷ c4) ∷ []) ≡ given c3 c4 (rental_title books x)
-    copy_brings =
-        let few = picks_row x.branch books.copies (held.numbers.copies x.branch) x.it.copy in
-        left_pair 6 copy_columns (db 25) books.copies s.copies after_copy (λ r. refl) (λ it. it.branch) (λ it. it.number) (λ it. refl) (λ it. refl) (λ r. refl) (λ r. refl) x.branch x.it.copy few
-        ∙ go (filter (is_row x.branch x.it.copy) books.copies) (few_list (filter (is_row x.branch x.it.copy) books.copies) few)
-      where
-        P : List (Row BookCopy) → Type 0
-        P l = flat_map (λ c5. after_copy (Null ∷ c5)) (or_blank 6 (map copy_columns l)) ≡ given c3 c4 (title_of (copy_films books l))
-
-        go : (l : List (Row BookCopy)) → (l ≡ []) ⊎ ((copy : Row BookCopy) × (l ≡ copy ∷ [])) → P l
-        go l (inl none) = subst P (sym none) (append-nil _ ∙ no_copy)
-        go l (inr one) = subst P (sym one.1) (append-nil _ ∙ copy_there one.0 ∙ ap (λ films. given c3 c4 (title_of films)) (sym (append-nil (at one.0.it.film books.catalogue.films))))
+  copy_brings : (c3 c4 : sql.Row) → shown_of outs_query (overlay db []) with_copy (params ∷ out ∷ rental ∷ (Null ∷ c3) ∷ (Null ∷ c4) ∷ []) ≡ given c3 c4 (rental_title books x)
+  copy_brings c3 c4 =
+      of_copy books db s 1 title_of refl (λ n film. refl)
+      (λ r6. cond (equals (number_value x.branch) (number_value b) && true) ((number_value x.number ∷ [], moment_value x.it.rented ∷ column c3 3 ∷ column c4 2 ∷ column c4 3 ∷ column c4 6 ∷ column r6 2 ∷ []) ∷ []) [])
+      (given c3 c4) (λ c. kept_if x.branch b _ _) (λ r. refl) x.branch (picks_row x.branch books.copies (held.numbers.copies x.branch)) x.it.copy
 
   -- ---- its customer, its terms, and the rental
 

@@ -4,7 +4,8 @@ use Rattle.sqlite_value.specs.Order as sql
 use Rattle.sqlite.specs.State.{Shown}
 use Rattle.view_texts.specs.Payments.{PaidLine, shown_line, rentals_of, category_in, paid_line, paid_lines, Sale, sale, sale_in, is_sale_of}
 use Rattle.view_texts.proofs.PaymentQuery.{select_payments}
-use Rattle.view_texts.proofs.PaymentJoin.{rental_rows, copy_films, rental_films, shown_payment, shows_payments}
+use Rattle.view_texts.proofs.CopyFilms.{copy_films}
+use Rattle.view_texts.proofs.PaymentJoin.{rental_rows, rental_films, shown_payment, shows_payments}
 
 -- ---- a branch's rows
 

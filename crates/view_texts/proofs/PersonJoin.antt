@@ -1,10 +1,11 @@
 -- The names of a row's city and country, as they are joined.
-use Rattle.shop_schema.proofs.Common.{◌≡◌, ◌&&◌, ℕ, List, [], ◌∷◌, map, filter, true, refl, sym, ap, subst, ◌∙◌, append-nil, inl, inr, ◌⊎◌, flat_map, Value, Null, column, Trees, Query, Join, or_nulls, Output, overlay, flat_map_same_on, HasRows, columns_of, number_value, or_blank, shown_of, equals, at, numbered, City, Catalogue, at_one, named_columns, city_columns}
+use Rattle.shop_schema.proofs.Common.{◌≡◌, ◌&&◌, ℕ, List, [], ◌∷◌, map, filter, true, refl, sym, ap, ◌∙◌, append-nil, flat_map, Value, Null, column, Trees, Query, Join, or_nulls, Output, overlay, flat_map_same_on, HasRows, columns_of, number_value, shown_of, equals, at, numbered, City, Catalogue, named_columns, city_columns}
 use Rattle.sqlite.specs.declared.types.Value.TheVariants.{Text}
 use Rattle.sqlite_value.specs.Order as sql
 use Rattle.shop_model.specs.Values as model
 use Rattle.view_texts.specs.Shown.{name_or_null}
-use Rattle.shop_schema.proofs.Numbers.{left_number, left_null}
+use Rattle.shop_schema.proofs.Numbers.{left_null}
+use Rattle.view_texts.proofs.Lefts.{by_number}
 use Rattle.view_texts.proofs.PeopleQueries.{country_then, city_then}
 
 -- `its` is the row, with the city's number in the column `place`; `more` is joined behind; `out` is what the query shows with these two names
@@ -27,15 +28,8 @@ module _ (place : ℕ) (more : Join) (q : Query) (catalogue : Catalogue) (db : T
 
   city_there : (m : ℕ) (c : City) → shows (Null ∷ city_columns (m, c)) ≡ out (Text c.name) (name_or_null (at c.country catalogue.countries))
   city_there m c =
-      left_number 2 named_columns (db 1) catalogue.countries countries (λ it. refl) (λ r. refl) (last (Null ∷ city_columns (m, c))) (only (Null ∷ city_columns (m, c))) c.country
-      ∙ go (at c.country catalogue.countries) (at_one c.country catalogue.countries)
-    where
-      P : List model.Text → Type 0
-      P l = flat_map (λ c3. last (Null ∷ city_columns (m, c)) (Null ∷ c3)) (or_blank 2 (map (λ name. named_columns (c.country, name)) l)) ≡ out (Text c.name) (name_or_null l)
-
-      go : (l : List model.Text) → (l ≡ []) ⊎ ((name : model.Text) × (l ≡ name ∷ [])) → P l
-      go l (inl none) = subst P (sym none) (append-nil _ ∙ ends (Null ∷ city_columns (m, c)) (Null ∷ columns_of 2 []))
-      go l (inr one) = subst P (sym one.1) (append-nil _ ∙ ends (Null ∷ city_columns (m, c)) (Null ∷ named_columns (c.country, one.0)))
+      by_number 2 named_columns (db 1) catalogue.countries countries (λ it. refl) (λ r. refl) (last (Null ∷ city_columns (m, c))) (only (Null ∷ city_columns (m, c))) c.country
+      (λ l given. given ≡ out (Text c.name) (name_or_null l)) (ends (Null ∷ city_columns (m, c)) (Null ∷ columns_of 2 [])) (λ name. ends (Null ∷ city_columns (m, c)) (Null ∷ named_columns (c.country, name)))
 
   city_missing : shows (Null ∷ columns_of 3 []) ≡ out Null Null
   city_missing =
@@ -46,14 +40,6 @@ module _ (place : ℕ) (more : Join) (q : Query) (catalogue : Catalogue) (db : T
       ≡ out (name_or_null (map (λ (it : City). it.name) (at n catalogue.cities))) (name_or_null (flat_map (λ (it : City). at it.country catalogue.countries) (at n catalogue.cities)))
   person_brings =
       ap (λ v. flat_map shows (or_nulls (filter (λ r. equals (column r 1) v && true) (db 10)))) city
-      ∙ left_number 3 city_columns (db 10) catalogue.cities cities (λ it. refl) (λ r. refl) shows same_city n
-      ∙ go (at n catalogue.cities) (at_one n catalogue.cities)
-    where
-      P : List City → Type 0
-      P l = flat_map (λ c2. shows (Null ∷ c2)) (or_blank 3 (map (λ c. city_columns (n, c)) l))
-          ≡ out (name_or_null (map (λ (it : City). it.name) l)) (name_or_null (flat_map (λ (it : City). at it.country catalogue.countries) l))
-
-      go : (l : List City) → (l ≡ []) ⊎ ((c : City) × (l ≡ c ∷ [])) → P l
-      go l (inl none) = subst P (sym none) (append-nil _ ∙ city_missing)
-      go l (inr one) =
-          subst P (sym one.1) (append-nil _ ∙ city_there n one.0 ∙ ap (λ l. out (Text one.0.name) (name_or_null l)) (sym (append-nil (at one.0.country catalogue.countries))))
+      ∙ by_number 3 city_columns (db 10) catalogue.cities cities (λ it. refl) (λ r. refl) shows same_city n
+      (λ l given. given ≡ out (name_or_null (map (λ (it : City). it.name) l)) (name_or_null (flat_map (λ (it : City). at it.country catalogue.countries) l))) city_missing
+      (λ c. city_there n c ∙ ap (λ l. out (Text c.name) (name_or_null l)) (sym (append-nil (at c.country catalogue.countries))))

@@ -1,11 +1,12 @@
+use Rattle.shop_schema.proofs.Common.{inside_as}
 use Rattle.books_audit.proofs.ShopAudits.{audit_of_shop, audit_moved}
 use Rattle.books_audit.proofs.books.audit_books.Goals as goal
 
-pub returns-in-Ok-clause-audit : goal.returns-in-Ok-clause-audit
-returns-in-Ok-clause-audit g c clean has tables have = audit_moved _ c.in_ok-tables.tables tables (c.in_ok-tables.ensures.rows clean has).0 have c.in-Ok.audit c.in-Ok.ensures
-
-pub returns-in-Ok-clause-shop : goal.returns-in-Ok-clause-shop
-returns-in-Ok-clause-shop g c clean has = audit_of_shop _ c.in_ok-tables.tables (c.in_ok-tables.ensures.rows clean has).0 c.in-Ok.audit c.in-Ok.ensures
-
-pub returns-in-Ok-clause-same : goal.returns-in-Ok-clause-same
-returns-in-Ok-clause-same g c clean has = (c.in_ok-tables.ensures.rows clean has).1
+pub returns-in-Ok : goal.returns-in-Ok
+returns-in-Ok g c = record {
+  inside = inside_as c.in_ok-tables.ensures.inside;
+  says = λ clean has.
+      let read = c.in_ok-tables.ensures.says clean has in
+      let audit = c.in-Ok.audit in
+      (record { tables = λ tables have. audit_moved _ c.in_ok-tables.tables tables read.0 have audit c.in-Ok.ensures; books = audit_of_shop _ c.in_ok-tables.tables read.0 audit c.in-Ok.ensures }, read.1);
+}

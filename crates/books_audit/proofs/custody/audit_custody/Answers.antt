@@ -1,14 +1,15 @@
-use Rattle.shop_schema.proofs.Common.{ap, subst, ◌∙◌, map, IsPermutation, state, columns_of, clean_before, copy_table, consignment_line_table}
+use Rattle.shop_schema.proofs.Common.{ap, subst, ◌∙◌, map, IsPermutation, columns_of, clean_before, inside_as, inside_then, within_of, copy_table, consignment_line_table}
 use Rattle.books_audit.proofs.WholeTexts.{copies, lines}
 use Rattle.books_audit.proofs.CustodyAudits.{audit_moved}
 use Rattle.books_audit.proofs.custody.audit_custody.Goals as goal
 
-pub returns-in-Ok-clause-audit : goal.returns-in-Ok-clause-audit
-returns-in-Ok-clause-audit g c clean has =
-    let s0 = state g.S.Store c.args.tx.now.conn.now in
-    let s1 = state g.S.Store c.read_whole.new.tx.conn.now in
-    let first = c.in_ok-copies.ensures.rows (clean_before c.in_ok-lines.ensures.inside clean) has copy_table copies in
-    let second = c.in_ok-lines.ensures.rows clean (ap (λ d. d.schema) first.1 ∙ has) consignment_line_table lines in
-    let trees = ap (λ d. map (columns_of 8) (d.trees 37)) first.1 in
-    audit_moved _ _ _ _ first.0 (subst (λ l. IsPermutation l c.in_ok-lines.lines.items) trees second.0) c.in-Ok.audit
-    (rw (c.as_slice.ensures.value, c.as_slice-2.ensures.value) at c.in-Ok.ensures)
+pub returns-in-Ok : goal.returns-in-Ok
+returns-in-Ok g c = record {
+  inside = inside_as (inside_then c.in_ok-copies.ensures.inside (within_of c.in_ok-lines.ensures.inside));
+  says = λ clean has.
+      let first = c.in_ok-copies.ensures.says (clean_before c.in_ok-lines.ensures.inside clean) has copy_table copies in
+      let second = c.in_ok-lines.ensures.says clean (ap (λ d. d.schema) first.1 ∙ has) consignment_line_table lines in
+      let trees = ap (λ d. map (columns_of 8) (d.trees 37)) first.1 in
+      audit_moved _ _ _ _ first.0 (subst (λ l. IsPermutation l c.in_ok-lines.lines.items) trees second.0) c.in-Ok.audit
+      (rw (c.as_slice.ensures.value, c.as_slice-2.ensures.value) at c.in-Ok.ensures);
+}

@@ -1,14 +1,9 @@
-use Rattle.shop_schema.proofs.Common.{◌≡◌, Ok, List, map, drop, ⊤, state, HasCleanDisk, Table, StaysWithin, StoreFault, IsShop}
+use Rattle.shop_schema.proofs.Common.{◌≡◌, Ok, List, map, drop, ⊤, Table, DoesWithin, StoreFault, IsShop}
 use Rattle.books_audit.specs.Whole.{SelectEach}
 use Rattle.books_audit.proofs.Told.{SoFar}
 use Rattle.books_audit.proofs.whole.read_each.Given as goal
 
 abbrev pub invariant-loop-text : goal.invariant-loop-text
 invariant-loop-text g l =
-    let old = state g.S.Store l.fn.tx.conn.now in
-    let now = state g.S.Store l.tx.conn.now in record {
-      within : StaysWithin {X = ⊤} {E = StoreFault} g.S.Store l.fn.tx.conn l.tx.conn (Ok tt);
-      same : HasCleanDisk now → IsShop old → (ts : List Table) → SelectEach ts (map (λ t. t.now) l.texts) → now.now ≡ old.now;
-      read : HasCleanDisk now → IsShop old → (ts : List Table) → SelectEach ts (map (λ t. t.now) l.texts)
-          → SoFar old.now.trees (map (λ t. t.now) (drop l.text-index l.texts)) (map (λ rows. rows.items) l.all.items) ts;
-    }
+    DoesWithin {X = ⊤} {E = StoreFault} g.S.Store l.fn.tx.conn l.tx.conn (Ok tt) (λ _ old now. IsShop old → (ts : List Table) → SelectEach ts (map (λ t. t.now) l.texts)
+    → SoFar old.now.trees (map (λ t. t.now) (drop l.text-index l.texts)) (map (λ rows. rows.items) l.all.items) ts × (now.now ≡ old.now))

@@ -1,5 +1,9 @@
-use Rattle.books_audit.proofs.Told.{told_if}
+use Rattle.shop_schema.proofs.Common.{IfOk-weaker}
+use Rattle.books_audit.proofs.Told.{told}
 use Rattle.books_audit.proofs.whole.read_whole.Goals as goal
 
-pub returns-clause-rows : goal.returns-clause-rows
-returns-clause-rows g c clean has t means = told_if t c.args.text.now means (λ rows. rows.items) c.query.result _ _ (c.query.ensures.shown clean) has
+pub returns : goal.returns
+returns g c = record {
+  inside = c.query.ensures.inside;
+  says = λ clean. IfOk-weaker c.query.result _ _ (λ rows shown has t means. told t c.args.text.now means _ _ rows.items has shown) (c.query.ensures.shown clean);
+}

@@ -1,14 +1,10 @@
-use Rattle.shop_schema.proofs.Common.{arith, state, HasCleanDisk}
-use Rattle.shop_schema.proofs.Readings.{reads_then, reads_as}
+use Rattle.shop_schema.proofs.Common.{and_then, done}
+use Rattle.sql_rows.proofs.Chaining.{one_call}
 use Rattle.catalogue_rows.proofs.finding.for_cast.Goals as goal
 
-pub returns-clause-found : goal.returns-clause-found
-returns-clause-found g c = λ clean.
-    let s0 = state g.S.Store c.args.tx.now.conn.now in
-    let s1 = state g.S.Store c.film_withdrawn.new.tx.conn.now in
-    let s2 = state g.S.Store c.has_actor.new.tx.conn.now in
-    let s3 = state g.S.Store c.has_cast.new.tx.conn.now in
-    let clean2 : HasCleanDisk s2 = omega (arith, clean, c.has_cast.ensures.inside.survives.clean) in
-    let clean1 : HasCleanDisk s1 = omega (arith, clean2, c.has_actor.ensures.inside.survives.clean) in
-    reads_as s0 s3 _ _ (λ books held is. record { film = is.0.0; actor = is.0.1; cast_in = is.1 })
-    (reads_then s0 s2 s3 _ _ (reads_then s0 s1 s2 _ _ (c.in_ok-withdrawn.ensures.found clean1) (c.in_ok-has_actor.ensures.found clean2)) (c.in_ok-has_cast.ensures.found clean))
+pub returns : goal.returns
+returns g c = done (and_then (one_call c.in_ok-withdrawn.ensures) (and_then (one_call c.in_ok-has_actor.ensures) (one_call c.in_ok-has_cast.ensures))) (λ said books holds held.
+    let film = said.0 books holds held in
+    let actor = said.1.0 books film.0 held in
+    let cast = said.1.1 books actor.0 held in
+    (cast.0, record { film = film.1; actor = actor.1; cast_in = cast.1 }))

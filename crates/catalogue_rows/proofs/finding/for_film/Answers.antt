@@ -1,12 +1,9 @@
-use Rattle.shop_schema.proofs.Common.{arith, state, HasCleanDisk}
-use Rattle.shop_schema.proofs.Readings.{reads_then, reads_as}
+use Rattle.shop_schema.proofs.Common.{and_then, done}
+use Rattle.sql_rows.proofs.Chaining.{one_call}
 use Rattle.catalogue_rows.proofs.finding.for_film.Goals as goal
 
-pub returns-clause-found : goal.returns-clause-found
-returns-clause-found g c = λ clean.
-    let s0 = state g.S.Store c.args.tx.now.conn.now in
-    let s1 = state g.S.Store c.has_language.new.tx.conn.now in
-    let s2 = state g.S.Store c.has_category.new.tx.conn.now in
-    let clean1 : HasCleanDisk s1 = omega (arith, clean, c.has_category.ensures.inside.survives.clean) in
-    reads_as s0 s2 _ _ (λ books held is. record { language = is.0; category = is.1 })
-    (reads_then s0 s1 s2 _ _ (c.in_ok-has_language.ensures.found clean1) (c.in_ok-has_category.ensures.found clean))
+pub returns : goal.returns
+returns g c = done (and_then (one_call c.in_ok-has_language.ensures) (one_call c.in_ok-has_category.ensures)) (λ said books holds held.
+    let language = said.0 books holds held in
+    let category = said.1 books language.0 held in
+    (category.0, record { language = language.1; category = category.1 }))

@@ -1,12 +1,9 @@
-use Rattle.shop_schema.proofs.Common.{◌∙◌, arith, state, HasCleanDisk}
-use Rattle.shop_schema.proofs.Readings.{reads_then, reads_as}
+use Rattle.shop_schema.proofs.Common.{◌∙◌, and_then, done}
+use Rattle.sql_rows.proofs.Chaining.{one_call}
 use Rattle.catalogue_rows.proofs.finding.for_manager.Goals as goal
 
-pub returns-clause-found : goal.returns-clause-found
-returns-clause-found g c = λ clean.
-    let s0 = state g.S.Store c.args.tx.now.conn.now in
-    let s1 = state g.S.Store c.branch_manager.new.tx.conn.now in
-    let s2 = state g.S.Store c.staff_at.new.tx.conn.now in
-    let clean1 : HasCleanDisk s1 = omega (arith, clean, c.staff_at.ensures.inside.survives.clean) in
-    reads_as s0 s2 _ _ (λ books held is. record { branch = c.branch_of-managed.ensures ∙ is.0; staff = is.1 })
-    (reads_then s0 s1 s2 _ _ (c.in_ok-branch_manager.ensures.found clean1) (c.in_ok-manager.ensures.found clean))
+pub returns : goal.returns
+returns g c = done (and_then (one_call c.in_ok-branch_manager.ensures) (one_call c.in_ok-manager.ensures)) (λ said books holds held.
+    let branch = said.0 books holds held in
+    let staff = said.1 books branch.0 held in
+    (staff.0, record { branch = c.branch_of-managed.ensures ∙ branch.1; staff = staff.1 }))
