@@ -1,4 +1,5 @@
 pub mod Failures
+pub mod Calling
 pub mod ConsignValues
 pub mod Standing
 pub mod Asking

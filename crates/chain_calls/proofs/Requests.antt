@@ -149,24 +149,25 @@ module _ {S : Type 0} (g : Ghosts S) (old new : Chained S) (limits : new.limits 
   callers_stay : (catalogue : Catalogue) → AreCallers old.callers catalogue → AreCallers new.callers catalogue
   callers_stay catalogue known = subst (λ (es : KnownCallers). AreCallers es catalogue) (sym same_callers) known
 
+  -- a look has answered, and changed nothing
+  pub looked : (P : Holding → Holding → Type 0) → KnowsNoMore → new.is_failed ≡ false → (HasCleanDisk (state g new.conn) → HasCleanDisk (state g old.conn))
+      → (HasCleanDisk (state g new.conn) → IsUndone (state g old.conn) (state g new.conn))
+      → (HasCleanDisk (state g new.conn) → (books besides : Books) → IsAt g old books besides → (after : Holding) → after ≡ holding old books besides → P (holding old books besides) after)
+      → Takes g old new P
+  looked P rows still clean undone tell = record {
+    clean = clean;
+    goes = λ now books besides at.
+        let rests = undone now books (at.rests fine) (are_held books at.sound at.values) in
+        let same : holding new books besides ≡ holding old books besides = rw (limits, still, fine) refl in
+        (books, besides, tell now books besides at (holding new books besides) same, record { sound = at.sound; values = at.values; films = rows books.catalogue.films at.films; callers = callers_stay books.catalogue at.callers; rests = λ _. rests; alone = λ _. at.alone fine; left = λ was. never new.is_failed still was });
+  }
+
   -- with the same books, by what the store answered
   pub kept : (it : StoreFault) (P : Holding → Holding → Type 0) → KnowsNoMore → new.is_failed ≡ is_final it
       → (HasCleanDisk (state g new.conn) → HasCleanDisk (state g old.conn)) → (HasCleanDisk (state g new.conn) → IsUndone (state g old.conn) (state g new.conn))
       → ((before after : Holding) → IsStoreRefusal (refusal_for it) before after → P before after) → Takes g old new P
-  kept fault.Memory P rows failed clean undone tell = record {
-    clean = clean;
-    goes = λ now books besides at.
-        let rests = undone now books (at.rests fine) (are_held books at.sound at.values) in
-        let same : holding new books besides ≡ holding old books besides = rw (limits, failed, fine) refl in
-        (books, besides, tell (holding old books besides) (holding new books besides) (inl (inl refl, same, fine)), record { sound = at.sound; values = at.values; films = rows books.catalogue.films at.films; callers = callers_stay books.catalogue at.callers; rests = λ _. rests; alone = λ _. at.alone fine; left = λ was. never new.is_failed failed was });
-  }
-  kept fault.Size P rows failed clean undone tell = record {
-    clean = clean;
-    goes = λ now books besides at.
-        let rests = undone now books (at.rests fine) (are_held books at.sound at.values) in
-        let same : holding new books besides ≡ holding old books besides = rw (limits, failed, fine) refl in
-        (books, besides, tell (holding old books besides) (holding new books besides) (inl (inr refl, same, fine)), record { sound = at.sound; values = at.values; films = rows books.catalogue.films at.films; callers = callers_stay books.catalogue at.callers; rests = λ _. rests; alone = λ _. at.alone fine; left = λ was. never new.is_failed failed was });
-  }
+  kept fault.Memory P rows failed clean undone tell = looked P rows failed clean undone (λ now books besides at after same. tell _ after (inl (inl refl, same, fine)))
+  kept fault.Size P rows failed clean undone tell = looked P rows failed clean undone (λ now books besides at after same. tell _ after (inl (inr refl, same, fine)))
   kept fault.Failed P rows failed clean undone tell = record {
     clean = clean;
     goes = λ now books besides at.
@@ -257,19 +258,6 @@ module _ {S : Type 0} (g : Ghosts S) (old new : Chained S) (limits : new.limits 
             },
           );
     }
-
-  -- a look has answered, and changed nothing
-  pub looked : (P : Holding → Holding → Type 0) → KnowsNoMore → new.is_failed ≡ false → (HasCleanDisk (state g new.conn) → HasCleanDisk (state g old.conn))
-      → (HasCleanDisk (state g new.conn) → IsUndone (state g old.conn) (state g new.conn))
-      → (HasCleanDisk (state g new.conn) → (books besides : Books) → IsAt g old books besides → (after : Holding) → after ≡ holding old books besides → P (holding old books besides) after)
-      → Takes g old new P
-  looked P rows still clean undone tell = record {
-    clean = clean;
-    goes = λ now books besides at.
-        let rests = undone now books (at.rests fine) (are_held books at.sound at.values) in
-        let same : holding new books besides ≡ holding old books besides = rw (limits, still, fine) refl in
-        (books, besides, tell now books besides at (holding new books besides) same, record { sound = at.sound; values = at.values; films = rows books.catalogue.films at.films; callers = callers_stay books.catalogue at.callers; rests = λ _. rests; alone = λ _. at.alone fine; left = λ was. never new.is_failed still was });
-  }
 
   -- the caller was found
   pub found : (token : List ℕ) (caller : Known) → KnowsNoMore → new.is_failed ≡ false → (HasCleanDisk (state g new.conn) → HasCleanDisk (state g old.conn))

@@ -1,6 +1,5 @@
 -- What an audit says of the tables of a chain.
 use Rattle.std.specs.Prelude.{◌≡◌, ◌↔◌, Bool, IsTrue}
-use Rattle.sqlite_trees.specs.Tree.{Trees}
 use Rattle.sqlite.specs.State.{State}
 use Rattle.shop_model.specs.Values.{Audit as AuditAsked}
 use Rattle.shop_model.specs.Machine.{Shows}
@@ -10,15 +9,8 @@ use Rattle.shop_types.specs.declared.audit.Audit.{Audit}
 use Rattle.shop_types.specs.Seen.{seen_audit}
 use Rattle.shop_schema.specs.Tables.{shop_schema}
 use Rattle.shop_schema.specs.Shop.{IsShop}
-use Rattle.books_audit.specs.declared.tables.TableRows.{TableRows}
-use Rattle.books_audit.specs.Audits.{IsAuditOf}
-use Rattle.books_audit.specs.Shops.{HaveTables, IsAuditOfShop}
+use Rattle.books_audit.specs.Shops.{AuditsTables}
 use Rattle.chain_calls.specs.Chains.{StandsSoundly}
-
--- The audit is that of the tables, whatever they hold; and of the books for which they stand, where they do.
-pub record AuditsTables (trees : Trees) (audit : Audit) : Type 0 where
-  pub tables : (tables : TableRows) → HaveTables trees tables → IsAuditOf tables audit
-  pub books : IsAuditOfShop trees audit
 
 -- the store was open, and the audit is that of its tables, where they are a chain's
 pub record AuditsState (s : State) (audit : Audit) : Type 0 where

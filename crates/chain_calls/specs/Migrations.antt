@@ -27,7 +27,7 @@ abbrev pub IsVersion1 : State → Type 0
 IsVersion1 s = IsFirstShop s × IsFirstKeyed s
 
 -- inside a transaction tables of version 1 became those of this version, and this is whether they stand for sound books
-pub record MigratesInside (old new : State) (told : Bool) : Type 0 where
+pub record MigratesInside (told : Bool) (old new : State) : Type 0 where
   pub shop : IsVersion1 old → IsShop new × IsKeyed new
   pub sound : IsVersion1 old → IsTrue told ↔ StandsSoundly new.now.trees
   pub books : IsVersion1 old → (books : Books) → StandsSoundlyForVersion1 old.now.trees books → StandsFor new.now.trees (migrated books)

@@ -64,8 +64,8 @@ IsHeldBy Known films books = IsHeld books × AreRows films books.catalogue.films
 
 -- inside the transaction it is done, or it asks for a reading, which is to be shown;
 -- and the films that are known then are rows of the books after it, where of the books before it this was given
-abbrev pub Works : Limits → Caller → Request → Work Report → (Books → Type 0) → KnownFilms → State → State → Type 0
-Works limits caller request work Given after old new =
+abbrev pub Works : Limits → Caller → Request → (Books → Type 0) → KnownFilms → Work Report → State → State → Type 0
+Works limits caller request Given after work old new =
     (books : Books) → Holds old books → Given books → HasCome shown_by limits caller request work new books × AreRows after (left_by limits caller request books).catalogue.films
 
 -- the step is made
@@ -96,10 +96,6 @@ books_with WithOpening = opening_books
 abbrev pub LeavesMade : State → Books → Trees → Type 0
 LeavesMade old books db = old.now.schema ≡ no_schema → StandsFor db books
 
--- the caller has the token, in whatever books the tables stand for
-abbrev pub IsCallerOf : List ℕ → Caller → State → Type 0
-IsCallerOf token caller s = (books : Books) → Holds s books → IsHeld books → caller ≡ caller_of (Some token) books.catalogue
-
--- the same between two requests
+-- the caller has the token, in whatever books the connection rests on
 abbrev pub HasCaller : List ℕ → Caller → State → Type 0
 HasCaller token caller s = (books : Books) → Rests s books → IsHeld books → caller ≡ caller_of (Some token) books.catalogue

@@ -1,12 +1,10 @@
 //! What is asked, answered inside a transaction.
 
 ghost use Rattle.std.specs.Prelude.{⊤, IfOk};
-ghost use Rattle.sqlite.specs.Held.{state};
-ghost use Rattle.sqlite.specs.State.{HasCleanDisk};
 ghost use Rattle.shop_model.specs.Books.{Counter, HeadOffice};
 ghost use Rattle.shop_model.specs.Machine.{Office};
 ghost use Rattle.shop_types.specs.Seen.{seen_office, seen_request};
-ghost use Rattle.sql_rows.specs.Calls.{StaysInside};
+ghost use Rattle.sql_rows.specs.Calls.{DoesInside};
 ghost use Rattle.chain_calls.specs.Steps.{IsHeldBy, IsKnown, IsKnownFor, TellsDecision, Works, asker, asked_of};
 
 use crate::asked::Asked;
@@ -27,11 +25,8 @@ pub fn answer_inside<S: Alter>(
     limits: Limits,
     asked: &Asked<'_>,
 ) -> Result<Work<Report>, StoreFault>
-    ensures inside { StaysInside S.Store tx.old.conn tx.new.conn result }
-    ensures works { HasCleanDisk (state S.Store tx.new.conn.now)
-        → IfOk result (λ work. Works limits (asker asked.now) (asked_of asked.now) work
-        (IsHeldBy (IsKnownFor asked.now) films.old) films.new (state S.Store tx.old.conn.now)
-        (state S.Store tx.new.conn.now)) }
+    ensures does { DoesInside S.Store tx.old.conn tx.new.conn result
+        (Works limits (asker asked.now) (asked_of asked.now) (IsHeldBy (IsKnownFor asked.now) films.old) films.new) }
     ensures decided { IfOk result TellsDecision }
 {
     match *asked {
@@ -54,11 +49,8 @@ fn branch_inside<S: Alter>(
     is_known: bool,
     request: &Request,
 ) -> Result<Work<Report>, StoreFault>
-    ensures inside { StaysInside S.Store tx.old.conn tx.new.conn result }
-    ensures works { HasCleanDisk (state S.Store tx.new.conn.now)
-        → IfOk result (λ work. Works limits (Counter branch) (seen_request request.now) work
-        (IsHeldBy (IsKnown is_known branch) films.old) films.new (state S.Store tx.old.conn.now)
-        (state S.Store tx.new.conn.now)) }
+    ensures does { DoesInside S.Store tx.old.conn tx.new.conn result (Works limits (Counter branch)
+        (seen_request request.now) (IsHeldBy (IsKnown is_known branch) films.old) films.new) }
     ensures decided { IfOk result TellsDecision }
 {
     match answer_branch(alloc, tx, films, limits, branch, is_known, request)? {
@@ -75,10 +67,8 @@ fn office_inside<S: Alter>(
     limits: Limits,
     command: &OfficeCommand,
 ) -> Result<Work<Report>, StoreFault>
-    ensures inside { StaysInside S.Store tx.old.conn tx.new.conn result }
-    ensures works { HasCleanDisk (state S.Store tx.new.conn.now)
-        → IfOk result (λ work. Works limits HeadOffice (Office (seen_office command.now)) work
-        (IsHeldBy (λ _. ⊤) films.old) films.new (state S.Store tx.old.conn.now) (state S.Store tx.new.conn.now)) }
+    ensures does { DoesInside S.Store tx.old.conn tx.new.conn result
+        (Works limits HeadOffice (Office (seen_office command.now)) (IsHeldBy (λ _. ⊤) films.old) films.new) }
     ensures decided { IfOk result TellsDecision }
 {
     // Before anything is written: what is left stays true whether or not the command is done.

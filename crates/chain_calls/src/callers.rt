@@ -1,11 +1,13 @@
 //! Whose token it is, in a transaction that changes nothing.
 
-ghost use Rattle.std.specs.Prelude.{◌≡◌, false, IfOk};
+ghost use Rattle.std.specs.Prelude.{◌≡◌, false, IfOk, Some};
 ghost use Rattle.sqlite.specs.Held.{state};
 ghost use Rattle.sqlite.specs.State.{HasCleanDisk, Survives};
-ghost use Rattle.sql_rows.specs.Calls.{StaysInside};
+ghost use Rattle.sql_rows.specs.Calls.{DoesInside};
+ghost use Rattle.shop_model.specs.Books.{caller_of};
 ghost use Rattle.shop_types.specs.Seen.{seen_caller};
-ghost use Rattle.chain_calls.specs.Steps.{IsUndone, IsCallerOf, HasCaller};
+ghost use Rattle.shop_ledger.specs.Calls.{Finds};
+ghost use Rattle.chain_calls.specs.Steps.{IsUndone, HasCaller};
 
 use shop_store::{branch_with, is_office};
 use shop_types::{Caller, Token};
@@ -28,9 +30,8 @@ pub fn find_caller<S: Alter>(conn: &mut Connection<S>, token: &Token) -> Result<
 }
 
 fn caller_in<S: Alter>(tx: &mut Transaction<'_, S>, token: &Token) -> Result<Caller, StoreFault>
-    ensures inside { StaysInside S.Store tx.old.conn tx.new.conn result }
-    ensures found { HasCleanDisk (state S.Store tx.new.conn.now)
-        → IfOk result (λ caller. IsCallerOf token.now (seen_caller caller) (state S.Store tx.old.conn.now)) }
+    ensures { DoesInside S.Store tx.old.conn tx.new.conn result
+        (λ caller. Finds (λ books. seen_caller caller ≡ caller_of (Some token.now) books.catalogue)) }
 {
     if is_office(tx, token)? {
         return Ok(Caller::Office);

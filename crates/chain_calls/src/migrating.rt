@@ -1,14 +1,14 @@
 //! How tables of version 1 become those of this version, all of it in one transaction.
 
-ghost use Rattle.std.specs.Prelude.{◌≡◌, ◌≢◌, false, IfOk, OnOk, IfErr};
+ghost use Rattle.std.specs.Prelude.{◌≡◌, ◌≢◌, false, OnOk, IfErr};
 ghost use Rattle.sqlite.specs.Held.{state};
 ghost use Rattle.sqlite.specs.State.{HasCleanDisk, Survives};
-ghost use Rattle.sql_rows.specs.Calls.{StaysInside};
+ghost use Rattle.sql_rows.specs.Calls.{DoesInside};
 ghost use Rattle.chain_calls.specs.Faults.{is_store_fault};
 ghost use Rattle.chain_calls.specs.Migrations.{MigratesInside, IsMigration, IsUnsoundVersion1, LeavesMigrated};
 
-use crate::auditing::audit_tables;
 use crate::faults::{OpenFault, named};
+use books_audit::audit_books;
 use shop_migration::migrate_tables;
 use sql_rows::{StoreFault, fault_of};
 use sqlite::{Alter, Connection, Transaction};
@@ -17,12 +17,11 @@ use std::alloc::Global;
 /// Makes the tables of version 1 those of this version, inside a transaction, and tells whether an audit finds these
 /// sound.
 fn migrate_inside<S: Alter>(alloc: Global, tx: &mut Transaction<'_, S>) -> Result<bool, StoreFault>
-    ensures inside { StaysInside S.Store tx.old.conn tx.new.conn result }
-    ensures migrated { HasCleanDisk (state S.Store tx.new.conn.now)
-        → IfOk result (MigratesInside (state S.Store tx.old.conn.now) (state S.Store tx.new.conn.now)) }
+    ensures { DoesInside S.Store tx.old.conn tx.new.conn result
+        MigratesInside }
 {
     migrate_tables(tx)?;
-    let audit = audit_tables(alloc, tx)?;
+    let audit = audit_books(alloc, tx)?;
     Ok(audit.sound)
 }
 

@@ -1,9 +1,7 @@
 //! A command of head office inside one transaction.
 
 ghost use Rattle.std.specs.Prelude.{◌≡◌, IfOk};
-ghost use Rattle.sqlite.specs.Held.{state};
-ghost use Rattle.sqlite.specs.State.{HasCleanDisk};
-ghost use Rattle.sql_rows.specs.Calls.{StaysInside, StaysWithin};
+ghost use Rattle.sql_rows.specs.Calls.{DoesInside, DoesWithin};
 ghost use Rattle.shop_model.specs.Machine.{Office};
 ghost use Rattle.shop_model.specs.Books.{HeadOffice};
 ghost use Rattle.shop_types.specs.Seen.{seen_office};
@@ -30,10 +28,8 @@ pub(crate) fn answer_office<S: Alter>(
     limits: Limits,
     command: &OfficeCommand,
 ) -> Result<Answered, StoreFault>
-    ensures inside { StaysInside S.Store tx.old.conn tx.new.conn result }
-    ensures works { HasCleanDisk (state S.Store tx.new.conn.now)
-        → IfOk result (λ done. Does limits HeadOffice (Office (seen_office command.now)) done
-        (state S.Store tx.old.conn.now) (state S.Store tx.new.conn.now)) }
+    ensures does { DoesInside S.Store tx.old.conn tx.new.conn result
+        (Does limits HeadOffice (Office (seen_office command.now))) }
     ensures decided { IfOk result (λ done. IsDecision (seen_reply done.reply)) }
 {
     let kept = kept_at(tx, Owner::Office, &command.key)?;
@@ -52,10 +48,8 @@ fn answer<S: Alter>(
     form: &Bytes,
 ) -> Result<Answered, StoreFault>
     requires { form.now ≡ office_command_form (seen_office command.now) }
-    ensures inside { StaysWithin S.Store tx.old.conn tx.new.conn result }
-    ensures works { HasCleanDisk (state S.Store tx.new.conn.now)
-        → IfOk result (λ done. WorksBeside kept.entry limits (seen_office command.now) done
-        (state S.Store tx.old.conn.now) (state S.Store tx.new.conn.now)) }
+    ensures does { DoesWithin S.Store tx.old.conn tx.new.conn result
+        (WorksBeside kept.entry limits (seen_office command.now)) }
     ensures decided { IfOk result (λ done. IsDecision (seen_reply done.reply)) }
 {
     let found = find(tx, command)?;

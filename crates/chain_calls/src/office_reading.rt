@@ -4,11 +4,12 @@
 ghost use Rattle.std.specs.Prelude.{◌≡◌, nat_lt, false, IfOk};
 ghost use Rattle.sqlite.specs.Held.{state};
 ghost use Rattle.sqlite.specs.State.{HasCleanDisk, Survives};
-ghost use Rattle.sql_rows.specs.Calls.{StaysInside};
-ghost use Rattle.shop_model.specs.Sound.{HasCustody, is_mark, made};
+ghost use Rattle.sql_rows.specs.Calls.{DoesInside};
+ghost use Rattle.shop_model.specs.Sound.{IsSound, is_mark, made};
 ghost use Rattle.shop_types.specs.Seen.{seen_mark};
 ghost use Rattle.shop_types.specs.Replies.{seen_reply};
 ghost use Rattle.shop_ledger.specs.Calls.{Finds};
+ghost use Rattle.chain_calls.specs.Chains.{widest_rules};
 ghost use Rattle.chain_calls.specs.Steps.{IsDecision, IsUndone};
 ghost use Rattle.chain_calls.specs.OfficeReads.{custody_told, TellsAudit, TellsCustody, TellsOffice};
 
@@ -87,9 +88,8 @@ fn place_in<S: Alter>(
     tx: &mut Transaction<'_, S>,
     mark: &Mark,
 ) -> Result<Reply, StoreFault>
-    ensures inside { StaysInside S.Store tx.old.conn tx.new.conn result }
-    ensures told { Finds (state S.Store tx.old.conn.now) (state S.Store tx.new.conn.now) result
-        (λ reply books. HasCustody books → seen_reply reply ≡ custody_told (seen_mark mark.now) books) }
+    ensures does { DoesInside S.Store tx.old.conn tx.new.conn result (λ reply. Finds (λ books.
+        IsSound widest_rules books → seen_reply reply ≡ custody_told (seen_mark mark.now) books)) }
     ensures decided { IfOk result (λ reply. IsDecision (seen_reply reply)) }
 {
     let Some(_) = branch_manager(tx, mark.branch)? else {
@@ -108,9 +108,8 @@ fn place_in<S: Alter>(
 /// Whether the mark was made: the branch has a copy of that number, and the copy has that mark, as one that came from
 /// another branch hasn't.
 fn is_made<S: Alter>(tx: &mut Transaction<'_, S>, mark: &Mark) -> Result<bool, StoreFault>
-    ensures inside { StaysInside S.Store tx.old.conn tx.new.conn result }
-    ensures made { Finds (state S.Store tx.old.conn.now) (state S.Store tx.new.conn.now) result
-        (λ is books. is ≡ nat_lt 0 (made (is_mark (seen_mark mark.now)) books)) }
+    ensures { DoesInside S.Store tx.old.conn tx.new.conn result
+        (λ is. Finds (λ books. is ≡ nat_lt 0 (made (is_mark (seen_mark mark.now)) books))) }
 {
     match copy_at(tx, mark.branch, mark.copy)? {
         Some(row) => Ok(row.mark == *mark),

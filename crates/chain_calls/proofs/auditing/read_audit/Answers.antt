@@ -1,28 +1,11 @@
-use Rattle.shop_schema.proofs.Common.{◌≡◌, ◌∙◌, refl, sym, subst, arith, state, HasCleanDisk, on_ok_then}
-use Rattle.chain_calls.specs.Chains.{Rests}
-use Rattle.chain_calls.proofs.Resting.{begun_inside, rests_back, audit_between}
+use Rattle.shop_schema.proofs.Common.{IfOk-weaker}
+use Rattle.chain_calls.proofs.Resting.{looks}
 use Rattle.chain_calls.proofs.auditing.read_audit.Goals as goal
 
 pub returns-clause-told : goal.returns-clause-told
 returns-clause-told g c clean =
-    let old = c.args.conn.now in
-    let mid = c.audit_tables-audit.new.tx.conn.now in
-    let end = c.rollback.new.self.0 in
-    let same : end ≡ c.conn-1.given.0 = sym (c.conn-1.given.1 (sym (c.audit_tables-audit.ensures.inside.same_reference ∙ c.transaction-tx.ensures.same_reference))) in
-    let clean_end : HasCleanDisk (state g.S.Store end) = subst (λ h. HasCleanDisk (state g.S.Store h)) (sym same) clean in
-    let clean_mid : HasCleanDisk (state g.S.Store mid) = omega (arith, clean_end, c.rollback.ensures.survives.clean) in
-    let inside = begun_inside g.S.Store old c.transaction-tx.ensures.begun c.audit_tables-audit.ensures.inside in
-    audit_between g.S.Store old mid end c.audit_tables-audit.result (on_ok_then c.audit_tables-audit.result (λ shows. shows.was_open) (inside.lives clean_mid refl))
-    (rw c.transaction-tx.ensures.begun at (c.audit_tables-audit.ensures.audit clean_mid))
+    let look = looks c.args.conn.now c.audit_books-audit.ensures c.transaction-tx.ensures.begun c.transaction-tx.ensures.same_reference c.conn-1.given c.rollback.ensures.survives c.rollback.ensures.undone in
+    IfOk-weaker c.audit_books-audit.result _ _ (λ audit it. record { is_open = it.0; audits = λ shop. (it.1 shop).0 }) (look.says clean)
 
 pub returns-clause-same : goal.returns-clause-same
-returns-clause-same g c clean books rests =
-    let old = c.args.conn.now in
-    let mid = c.audit_tables-audit.new.tx.conn.now in
-    let end = c.rollback.new.self.0 in
-    let same : end ≡ c.conn-1.given.0 = sym (c.conn-1.given.1 (sym (c.audit_tables-audit.ensures.inside.same_reference ∙ c.transaction-tx.ensures.same_reference))) in
-    let clean_end : HasCleanDisk (state g.S.Store end) = subst (λ h. HasCleanDisk (state g.S.Store h)) (sym same) clean in
-    let clean_mid : HasCleanDisk (state g.S.Store mid) = omega (arith, clean_end, c.rollback.ensures.survives.clean) in
-    let inside = begun_inside g.S.Store old c.transaction-tx.ensures.begun c.audit_tables-audit.ensures.inside in
-    subst (λ h. Rests (state g.S.Store h) books) same
-    (rests_back g.S.Store old mid end books inside.survives (inside.kept clean_mid refl) (c.rollback.ensures.undone clean_end) c.rollback.ensures.survives clean_end rests)
+returns-clause-same g c = (looks c.args.conn.now c.audit_books-audit.ensures c.transaction-tx.ensures.begun c.transaction-tx.ensures.same_reference c.conn-1.given c.rollback.ensures.survives c.rollback.ensures.undone).rests

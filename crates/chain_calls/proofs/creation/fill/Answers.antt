@@ -1,4 +1,4 @@
-use Rattle.shop_schema.proofs.Common.{arith, state, HasCleanDisk, on_ok_then, survives_more}
+use Rattle.shop_schema.proofs.Common.{IfOk-weaker, clean_before, survives_more}
 use Rattle.chain_calls.proofs.creation.fill.Goals as goal
 
 pub returns-in-OfOffice-clause-survives : goal.returns-in-OfOffice-clause-survives
@@ -9,12 +9,10 @@ returns-in-OfOpening-clause-survives g c = survives_more _ _ _ c.create_tables.e
 
 pub returns-in-OfOffice-clause-holds : goal.returns-in-OfOffice-clause-holds
 returns-in-OfOffice-clause-holds g c clean none =
-    let clean_mid : HasCleanDisk (state g.S.Store c.create_tables.new.tx.conn.now) = omega (arith, clean, c.put_token.ensures.inside.survives.clean) in
-    let made = c.in_ok-create_tables.ensures.made clean_mid none in
-    rw c.in-OfOffice.is (on_ok_then c.put_token.result (λ put. put made.0 made.1 made.2) (c.put_token.ensures.put clean))
+    let made = c.in_ok-create_tables.ensures.made (clean_before c.put_token.ensures.inside clean) none in
+    rw c.in-OfOffice.is (IfOk-weaker c.put_token.result _ _ (λ _ put. put made.0 made.1 made.2) (c.put_token.ensures.says clean))
 
 pub returns-in-OfOpening-clause-holds : goal.returns-in-OfOpening-clause-holds
 returns-in-OfOpening-clause-holds g c clean none =
-    let clean_mid : HasCleanDisk (state g.S.Store c.create_tables.new.tx.conn.now) = omega (arith, clean, c.put_opening.ensures.inside.survives.clean) in
-    let made = c.in_ok-create_tables.ensures.made clean_mid none in
-    rw c.in-OfOpening.is (on_ok_then c.put_opening.result (λ put. put made.0 made.1 made.2) (c.put_opening.ensures.put clean))
+    let made = c.in_ok-create_tables.ensures.made (clean_before c.put_opening.ensures.inside clean) none in
+    rw c.in-OfOpening.is (IfOk-weaker c.put_opening.result _ _ (λ _ put. put made.0 made.1 made.2) (c.put_opening.ensures.says clean))

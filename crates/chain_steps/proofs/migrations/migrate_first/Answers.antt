@@ -1,5 +1,6 @@
 use Rattle.shop_schema.proofs.Common.{arith, on_ok_then, state, HasCleanDisk, survives_then}
-use Rattle.chain_calls.proofs.Migrated.{migration_from, leaves_from, leaves_less}
+use Rattle.chain_calls.proofs.Resting.{leaves_less}
+use Rattle.chain_calls.proofs.Migrated.{migration_from, leaves_from}
 use Rattle.chain_steps.proofs.migrations.migrate_first.Goals as goal
 
 pub returns-in-Ok-clause-migrated : goal.returns-in-Ok-clause-migrated
