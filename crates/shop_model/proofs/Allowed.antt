@@ -1,12 +1,13 @@
 -- What the edits of an accepted command are asked, shown of each act once.
-use Rattle.shop_model.proofs.Common.{◌≡◌, ℕ, ◌+◌, List, [], ◌∷◌, map, length, Bool, true, false, not, refl, sym, subst, ◌∙◌, arith, length-append, ◌==◌, ◌||◌, nat_lt, nat_le, option_to_list, list_any, list_all, bytes_eq, and_parts, or_parts, not-false, true≢false, nat_tests, of, at, lacks, is_empty, arrived, has_double, Moment, Text, Copy, Rental, Payment, Arrival, Stock, Copies, BadLine, Act, AddCustomer, SetActive, Rent, TakeBack, Pay, Import, Dispatch, Receive, Scrap, Command, Rules, Shop, Catalogue, act_refusals, import_refusals, arrival, films_in, films_at, incoming, Books, Line, Edit, edits_of, shop_of, unmarked, imported, unpacked, come, has_row, is_staff_of, pays_for, is_parcel, IsLinkedShop, HasNumbers}
+use Rattle.shop_model.proofs.Common.{◌≡◌, ℕ, ◌+◌, List, [], ◌∷◌, map, length, Bool, true, false, not, refl, sym, subst, ◌∙◌, arith, length-append, ◌==◌, ◌||◌, nat_lt, nat_le, option_to_list, list_any, list_all, bytes_eq, and_parts, or_parts, nat_tests, of, at, lacks, is_empty, arrived, has_double, Moment, Text, Copy, Rental, Payment, Arrival, Stock, Copies, BadLine, Act, AddCustomer, SetActive, Rent, TakeBack, Pay, Import, Dispatch, Receive, Scrap, Command, Rules, Shop, Catalogue, act_refusals, import_refusals, arrival, films_in, films_at, incoming, Books, Line, Edit, edits_of, shop_of, unmarked, imported, unpacked, come, has_row, is_staff_of, pays_for, is_parcel, IsLinkedShop, HasNumbers, CopyRows}
+use Rattle.std.proofs.lemmas.List.Folds.{list_all-map}
 use Rattle.shop_model.proofs.RowLemmas.{length_map}
 use Rattle.shop_model.proofs.ShopLemmas.{films_sent, incoming_come, checked_films}
 use Rattle.shop_model.proofs.EditLemmas.{AskedOfEach, new_its}
 use Rattle.shop_model.proofs.Isolation.{NoneHold}
-use Rattle.shop_model.proofs.GoodShops.{IsGoodEdit, all_map}
+use Rattle.shop_model.proofs.GoodShops.{IsGoodEdit}
 use Rattle.shop_model.proofs.Origins.{all_filter}
-use Rattle.shop_model.proofs.LinkLemmas.{all_at, one_at, all_joined, none_lacks, all_arrived}
+use Rattle.shop_model.proofs.LinkLemmas.{all_at, one_at, all_joined, none_lacks, all_arrived, some_passes}
 use Rattle.shop_model.proofs.LinkedShops.{IsLinkedEdit, has_mapped, is_there, outgoing_films}
 
 -- what keeps a shop good, and what keeps that its rows name rows that are there
@@ -19,17 +20,13 @@ pub record IsAllowed (b : ℕ) (moment : Moment) (books : Books) (edit : Edit) :
 pays_new : (rentals : List Rental) (payment : Payment) → list_any (lacks rentals) (option_to_list payment.rental) ≡ false
     → list_any (λ r. list_any (λ (it : Rental). not (it.customer == payment.customer)) (at r rentals)) (option_to_list payment.rental) ≡ false → pays_for rentals payment ≡ true
 pays_new rentals payment there same = by_list (option_to_list payment.rental) there same where
-  by_row : (rows : List Rental) → is_empty rows ≡ false → list_any (λ (it : Rental). not (it.customer == payment.customer)) rows ≡ false → list_any (λ (it : Rental). it.customer == payment.customer) rows ≡ true
-  by_row [] e f = absurd (true≢false e)
-  by_row (row ∷ rows) e f = rw (not-false (row.customer == payment.customer) (or_parts (not (row.customer == payment.customer)) _ f).0)
-
   by_list : (rs : List ℕ) → list_any (lacks rentals) rs ≡ false → list_any (λ r. list_any (λ (it : Rental). not (it.customer == payment.customer)) (at r rentals)) rs ≡ false
       → list_all (λ r. list_any (λ (it : Rental). it.customer == payment.customer) (at r rentals)) rs ≡ true
   by_list [] e f = refl
   by_list (r ∷ rs) e f =
       let a = or_parts (lacks rentals r) (list_any (lacks rentals) rs) e in
       let c = or_parts (list_any (λ (it : Rental). not (it.customer == payment.customer)) (at r rentals)) _ f in
-      rw (by_row (at r rentals) a.0 c.0) (by_list rs a.1 c.1)
+      rw (some_passes (λ (it : Rental). it.customer == payment.customer) (at r rentals) a.0 c.0) (by_list rs a.1 c.1)
 
 -- ---- films that come and go
 
@@ -44,18 +41,16 @@ lot_new catalogue shop lot (BadLine line) none = none.0
 incoming_films : (catalogue : Catalogue) (missing : List ℕ) (arrivals : List Arrival) → list_all (λ (it : Arrival). list_all (has_row catalogue.films) it.films) arrivals ≡ true
     → list_all (has_row catalogue.films) (incoming missing arrivals) ≡ true
 incoming_films catalogue missing arrivals all =
-    all_joined (has_row catalogue.films) (λ (it : Arrival). list_all (has_row catalogue.films) it.films) (λ (it : Arrival). arrived missing it.films) arrivals (λ (it : Arrival) h. all_arrived (has_row catalogue.films) missing it.films h) all
+    all_joined (has_row catalogue.films) (λ (it : Arrival). list_all (has_row catalogue.films) it.films) (λ (it : Arrival). arrived missing it.films) arrivals (λ (it : Arrival) h. all_arrived (has_row catalogue.films) missing 1 it.films h) all
 
 outgoing_length : (xs : List ℕ) (copies : List Copy) → list_any (lacks copies) xs ≡ false → length (films_at xs copies) ≡ length xs
 outgoing_length [] copies there = refl
 outgoing_length (x ∷ xs) copies there =
     let h = or_parts (lacks copies x) (list_any (lacks copies) xs) there in
-    let one = one_film (at x copies) (one_at x copies h.0) in
+    let one = length_map (λ (it : Copy). it.film) (at x copies) ∙ one_at x copies h.0 in
     let more = outgoing_length xs copies h.1 in
     let l = length-append (map (λ (it : Copy). it.film) (at x copies)) (films_at xs copies) in
-    omega (arith, one, more, l) where
-      one_film : (rows : List Copy) → length rows ≡ 1 → length (map (λ (it : Copy). it.film) rows) ≡ 1
-      one_film rows e = length_map (λ (it : Copy). it.film) rows ∙ e
+    omega (arith, one, more, l)
 
 parcel_fits : (to : ℕ) (xs : List ℕ) (copies : List Copy) → list_any (lacks copies) xs ≡ false → (is_empty xs || nat_lt 100 (length xs) || has_double xs) ≡ false
     → is_parcel (record { addressee = to; films = films_at xs copies }) ≡ true
@@ -80,7 +75,7 @@ all_new p q make (c ∷ cs) shows all n = let h = and_parts (q c) (list_all q cs
 
 pub edits_allowed : (rules : Rules) (b : ℕ) (command : Command) (act : Act) (books : Books) → HasNumbers books → IsLinkedShop b books.catalogue (shop_of b books) → is_staff_of b books.catalogue.staff command.staff ≡ true
     → NoneHold (act_refusals rules b books.catalogue (shop_of b books) command.moment act) → AskedOfEach b (IsAllowed b command.moment) (edits_of rules b command act books) books
-edits_allowed rules b command (AddCustomer person) books has linked works none = (record { good = λ n. (refl, tt); linked = λ n. rw (is_there books.catalogue.cities person.city none.0) }, tt)
+edits_allowed rules b command (AddCustomer it) books has linked works none = (record { good = λ n. (refl, tt); linked = λ n. rw (is_there books.catalogue.cities it.person.city none.0) }, tt)
 edits_allowed rules b command (SetActive c active) books has linked works none = (record { good = λ it. refl; linked = λ it there. there }, tt)
 edits_allowed rules b command (Rent c x) books has linked works none = (
   record {
@@ -108,7 +103,7 @@ edits_allowed rules b command (Import lot file) books has linked works none =
       (record { good = tt; linked = lot_new books.catalogue (shop_of b books) lot stock none }, tt),
     )
 edits_allowed rules b command (Dispatch to xs) books has linked works none =
-    let sent = films_sent b xs books.copies (has.copies b) in (
+    let sent = films_sent b xs books.copies (has.rows CopyRows b) in (
       record { good = tt; linked = λ it. refl },
       (
         record {
@@ -126,7 +121,7 @@ edits_allowed rules b command (Receive source number missing) books has linked w
     (all_at (λ (it : Arrival). list_all (has_row books.catalogue.films) it.films) number _ (all_filter (λ (it : Arrival). list_all (has_row books.catalogue.films) it.films) (λ (it : Arrival). it.source == source) (shop_of b books).arrivals linked.arrival_films))) in (
       record {
         good = tt;
-        linked = all_new _ (λ (line : Line). has_row books.catalogue.films line.film) unpacked (come source b number missing books.consignments) (λ c n. refl) (sym (all_map (has_row books.catalogue.films) (λ (line : Line). line.film) (come source b number missing books.consignments)) ∙ films);
+        linked = all_new _ (λ (line : Line). has_row books.catalogue.films line.film) unpacked (come source b number missing books.consignments) (λ c n. refl) (sym (list_all-map (has_row books.catalogue.films) (λ (line : Line). line.film) (come source b number missing books.consignments)) ∙ films);
       },
       (record { good = tt; linked = λ it. (refl, refl, checked_films missing 1 it.lines) }, tt),
     )

@@ -1,21 +1,29 @@
 -- What is said of a list of edits once, whatever act makes it.
-use Rattle.shop_model.proofs.Common.{◌≡◌, inl, inr, ℕ, ◌+◌, ◌≤◌, List, [], ◌∷◌, length, filter, Bool, true, false, refl, sym, ap, ◌∙◌, ◌++◌, arith, append-nil, append_assoc, length-append, ⊤, ◌==◌, if◌then◌else◌, cases_Bool, Row, Owned, of, owned_by, is_of, is_row, next, put_all, set_row, set_rows, update_where, Text, Books, Consignment, Table, Customers, CopyRows, Rentals, TermRows, Payments, RowOf, rows_of, with_rows, Edit, Put, Set, PutLot, Append, Update, edited, all_edited}
+use Rattle.shop_model.proofs.Common.{◌≡◌, inl, inr, ℕ, ◌+◌, ◌≤◌, List, [], ◌∷◌, length, filter, refl, sym, ap, ◌∙◌, ◌++◌, arith, append-nil, append_assoc, length-append, ⊤, ◌==◌, cases_Bool, Row, Owned, of, owned_by, is_of, is_row, next, put_all, set_row, set_rows, Text, Books, Consignment, Table, Customers, CopyRows, Rentals, TermRows, Payments, RowOf, RowsOf, rows_of, if_same, with_rows, Edit, Put, Set, PutLot, Append, Update, edited, all_edited, Catalogue, opening}
 use Rattle.shop_model.specs.Rows.{put}
 use Rattle.shop_model.proofs.RowLemmas.{same_test, more_yes, put_own, put_other, set_same, length_map}
 
--- the frame: what holds of each table's rows holds of them where one table's are others of which it holds
-pub by_table : (P : (t : Table) → List (Row (RowOf t)) → Type 0) (t : Table) (new : List (Row (RowOf t))) (books : Books) → P t new → ((u : Table) → P u (rows_of u books)) → (u : Table) → P u (rows_of u (with_rows t new books))
-by_table P Customers new books is old Customers = is
-by_table P CopyRows new books is old CopyRows = is
-by_table P Rentals new books is old Rentals = is
-by_table P TermRows new books is old TermRows = is
-by_table P Payments new books is old Payments = is
-by_table P t new books is old u = old u
+pub same_or : (F : Table → Type 0) (P : (t : Table) → F t → Type 0) (t u : Table) (x : F t) (y : F u) → P t x → P u y → P u (if_same F t u x y)
+same_or F P Customers Customers x y first second = first
+same_or F P CopyRows CopyRows x y first second = first
+same_or F P Rentals Rentals x y first second = first
+same_or F P TermRows TermRows x y first second = first
+same_or F P Payments Payments x y first second = first
+same_or F P t u x y first second = second
 
--- so too where lots and consignments are others
-pub by_others : (P : (t : Table) → List (Row (RowOf t)) → Type 0) (lots : List (Owned Text)) (cs : List Consignment) (books : Books) → ((u : Table) → P u (rows_of u books)) → (u : Table) → P u (rows_of u (record books { lots = lots; consignments = cs }))
-by_others P lots cs books all Customers = all Customers
-by_others P lots cs books all u = all u
+same_self : (F : Table → Type 0) (t : Table) (x y : F t) → if_same F t t x y ≡ x
+same_self F Customers x y = refl
+same_self F t x y = refl
+
+-- the frame: what holds of each table's rows holds of them where one table's are others of which it holds
+pub by_table : (P : (t : Table) → RowsOf t → Type 0) (t : Table) (new : RowsOf t) (books : Books) → P t new → ((u : Table) → P u (rows_of books u)) → (u : Table) → P u (rows_of (with_rows t new books) u)
+by_table P t new books is old Customers = same_or RowsOf P t Customers new books.customers is (old Customers)
+by_table P t new books is old u = same_or RowsOf P t u new (rows_of books u) is (old u)
+
+-- what holds of no rows holds in books that have none
+pub by_none : (P : (t : Table) → RowsOf t → Type 0) (catalogue : Catalogue) → ((t : Table) → P t []) → (t : Table) → P t (rows_of (opening catalogue) t)
+by_none P catalogue is Customers = is Customers
+by_none P catalogue is t = is t
 
 -- ---- one edit after another
 
@@ -73,18 +81,10 @@ put_all_its b (make ∷ makes) rows =
 
 -- ---- sizes
 
-abbrev pub same_table : Table → Table → Bool
-same_table Customers Customers = true
-same_table CopyRows CopyRows = true
-same_table Rentals Rentals = true
-same_table TermRows TermRows = true
-same_table Payments Payments = true
-same_table t u = false
-
 -- how many rows the edits put into the table, how many lots, and how many consignments
 abbrev pub grown : Table → List Edit → ℕ
 grown u [] = 0
-grown u (Put t makes ∷ edits) = (if same_table t u then length makes else 0) + grown u edits
+grown u (Put t makes ∷ edits) = if_same (λ _. ℕ) t u (length makes) 0 + grown u edits
 grown u (edit ∷ edits) = grown u edits
 
 abbrev pub new_lots : List Edit → ℕ
@@ -98,7 +98,7 @@ new_sends (Append it ∷ edits) = 1 + new_sends edits
 new_sends (edit ∷ edits) = new_sends edits
 
 abbrev pub row_count : ℕ → Table → Books → ℕ
-row_count b t books = length (of b (rows_of t books))
+row_count b t books = length (of b (rows_of books t))
 
 put_most : {A : Type 0} (a b : ℕ) (makes : List (ℕ → A)) (rows : List (Row A)) → length (of a (put_all b makes rows)) ≤ length (of a rows) + length makes
 put_most a b [] rows = omega arith
@@ -124,34 +124,21 @@ set_length a b (n ∷ ns) f rows = set_length a b ns f (set_row b n f rows) ∙ 
       let was = length_map (λ (row : Row _). row.it) (filter (is_of a) rows) in
       omega (arith, same, new, old, its, was)
 
-rows_put : (a b : ℕ) (t : Table) (makes : List (ℕ → RowOf t)) (books : Books) (u : Table) → row_count a u (edited b (Put t makes) books) ≤ row_count a u books + (if same_table t u then length makes else 0)
-rows_put a b Customers makes books Customers = put_most a b makes books.customers
-rows_put a b CopyRows makes books CopyRows = put_most a b makes books.copies
-rows_put a b Rentals makes books Rentals = put_most a b makes books.rentals
-rows_put a b TermRows makes books TermRows = put_most a b makes books.terms
-rows_put a b Payments makes books Payments = put_most a b makes books.payments
-rows_put a b t makes books u = omega arith
+rows_put : (a b : ℕ) (t : Table) (makes : List (ℕ → RowOf t)) (books : Books) (u : Table) → row_count a u (edited b (Put t makes) books) ≤ row_count a u books + if_same (λ _. ℕ) t u (length makes) 0
+rows_put a b t makes books u =
+    let own = put_most a b makes (rows_of books t) in
+    let all = by_table (λ v new. length (of a new) ≤ row_count a v books + if_same (λ _. ℕ) t v (length makes) 0) t _ books (rw (same_self (λ _. ℕ) t (length makes) 0) own) (λ v. omega arith) in
+    all u
 
 -- no branch has more new rows in a table than the edits put there
 pub rows_edited : (a b : ℕ) (edits : List Edit) (books : Books) (u : Table) → row_count a u (all_edited b edits books) ≤ row_count a u books + grown u edits
 rows_edited a b [] books u = omega arith
 rows_edited a b (Put t makes ∷ edits) books u = let one = rows_put a b t makes books u in let more = rows_edited a b edits (edited b (Put t makes) books) u in omega (arith, one, more)
 rows_edited a b (Set t ns f ∷ edits) books u =
-    let one = by_table (λ v new. length (of a new) ≡ row_count a v books) t _ books (set_length a b ns f (rows_of t books)) (λ v. refl) u in
+    let one = by_table (λ v new. length (of a new) ≡ row_count a v books) t _ books (set_length a b ns f (rows_of books t)) (λ v. refl) u in
     let more = rows_edited a b edits (edited b (Set t ns f) books) u in
     omega (arith, one, more)
-rows_edited a b (PutLot lot ∷ edits) books u =
-    let one = by_others (λ v new. length (of a new) ≡ row_count a v books) (books.lots ++ record { owner = b; it = lot } ∷ []) books.consignments books (λ v. refl) u in
-    let more = rows_edited a b edits (edited b (PutLot lot) books) u in
-    omega (arith, one, more)
-rows_edited a b (Append it ∷ edits) books u =
-    let one = by_others (λ v new. length (of a new) ≡ row_count a v books) books.lots (books.consignments ++ it ∷ []) books (λ v. refl) u in
-    let more = rows_edited a b edits (edited b (Append it) books) u in
-    omega (arith, one, more)
-rows_edited a b (Update test f ∷ edits) books u =
-    let one = by_others (λ v new. length (of a new) ≡ row_count a v books) books.lots (update_where test f books.consignments) books (λ v. refl) u in
-    let more = rows_edited a b edits (edited b (Update test f) books) u in
-    omega (arith, one, more)
+rows_edited a b (edit ∷ edits) books u = rows_edited a b edits (edited b edit books) u
 
 pub lots_edited : (b : ℕ) (edits : List Edit) (books : Books) → length (owned_by b (all_edited b edits books).lots) ≡ length (owned_by b books.lots) + new_lots edits
 lots_edited b [] books = omega arith

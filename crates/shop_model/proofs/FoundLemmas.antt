@@ -1,4 +1,5 @@
 -- What the row of a number tells, where there is one.
+use Rattle.std.proofs.lemmas.Option.{none-some}
 use Rattle.shop_model.proofs.Common.{◌≡◌, ◌⊎◌, refl, sym, inl, inr, ℕ, ◌-◌, List, [], ◌∷◌, map, Option, Some, None, ◌==◌, cases_Bool, at, head}
 
 -- there is one row of a number at most
@@ -13,20 +14,14 @@ at_one n (x ∷ rows) = elim (cases_Bool (n == 1)) [
 pub found_none : {A B : Type 0} (f : A → B) (n : ℕ) (rows : List A) → None ≡ head (map f (at n rows)) → at n rows ≡ []
 found_none f n rows is = elim (at_one n rows) [
   | inl none ↦ none
-  | inr one ↦ let no : None ≡ Some (f one.0) = rw one.1 at is in absurd (apart no)
+  | inr one ↦ absurd (none-some (f one.0) (rw one.1 at is))
 ]
-  where
-    apart : {C : Type 0} {x : C} → ◌≡◌ {A = Option C} None (Some x) → ⊥
-    apart e = cc
 
 pub found_some : {A B : Type 0} (f : A → B) (n : ℕ) (rows : List A) (b : B) → Some b ≡ head (map f (at n rows)) → (x : A) × (at n rows ≡ x ∷ []) × (f x ≡ b)
 found_some f n rows b is = elim (at_one n rows) [
-  | inl none ↦ let no : Some b ≡ None = rw none at is in absurd (apart no)
-  | inr one ↦ let same : Some b ≡ Some (f one.0) = rw one.1 at is in (one.0, one.1, sym (inside same))
+  | inl none ↦ absurd (none-some b (sym (rw none at is)))
+  | inr one ↦ (one.0, one.1, sym (inside (rw one.1 at is)))
 ]
   where
-    apart : {C : Type 0} {x : C} → ◌≡◌ {A = Option C} (Some x) None → ⊥
-    apart e = cc
-
     inside : {C : Type 0} {x y : C} → ◌≡◌ {A = Option C} (Some x) (Some y) → x ≡ y
     inside e = cc

@@ -1,8 +1,8 @@
 -- Each command of head office keeps what holds of the catalogue.
-use Rattle.shop_model.proofs.Common.{◌≡◌, ap, inl, inr, ℕ, ◌+◌, ◌≤◌, List, [], ◌∷◌, ◌++◌, filter, length, true, false, not, None, Some, refl, ◌∙◌, arith, length-append, ◌==◌, ◌&&◌, nat_le, option_to_list, list_any, list_all, bytes_eq, cases_Bool, or_parts, not-false, true≢false, false≢true, at, lacks, is_empty, set_at, Text, City, Film, Cast, Branch, Staff, Customer, Copy, Rental, Payment, Arrival, OfficeAct, AddCountry, AddCity, AddLanguage, AddCategory, AddActor, AddFilm, PriceFilm, WithdrawFilm, AddCast, AddBranch, AddStaff, StaffLeaves, SetManager, ChooseRule, OfficeCommand, Rules, Full, OfficeKept, Catalogue, Shop, same_office, Verdict, Again, Refused, Accepted, first, office_refusals, office_resent, office_verdict, office_acted, office_done, office_text, has_row, are_different, is_staff_of, IsLinkedShop, NamesRowsOf, HasSharedSizes, HasNoDoubles, IsGoodCatalogue}
-use Rattle.shop_model.proofs.Isolation.{is_accepted, NoneHold, none_hold}
-use Rattle.shop_model.proofs.GoodShops.{all_more, all_weaker, all_set, length_set, key_room}
-use Rattle.shop_model.proofs.LinkLemmas.{has_more, has_set, any_at_more, any_at_set, all_at_more, all_at_set, different_more, different_set, none_left}
+use Rattle.shop_model.proofs.Common.{◌≡◌, ℕ, ◌≤◌, [], ◌∷◌, ◌++◌, filter, length, true, false, not, None, Some, refl, ◌∙◌, arith, length-append, ◌==◌, ◌&&◌, nat_le, option_to_list, list_any, list_all, bytes_eq, or_parts, at, lacks, Text, City, Film, Cast, Branch, Staff, Customer, Copy, Rental, Payment, Arrival, OfficeAct, AddCountry, AddCity, AddLanguage, AddCategory, AddActor, AddFilm, PriceFilm, WithdrawFilm, AddCast, AddBranch, AddStaff, StaffLeaves, SetManager, OfficeCommand, Rules, Full, OfficeKept, Catalogue, Shop, Accepted, first, office_refusals, office_verdict, office_acted, office_done, office_text, has_row, are_different, is_staff_of, IsLinkedShop, NamesRowsOf, HasSharedSizes, HasNoDoubles, IsGoodCatalogue}
+use Rattle.shop_model.proofs.Isolation.{NoneHold, nothing_kept, none_hold}
+use Rattle.shop_model.proofs.GoodShops.{all_more, all_weaker, length_set, key_room}
+use Rattle.shop_model.proofs.LinkLemmas.{all_set, some_passes, has_more, has_set, any_at_more, any_at_set, all_at_more, all_at_set, different_more, different_set, none_left}
 use Rattle.shop_model.proofs.LinkedShops.{is_there}
 
 -- what is there in the one is there in the other
@@ -46,11 +46,6 @@ names_grow old new rows g h = record {
   staff_branches = all_weaker (λ (x : Staff). has_row old.branches x.branch) _ rows.staff (λ (x : Staff) is. g.branches x.branch is) h.staff_branches;
   staff_cities = all_weaker (λ (x : Staff). has_row old.cities x.person.city) _ rows.staff (λ (x : Staff) is. g.cities x.person.city is) h.staff_cities;
 }
-
--- who isn't missing, and isn't of another branch, is of that one
-is_of_branch : (b : ℕ) (rows : List Staff) → is_empty rows ≡ false → list_any (λ (x : Staff). not (x.branch == b)) rows ≡ false → list_any (λ (x : Staff). x.branch == b) rows ≡ true
-is_of_branch b [] e f = absurd (true≢false e)
-is_of_branch b (row ∷ rows) e f = rw (not-false (row.branch == b) (or_parts (not (row.branch == b)) _ f).0)
 
 -- what each list of rows names, one after another
 names_of : (named rows : Catalogue) → list_all (λ (it : City). has_row named.countries it.country) rows.cities ≡ true
@@ -112,37 +107,19 @@ names_acted (StaffLeaves s) it old none = let h = names_grow it (office_acted (S
 names_acted (SetManager b s) it old none = let h = names_grow it (office_acted (SetManager b s) it) it (office_grows (SetManager b s) it) old in
     names_of _ _ h.city_countries h.film_languages h.film_categories h.cast_films h.cast_actors
     (all_set (λ (x : Branch). has_row it.cities x.city) b (λ (x : Branch). record x { manager = Some s }) it.branches h.branch_cities (λ x is. is))
-    (λ c. all_at_set (λ (x : Branch). list_all (is_staff_of c it.staff) (option_to_list x.manager)) c b (λ (x : Branch). record x { manager = Some s }) it.branches (h.managers c) (λ same x is. let of : is_staff_of b it.staff s ≡ true = is_of_branch b (at s it.staff) (or_parts (lacks it.staff s) _ none.0).0 (or_parts (lacks it.branches b) _ none.1.0).1 in rw (same, of)))
+    (λ c. all_at_set (λ (x : Branch). list_all (is_staff_of c it.staff) (option_to_list x.manager)) c b (λ (x : Branch). record x { manager = Some s }) it.branches (h.managers c) (λ same x is. let of : is_staff_of b it.staff s ≡ true = some_passes (λ (x : Staff). x.branch == b) (at s it.staff) (or_parts (lacks it.staff s) _ none.0).0 (or_parts (lacks it.branches b) _ none.1.0).1 in rw (same, of)))
     h.staff_branches h.staff_cities
 names_acted act it old none = let h = names_grow it (office_acted act it) it (office_grows act it) old in
     names_of _ _ h.city_countries h.film_languages h.film_categories h.cast_films h.cast_actors h.branch_cities h.managers h.staff_branches h.staff_cities
 
 -- ---- sizes, with one key more
 
-stays_fit : (n k m : ℕ) → m ≡ k + 1 → n ≤ k + 3 → n ≤ m + 3
-stays_fit n k m e le = omega (arith, e, le)
-
-grown_fits : {A : Type 0} (xs : List A) (x : A) (k m : ℕ) → m ≡ k + 1 → length xs ≤ k + 3 → length (xs ++ x ∷ []) ≤ m + 3
-grown_fits xs x k m e le = let l = length-append xs (x ∷ []) in omega (arith, e, l, le)
-
-set_fits : {A : Type 0} (n : ℕ) (f : A → A) (xs : List A) (k m : ℕ) → m ≡ k + 1 → length xs ≤ k + 3 → length (set_at n f xs) ≤ m + 3
-set_fits n f xs k m e le = let l = length_set n f xs in omega (arith, e, l, le)
+-- of a list with one row more, and of one with a row that is set
+ruleset lengths = (length-append, length_set)
 
 sizes_acted : (act : OfficeAct) (it : Catalogue) (k : OfficeKept) → HasSharedSizes it → HasSharedSizes (record (office_acted act it) { kept = it.kept ++ k ∷ [] })
-sizes_acted (AddCountry name) it k h = let l = length-append it.kept (k ∷ []) in record { casts = stays_fit _ _ _ l h.casts; countries = grown_fits it.countries name _ _ l h.countries; cities = stays_fit _ _ _ l h.cities; languages = stays_fit _ _ _ l h.languages; categories = stays_fit _ _ _ l h.categories; actors = stays_fit _ _ _ l h.actors; films = stays_fit _ _ _ l h.films; branches = stays_fit _ _ _ l h.branches; staff = stays_fit _ _ _ l h.staff }
-sizes_acted (AddCity city) it k h = let l = length-append it.kept (k ∷ []) in record { casts = stays_fit _ _ _ l h.casts; countries = stays_fit _ _ _ l h.countries; cities = grown_fits it.cities city _ _ l h.cities; languages = stays_fit _ _ _ l h.languages; categories = stays_fit _ _ _ l h.categories; actors = stays_fit _ _ _ l h.actors; films = stays_fit _ _ _ l h.films; branches = stays_fit _ _ _ l h.branches; staff = stays_fit _ _ _ l h.staff }
-sizes_acted (AddLanguage name) it k h = let l = length-append it.kept (k ∷ []) in record { casts = stays_fit _ _ _ l h.casts; countries = stays_fit _ _ _ l h.countries; cities = stays_fit _ _ _ l h.cities; languages = grown_fits it.languages name _ _ l h.languages; categories = stays_fit _ _ _ l h.categories; actors = stays_fit _ _ _ l h.actors; films = stays_fit _ _ _ l h.films; branches = stays_fit _ _ _ l h.branches; staff = stays_fit _ _ _ l h.staff }
-sizes_acted (AddCategory name) it k h = let l = length-append it.kept (k ∷ []) in record { casts = stays_fit _ _ _ l h.casts; countries = stays_fit _ _ _ l h.countries; cities = stays_fit _ _ _ l h.cities; languages = stays_fit _ _ _ l h.languages; categories = grown_fits it.categories name _ _ l h.categories; actors = stays_fit _ _ _ l h.actors; films = stays_fit _ _ _ l h.films; branches = stays_fit _ _ _ l h.branches; staff = stays_fit _ _ _ l h.staff }
-sizes_acted (AddActor actor) it k h = let l = length-append it.kept (k ∷ []) in record { casts = stays_fit _ _ _ l h.casts; countries = stays_fit _ _ _ l h.countries; cities = stays_fit _ _ _ l h.cities; languages = stays_fit _ _ _ l h.languages; categories = stays_fit _ _ _ l h.categories; actors = grown_fits it.actors actor _ _ l h.actors; films = stays_fit _ _ _ l h.films; branches = stays_fit _ _ _ l h.branches; staff = stays_fit _ _ _ l h.staff }
-sizes_acted (AddFilm film) it k h = let l = length-append it.kept (k ∷ []) in record { casts = stays_fit _ _ _ l h.casts; countries = stays_fit _ _ _ l h.countries; cities = stays_fit _ _ _ l h.cities; languages = stays_fit _ _ _ l h.languages; categories = stays_fit _ _ _ l h.categories; actors = stays_fit _ _ _ l h.actors; films = grown_fits it.films (record film { withdrawn = false }) _ _ l h.films; branches = stays_fit _ _ _ l h.branches; staff = stays_fit _ _ _ l h.staff }
-sizes_acted (PriceFilm f rate) it k h = let l = length-append it.kept (k ∷ []) in record { casts = stays_fit _ _ _ l h.casts; countries = stays_fit _ _ _ l h.countries; cities = stays_fit _ _ _ l h.cities; languages = stays_fit _ _ _ l h.languages; categories = stays_fit _ _ _ l h.categories; actors = stays_fit _ _ _ l h.actors; films = set_fits f (λ (x : Film). record x { rate = rate }) it.films _ _ l h.films; branches = stays_fit _ _ _ l h.branches; staff = stays_fit _ _ _ l h.staff }
-sizes_acted (WithdrawFilm f) it k h = let l = length-append it.kept (k ∷ []) in record { casts = stays_fit _ _ _ l h.casts; countries = stays_fit _ _ _ l h.countries; cities = stays_fit _ _ _ l h.cities; languages = stays_fit _ _ _ l h.languages; categories = stays_fit _ _ _ l h.categories; actors = stays_fit _ _ _ l h.actors; films = set_fits f (λ (x : Film). record x { withdrawn = true }) it.films _ _ l h.films; branches = stays_fit _ _ _ l h.branches; staff = stays_fit _ _ _ l h.staff }
-sizes_acted (AddCast cast) it k h = let l = length-append it.kept (k ∷ []) in record { casts = grown_fits it.casts cast _ _ l h.casts; countries = stays_fit _ _ _ l h.countries; cities = stays_fit _ _ _ l h.cities; languages = stays_fit _ _ _ l h.languages; categories = stays_fit _ _ _ l h.categories; actors = stays_fit _ _ _ l h.actors; films = stays_fit _ _ _ l h.films; branches = stays_fit _ _ _ l h.branches; staff = stays_fit _ _ _ l h.staff }
-sizes_acted (AddBranch branch) it k h = let l = length-append it.kept (k ∷ []) in record { casts = stays_fit _ _ _ l h.casts; countries = stays_fit _ _ _ l h.countries; cities = stays_fit _ _ _ l h.cities; languages = stays_fit _ _ _ l h.languages; categories = stays_fit _ _ _ l h.categories; actors = stays_fit _ _ _ l h.actors; films = stays_fit _ _ _ l h.films; branches = grown_fits it.branches (record branch { manager = None }) _ _ l h.branches; staff = stays_fit _ _ _ l h.staff }
-sizes_acted (AddStaff staff) it k h = let l = length-append it.kept (k ∷ []) in record { casts = stays_fit _ _ _ l h.casts; countries = stays_fit _ _ _ l h.countries; cities = stays_fit _ _ _ l h.cities; languages = stays_fit _ _ _ l h.languages; categories = stays_fit _ _ _ l h.categories; actors = stays_fit _ _ _ l h.actors; films = stays_fit _ _ _ l h.films; branches = stays_fit _ _ _ l h.branches; staff = grown_fits it.staff (record staff { gone = false }) _ _ l h.staff }
-sizes_acted (StaffLeaves s) it k h = let l = length-append it.kept (k ∷ []) in record { casts = stays_fit _ _ _ l h.casts; countries = stays_fit _ _ _ l h.countries; cities = stays_fit _ _ _ l h.cities; languages = stays_fit _ _ _ l h.languages; categories = stays_fit _ _ _ l h.categories; actors = stays_fit _ _ _ l h.actors; films = stays_fit _ _ _ l h.films; branches = stays_fit _ _ _ l h.branches; staff = set_fits s (λ (x : Staff). record x { gone = true }) it.staff _ _ l h.staff }
-sizes_acted (SetManager b s) it k h = let l = length-append it.kept (k ∷ []) in record { casts = stays_fit _ _ _ l h.casts; countries = stays_fit _ _ _ l h.countries; cities = stays_fit _ _ _ l h.cities; languages = stays_fit _ _ _ l h.languages; categories = stays_fit _ _ _ l h.categories; actors = stays_fit _ _ _ l h.actors; films = stays_fit _ _ _ l h.films; branches = set_fits b (λ (x : Branch). record x { manager = Some s }) it.branches _ _ l h.branches; staff = stays_fit _ _ _ l h.staff }
-sizes_acted (ChooseRule rule) it k h = let l = length-append it.kept (k ∷ []) in record { casts = stays_fit _ _ _ l h.casts; countries = stays_fit _ _ _ l h.countries; cities = stays_fit _ _ _ l h.cities; languages = stays_fit _ _ _ l h.languages; categories = stays_fit _ _ _ l h.categories; actors = stays_fit _ _ _ l h.actors; films = stays_fit _ _ _ l h.films; branches = stays_fit _ _ _ l h.branches; staff = stays_fit _ _ _ l h.staff }
+sizes_acted (AddCountry name) it k h = record { casts = simp lengths (omega arith); countries = simp lengths (omega arith); cities = simp lengths (omega arith); languages = simp lengths (omega arith); categories = simp lengths (omega arith); actors = simp lengths (omega arith); films = simp lengths (omega arith); branches = simp lengths (omega arith); staff = simp lengths (omega arith) }
+sizes_acted act it k h = record { casts = simp lengths (omega arith); countries = simp lengths (omega arith); cities = simp lengths (omega arith); languages = simp lengths (omega arith); categories = simp lengths (omega arith); actors = simp lengths (omega arith); films = simp lengths (omega arith); branches = simp lengths (omega arith); staff = simp lengths (omega arith) }
 
 -- ---- doubles
 
@@ -174,13 +151,6 @@ tokens_acted act it h none = record { tokens = h.tokens; office_token = h.office
 
 -- ---- one command
 
-pub none_kept : (command : OfficeCommand) (ks : List OfficeKept) (v : Verdict) → office_resent command ks v ≡ Accepted → (ks ≡ []) × (v ≡ Accepted)
-none_kept command [] v e = (refl, e)
-none_kept command (k ∷ ks) v e = elim (cases_Bool (same_office k.command command)) [
-  | inl is ↦ let no : Again k.reply ≡ Accepted = rw is at e in absurd (false≢true (ap is_accepted no))
-  | inr isnt ↦ let no : Refused _ ≡ Accepted = rw isnt at e in absurd (false≢true (ap is_accepted no))
-]
-
 pub done_grows : (command : OfficeCommand) (it : Catalogue) → Grows it (office_done command it)
 done_grows command it = let g = office_grows command.act it in record { countries = g.countries; cities = g.cities; languages = g.languages; categories = g.categories; actors = g.actors; films = g.films; branches = g.branches; staff = g.staff }
 
@@ -188,7 +158,7 @@ pub good_done : (rules sizes : Rules) (command : OfficeCommand) (it : Catalogue)
 good_done rules sizes command it most good e =
     let k : OfficeKept = record { command = command; reply = office_text command it } in
     let tests = (Full, nat_le rules.commands (length it.kept)) ∷ office_refusals it command.act in
-    let new = none_kept command (filter (λ (k : OfficeKept). bytes_eq k.command.key command.key) it.kept) (first tests) e in
+    let new = nothing_kept _ _ (filter (λ (k : OfficeKept). bytes_eq k.command.key command.key) it.kept) (first tests) e in
     let none = none_hold tests new.1 in
     let names = names_acted command.act it good.names none.1 in
     let tokens = tokens_acted command.act it (record { tokens = good.tokens; office_token = good.office_token }) none.1 in

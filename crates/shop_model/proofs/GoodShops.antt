@@ -1,33 +1,23 @@
 -- Each step keeps what holds of each branch's shop.
-use Rattle.shop_model.proofs.Common.{◌≡◌, inl, inr, ℕ, ◌+◌, ◌-◌, ◌≤◌, ◌<◌, List, [], ◌∷◌, ◌++◌, suc, length, map, filter, Bool, true, false, not, None, Some, refl, sym, subst, ap, ◌∙◌, arith, length-append, ⊤, ◌==◌, ◌&&◌, ◌||◌, nat_le, nat_lt, list_any, list_all, cases_Bool, or_parts, and_parts, not-true, true≢false, nat_tests, map_push, Row, Owned, of, is_of, next, put_all, AreNumbered, set_at, set_all, arrived, total, Moment, is_by, same_moment, Customer, Rental, Payment, Arrival, Stock, Copies, BadLine, Act, AddCustomer, Import, Receive, Command, Rules, Kept, act_refusals, is_full, is_before, new_copies, new_from, new_in, are_lines, arrival, here, films_in, incoming, reply_text, Books, Line, Consignment, Table, Customers, CopyRows, Rentals, TermRows, Payments, RowOf, rows_of, Edit, Put, Set, PutLot, Append, Update, edited, edits_of, book_acted, book_done, shop_of, unmarked, as_parcel, imported, unpacked, come, HasNumbers, same_rental, are_apart, is_within, returned_by, rental_by, rises, IsGoodShop}
+use Rattle.shop_model.proofs.Common.{◌≡◌, inl, inr, ℕ, ◌+◌, ◌-◌, ◌≤◌, ◌<◌, List, [], ◌∷◌, ◌++◌, suc, length, map, filter, Bool, true, false, not, None, Some, refl, sym, subst, ap, ◌∙◌, arith, length-append, ⊤, ◌==◌, ◌&&◌, nat_le, nat_lt, list_any, list_all, cases_Bool, or_parts, and_parts, true≢false, nat_tests, map_push, Row, Owned, of, next, put_all, set_at, set_all, arrived, total, Moment, is_by, same_moment, Customer, Rental, Payment, Arrival, Stock, Copies, BadLine, Act, AddCustomer, Import, Receive, Command, Rules, Kept, act_refusals, is_full, is_before, new_copies, new_from, new_in, are_lines, arrival, here, films_in, incoming, reply_text, Books, Line, Consignment, Table, Customers, CopyRows, Rentals, TermRows, Payments, RowOf, rows_of, Edit, Put, Set, edited, edits_of, book_acted, book_done, shop_of, unmarked, as_parcel, imported, unpacked, come, HasNumbers, same_rental, are_apart, is_within, returned_by, rental_by, rises, IsGoodShop, AreRowsNumbered}
 use Rattle.std.specs.Prelude.{Option}
+use Rattle.std.proofs.lemmas.List.Folds.{list_all-append, list_all-map}
 use Rattle.shop_model.specs.Rows.{put}
-use Rattle.shop_model.proofs.RowLemmas.{same_test, more_yes, length_map, put_own, put_all_counted, set_rows_own, set_rows_counted}
-use Rattle.shop_model.proofs.EditLemmas.{by_table, by_others, AskedOfEach, each_keeps, grown, new_lots, new_sends, rows_edited, lots_edited}
+use Rattle.shop_model.proofs.RowLemmas.{same_test, more_yes, length_map, put_own, put_all_counted, set_rows_own, set_rows_counted, turned}
+use Rattle.shop_model.proofs.EditLemmas.{by_table, AskedOfEach, each_keeps, grown, new_lots, new_sends, rows_edited, lots_edited}
 use Rattle.shop_model.proofs.ShopLemmas.{incoming_come, last_own}
-use Rattle.shop_model.proofs.NumberLemmas.{tables_numbered, sends_numbered, sends_edited}
+use Rattle.shop_model.proofs.NumberLemmas.{sends_numbered, sends_edited}
 use Rattle.shop_model.proofs.Isolation.{NoneHold}
+use Rattle.shop_model.proofs.LinkLemmas.{all_set, any_same, different_more, different_set}
 
 -- ---- lists
 
 pub all_more : {A : Type 0} (p : A → Bool) (xs : List A) (x : A) → list_all p xs ≡ true → p x ≡ true → list_all p (xs ++ x ∷ []) ≡ true
-all_more p [] x all is = rw is
-all_more p (y ∷ ys) x all is = let h = and_parts (p y) (list_all p ys) all in rw h.0 (all_more p ys x h.1 is)
+all_more p xs x all is = rw (list_all-append p xs (x ∷ []), all, is)
 
 pub all_weaker : {A : Type 0} (p q : A → Bool) (xs : List A) → ((x : A) → p x ≡ true → q x ≡ true) → list_all p xs ≡ true → list_all q xs ≡ true
 all_weaker p q [] weaker all = refl
 all_weaker p q (x ∷ xs) weaker all = let h = and_parts (p x) (list_all p xs) all in rw (weaker x h.0) (all_weaker p q xs weaker h.1)
-
-pub all_set : {A : Type 0} (p : A → Bool) (n : ℕ) (f : A → A) (xs : List A) → list_all p xs ≡ true → ((x : A) → p x ≡ true → p (f x) ≡ true) → list_all p (set_at n f xs) ≡ true
-all_set p n f [] all keeps = refl
-all_set p n f (x ∷ xs) all keeps = let h = and_parts (p x) (list_all p xs) all in elim (cases_Bool (n == 1)) [
-  | inl is ↦ rw (is, keeps x h.0) h.1
-  | inr isnt ↦ rw (isnt, h.0) (all_set p (n - 1) f xs h.1 keeps)
-]
-
-pub all_map : {A B : Type 0} (p : B → Bool) (g : A → B) (xs : List A) → list_all p (map g xs) ≡ list_all (λ x. p (g x)) xs
-all_map p g [] = refl
-all_map p g (x ∷ xs) = ap (λ r. p (g x) && r) (all_map p g xs)
 
 pub length_set : {A : Type 0} (n : ℕ) (f : A → A) (xs : List A) → length (set_at n f xs) ≡ length xs
 length_set n f [] = refl
@@ -69,38 +59,19 @@ rises_more (n ∷ ms) m rise below =
 -- ---- rentals that are apart
 
 apart_more : (rs : List Rental) (r : Rental) → are_apart rs ≡ true → list_any (λ (it : Rental). same_moment it.rented r.rented && it.copy == r.copy && it.customer == r.customer) rs ≡ false → are_apart (rs ++ r ∷ []) ≡ true
-apart_more [] r is none = refl
-apart_more (s ∷ rs) r is none =
-    let h = and_parts (not (list_any (same_rental s) rs)) (are_apart rs) is in
-    let n = or_parts (same_moment s.rented r.rented && s.copy == r.copy && s.customer == r.customer) _ none in
-    let turned : same_rental s r ≡ false = sym (same_turned s.rented r.rented s.copy r.copy s.customer r.customer) ∙ n.0 in
-    rw (any_more (same_rental s) rs r (not-true _ h.0) turned) (apart_more rs r h.1 n.1) where
-      any_more : (p : Rental → Bool) (xs : List Rental) (x : Rental) → list_any p xs ≡ false → p x ≡ false → list_any p (xs ++ x ∷ []) ≡ false
-      any_more p [] x none isnt = rw isnt
-      any_more p (y ∷ ys) x none isnt = let h = or_parts (p y) (list_any p ys) none in rw h.0 (any_more p ys x h.1 isnt)
+apart_more rs r is none = different_more same_rental rs r is (any_same _ _ rs (λ s. same_turned r.rented s.rented r.copy s.copy r.customer s.customer) ∙ none) where
+  moment_turned : (a b : Moment) → same_moment a b ≡ same_moment b a
+  moment_turned a b = rw (turned a.year b.year, turned a.month b.month, turned a.day b.day, turned a.hour b.hour, turned a.minute b.minute, turned a.second b.second)
 
-      turn : (a b : ℕ) → (a == b) ≡ (b == a)
-      turn a b = grind (arith, nat_tests)
-
-      moment_turned : (a b : Moment) → same_moment a b ≡ same_moment b a
-      moment_turned a b = rw (turn a.year b.year, turn a.month b.month, turn a.day b.day, turn a.hour b.hour, turn a.minute b.minute, turn a.second b.second)
-
-      same_turned : (a b : Moment) (c d e f : ℕ) → (same_moment a b && c == d && e == f) ≡ (same_moment b a && d == c && f == e)
-      same_turned a b c d e f = rw (moment_turned a b, turn c d, turn e f)
+  same_turned : (a b : Moment) (c d e f : ℕ) → (same_moment a b && c == d && e == f) ≡ (same_moment b a && d == c && f == e)
+  same_turned a b c d e f = rw (moment_turned a b, turned c d, turned e f)
 
 -- what a change leaves of a rental, so that rentals stay apart
 abbrev pub KeepsRented : (Rental → Rental) → Type 0
 KeepsRented f = (it : Rental) → ((f it).rented ≡ it.rented) × ((f it).copy ≡ it.copy) × ((f it).customer ≡ it.customer)
 
 apart_set : (n : ℕ) (f : Rental → Rental) (rs : List Rental) → KeepsRented f → are_apart (set_at n f rs) ≡ are_apart rs
-apart_set n f [] keeps = refl
-apart_set n f (r ∷ rs) keeps = elim (cases_Bool (n == 1)) [
-  | inl is ↦ rw (is, (keeps r).0, (keeps r).1, (keeps r).2)
-  | inr isnt ↦ rw (isnt, any_set r (n - 1) rs, apart_set (n - 1) f rs keeps)
-] where
-  any_set : (r : Rental) (n : ℕ) (rs : List Rental) → list_any (same_rental r) (set_at n f rs) ≡ list_any (same_rental r) rs
-  any_set r n [] = refl
-  any_set r n (s ∷ rs) = elim (cases_Bool (n == 1)) [ inl is ↦ rw (is, (keeps s).0, (keeps s).1, (keeps s).2) | inr isnt ↦ rw isnt (ap (λ a. same_rental r s || a) (any_set r (n - 1) rs)) ]
+apart_set n f rs keeps = different_set same_rental n f rs (λ r s. rw ((keeps s).0, (keeps s).1, (keeps s).2)) (λ r s. rw ((keeps r).0, (keeps r).1, (keeps r).2))
 
 -- ---- sizes
 
@@ -136,7 +107,7 @@ AreGood last Payments its = (list_all (λ (p : Payment). is_within last p.paid) 
 AreGood last t its = ⊤
 
 -- as the last moment moves on
-good_later : (sizes : Rules) (b : ℕ) (moment : Moment) (books : Books) → IsGoodShop sizes (shop_of b books) → is_before moment (shop_of b books).last ≡ false → (t : Table) → AreGood (Some moment) t (of b (rows_of t books))
+good_later : (sizes : Rules) (b : ℕ) (moment : Moment) (books : Books) → IsGoodShop sizes (shop_of b books) → is_before moment (shop_of b books).last ≡ false → (t : Table) → AreGood (Some moment) t (of b (rows_of books t))
 good_later sizes b moment books good on Customers = all_weaker _ _ (of b books.customers) (λ (c : Customer) by. moves_on (shop_of b books).last moment c.created on by) good.created
 good_later sizes b moment books good on Rentals = (good.apart, all_weaker _ _ (of b books.rentals) (still_by (shop_of b books).last moment on) good.rented, good.rentals_rise)
 good_later sizes b moment books good on Payments = (all_weaker _ _ (of b books.payments) (λ (p : Payment) by. moves_on (shop_of b books).last moment p.paid on by) good.paid, good.payments_rise)
@@ -160,11 +131,11 @@ good_put moment Customers it its is good = all_more _ its it good (rw is (self_b
 good_put moment Rentals it its is good = (
   apart_more its it good.0 (rw is.0 is.2),
   all_more _ its it good.1 (rw (is.0, is.1, self_by moment)),
-  rw (map_push (λ (r : Rental). r.rented) its it, is.0) (rises_more (map (λ (r : Rental). r.rented) its) moment good.2 (rw (all_map (λ n. is_by n moment) (λ (r : Rental). r.rented) its) (all_weaker _ _ its (λ (r : Rental) by. (and_parts (is_by r.rented moment) _ by).0) good.1))),
+  rw (map_push (λ (r : Rental). r.rented) its it, is.0) (rises_more (map (λ (r : Rental). r.rented) its) moment good.2 (rw (list_all-map (λ n. is_by n moment) (λ (r : Rental). r.rented) its) (all_weaker _ _ its (λ (r : Rental) by. (and_parts (is_by r.rented moment) _ by).0) good.1))),
 )
 good_put moment Payments it its is good = (
   all_more _ its it good.0 (rw is (self_by moment)),
-  rw (map_push (λ (p : Payment). p.paid) its it, is) (rises_more (map (λ (p : Payment). p.paid) its) moment good.1 (rw (all_map (λ n. is_by n moment) (λ (p : Payment). p.paid) its) good.0)),
+  rw (map_push (λ (p : Payment). p.paid) its it, is) (rises_more (map (λ (p : Payment). p.paid) its) moment good.1 (rw (list_all-map (λ n. is_by n moment) (λ (p : Payment). p.paid) its) good.0)),
 )
 good_put moment t it its is good = tt
 
@@ -205,9 +176,7 @@ good_all b moment t (make ∷ makes) rows fresh good =
 good_puts : (b : ℕ) (moment : Moment) (t : Table) (makes : List (ℕ → RowOf t)) (rows : List (Row (RowOf t))) → AreFreshOf moment t makes (of b rows) → AreGood (Some moment) t (of b rows) → AreGood (Some moment) t (of b (put_all b makes rows))
 good_puts b moment CopyRows makes rows fresh good = tt
 good_puts b moment TermRows makes rows fresh good = tt
-good_puts b moment Customers makes rows fresh good = good_all b moment Customers makes rows fresh good
-good_puts b moment Rentals makes rows fresh good = good_all b moment Rentals makes rows fresh good
-good_puts b moment Payments makes rows fresh good = good_all b moment Payments makes rows fresh good
+good_puts b moment t makes rows fresh good = good_all b moment t makes rows fresh good
 
 good_sets : (moment : Moment) (t : Table) (ns : List ℕ) (f : RowOf t → RowOf t) (its : List (RowOf t)) → KeepsGood moment t f → AreGood (Some moment) t its → AreGood (Some moment) t (set_all ns f its)
 good_sets moment t [] f its keeps good = good
@@ -215,24 +184,22 @@ good_sets moment t (n ∷ ns) f its keeps good = good_sets moment t ns f (set_at
 
 -- what an edit is asked
 abbrev pub IsGoodEdit : ℕ → Moment → Books → Edit → Type 0
-IsGoodEdit b moment books (Put t makes) = AreFreshOf moment t makes (of b (rows_of t books))
+IsGoodEdit b moment books (Put t makes) = AreFreshOf moment t makes (of b (rows_of books t))
 IsGoodEdit b moment books (Set t ns f) = KeepsGood moment t f
 IsGoodEdit b moment books edit = ⊤
 
 abbrev IsTableGood : ℕ → Moment → (t : Table) → List (Row (RowOf t)) → Type 0
-IsTableGood b moment t rows = AreGood (Some moment) t (of b rows) × ((c : ℕ) → AreNumbered (is_of c) (λ (row : Row (RowOf t)). row.number) rows)
+IsTableGood b moment t rows = AreGood (Some moment) t (of b rows) × (AreRowsNumbered t rows)
 
 abbrev AreTablesGood : ℕ → Moment → Books → Type 0
-AreTablesGood b moment books = (t : Table) → IsTableGood b moment t (rows_of t books)
+AreTablesGood b moment books = (t : Table) → IsTableGood b moment t (rows_of books t)
 
 good_edited : (b : ℕ) (moment : Moment) (books : Books) (edit : Edit) → IsGoodEdit b moment books edit → AreTablesGood b moment books → AreTablesGood b moment (edited b edit books)
 good_edited b moment books (Put t makes) asked good =
-    by_table (IsTableGood b moment) t _ books (good_puts b moment t makes (rows_of t books) asked (good t).0, λ c. put_all_counted c b makes (rows_of t books) ((good t).1 c)) good
+    by_table (IsTableGood b moment) t _ books (good_puts b moment t makes (rows_of books t) asked (good t).0, λ c. put_all_counted c b makes (rows_of books t) ((good t).1 c)) good
 good_edited b moment books (Set t ns f) asked good =
-    by_table (IsTableGood b moment) t _ books (rw (set_rows_own b ns f (rows_of t books) ((good t).1 b)) (good_sets moment t ns f (of b (rows_of t books)) asked (good t).0), λ c. set_rows_counted c b ns f (rows_of t books) ((good t).1 c)) good
-good_edited b moment books (PutLot lot) asked good = by_others (IsTableGood b moment) _ books.consignments books good
-good_edited b moment books (Append it) asked good = by_others (IsTableGood b moment) books.lots _ books good
-good_edited b moment books (Update test f) asked good = by_others (IsTableGood b moment) books.lots _ books good
+    by_table (IsTableGood b moment) t _ books (rw (set_rows_own b ns f (rows_of books t) ((good t).1 b)) (good_sets moment t ns f (of b (rows_of books t)) asked (good t).0), λ c. set_rows_counted c b ns f (rows_of books t) ((good t).1 c)) good
+good_edited b moment books edit asked good = good
 
 -- ---- a command
 
@@ -268,7 +235,7 @@ good_shop_done rules sizes b command books most fit has good full on none asked 
     let after = book_acted rules b command command.act books in
     let shop = shop_of b books in
     let later = good_later sizes b command.moment books good on in
-    let all = each_keeps (AreTablesGood b command.moment) (IsGoodEdit b command.moment) b (good_edited b command.moment) edits books asked (λ t. (later t, tables_numbered books has t)) in
+    let all = each_keeps (AreTablesGood b command.moment) (IsGoodEdit b command.moment) b (good_edited b command.moment) edits books asked (λ t. (later t, has.rows t)) in
     let small = edits_small rules b command command.act books in
     let grew = rows_edited b b edits books in
     let k : Kept = record { command = command; reply = reply_text rules command shop } in

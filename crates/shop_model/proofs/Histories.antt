@@ -1,5 +1,5 @@
 -- A run grows by one event at a time.
-use Rattle.shop_model.proofs.Common.{◌≡◌, inl, inr, List, [], ◌∷◌, ◌++◌, length, map, filter, Bool, true, false, not, refl, sym, ap, ap₂, ◌∙◌, arith, append-nil, length-append, ◌==◌, ◌&&◌, ◌||◌, if◌then◌else◌, list_all, or-false, not-true, cases_Bool, and_parts, false≢true, true≢false, map-append, filter-append, OfficeAsk, Rules, TooLong, NoCounter, NoRoute, BadBody, KeyUsed, Full, MomentBack, NoStaff, NoCustomer, CustomerInactive, NoCopy, CopyNotHere, CopyOut, FilmWithdrawn, SameMoment, NoRental, RentalReturned, WrongCustomer, NoFilm, LotIn, BadCsv, NoBranch, OwnBranch, NoArrival, ArrivalReceived, BadLines, BadThreshold, TokenTaken, NoSharedRow, Already, Usage, Memory, Size, StoreFailed, Reply, Sorry, Done, Shows, Answer, answer_of, problem_answer, Books, Event, Caller, counted_one, caller_in, reply_in, after, run, last_books, is_decided, is_store_failure, is_answer, outcome_of, counted_in, fails_for_good, has_failed, IsRun, IsStep}
+use Rattle.shop_model.proofs.Common.{◌≡◌, inl, inr, List, [], ◌∷◌, ◌++◌, length, map, filter, true, false, not, refl, sym, ap, ap₂, ◌∙◌, arith, append-nil, length-append, ◌==◌, ◌||◌, list_all, or-false, not-true, cases_Bool, and_parts, false≢true, true≢false, map-append, filter-append, OfficeAsk, Rules, TooLong, Memory, Size, StoreFailed, Reply, Sorry, Done, Shows, Answer, answer_of, problem_answer, Books, Event, Caller, counted_one, caller_in, reply_in, after, run, last_books, is_decided, is_store_failure, is_answer, outcome_of, counted_in, fails_for_good, has_failed, IsRun, IsStep, list_any-append, or_parts}
 use Rattle.std.specs.Prelude.{◌⊎◌}
 use Rattle.shop_model.specs.Json.{escape_byte}
 use Rattle.shop_model.proofs.Origins.{all_append}
@@ -7,50 +7,13 @@ use Rattle.shop_model.proofs.Origins.{all_append}
 -- a decision's status is never the store's
 pub decided_is : (reply : Reply) → is_decided (answer_of reply) ≡ true
 decided_is (Sorry TooLong) = refl
-decided_is (Sorry NoCounter) = refl
-decided_is (Sorry NoRoute) = refl
-decided_is (Sorry BadBody) = refl
-decided_is (Sorry KeyUsed) = refl
-decided_is (Sorry Full) = refl
-decided_is (Sorry MomentBack) = refl
-decided_is (Sorry NoStaff) = refl
-decided_is (Sorry NoCustomer) = refl
-decided_is (Sorry CustomerInactive) = refl
-decided_is (Sorry NoCopy) = refl
-decided_is (Sorry CopyNotHere) = refl
-decided_is (Sorry CopyOut) = refl
-decided_is (Sorry FilmWithdrawn) = refl
-decided_is (Sorry SameMoment) = refl
-decided_is (Sorry NoRental) = refl
-decided_is (Sorry RentalReturned) = refl
-decided_is (Sorry WrongCustomer) = refl
-decided_is (Sorry NoFilm) = refl
-decided_is (Sorry LotIn) = refl
-decided_is (Sorry (BadCsv line)) = refl
-decided_is (Sorry NoBranch) = refl
-decided_is (Sorry OwnBranch) = refl
-decided_is (Sorry NoArrival) = refl
-decided_is (Sorry ArrivalReceived) = refl
-decided_is (Sorry BadLines) = refl
-decided_is (Sorry BadThreshold) = refl
-decided_is (Sorry TokenTaken) = refl
-decided_is (Sorry NoSharedRow) = refl
-decided_is (Sorry Already) = refl
-decided_is (Sorry Usage) = refl
+decided_is (Sorry refusal) = refl
 decided_is (Done text) = refl
 decided_is (Shows shown) = refl
-
-memory_answer : is_answer (problem_answer Memory) ≡ true
-unfolding escape_byte
-memory_answer = refl
 
 pub memory_failure : is_store_failure (problem_answer Memory) ≡ false
 unfolding escape_byte
 memory_failure = refl
-
-size_answer : is_answer (problem_answer Size) ≡ true
-unfolding escape_byte
-size_answer = refl
 
 pub size_failure : is_store_failure (problem_answer Size) ≡ false
 unfolding escape_byte
@@ -67,17 +30,10 @@ failed_failure = refl
 abbrev IsRoom : Answer → Type 0
 IsRoom answer = (answer ≡ problem_answer Memory) ⊎ (answer ≡ problem_answer Size)
 
-room_answer : (answer : Answer) → IsRoom answer → is_answer answer ≡ true
-room_answer answer (inl is) = rw is memory_answer
-room_answer answer (inr is) = rw is size_answer
-
-room_failure : (answer : Answer) → IsRoom answer → is_store_failure answer ≡ false
-room_failure answer (inl is) = rw is memory_failure
-room_failure answer (inr is) = rw is size_failure
-
-room_decided : (answer : Answer) → IsRoom answer → is_decided answer ≡ false
-room_decided answer (inl is) = rw is refl
-room_decided answer (inr is) = rw is refl
+room_is : (answer : Answer) → IsRoom answer → (is_answer answer ≡ true) × (is_store_failure answer ≡ false) × (is_decided answer ≡ false)
+unfolding escape_byte
+room_is answer (inl is) = rw is (refl, refl, refl)
+room_is answer (inr is) = rw is (refl, refl, refl)
 
 pub decided_failure : (answer : Answer) → is_decided answer ≡ true → is_store_failure answer ≡ false
 decided_failure answer is = elim (cases_Bool (answer.status == 503)) [
@@ -131,37 +87,20 @@ counted_same (e ∷ events) (a ∷ answers) event answer same none =
 
 none_failed : (answers : List Answer) → has_failed answers ≡ false → list_all (λ (a : Answer). not (is_store_failure a)) answers ≡ true
 none_failed [] h = refl
-none_failed (a ∷ answers) h = go (is_store_failure a) h (none_failed answers)
-  where
-    go : (b : Bool) → (b || has_failed answers) ≡ false → (has_failed answers ≡ false → list_all (λ (a : Answer). not (is_store_failure a)) answers ≡ true)
-        → (not b && list_all (λ (a : Answer). not (is_store_failure a)) answers) ≡ true
-    go true h more = let no : true ≡ false = h in cc
-    go false h more = more h
+none_failed (a ∷ answers) h = let parts = or_parts (is_store_failure a) (has_failed answers) h in rw parts.0 (none_failed answers parts.1)
 
 pub failed_more : (answers : List Answer) (answer : Answer) → has_failed (answers ++ answer ∷ []) ≡ (has_failed answers || is_store_failure answer)
-failed_more [] answer = or-false (is_store_failure answer)
-failed_more (a ∷ answers) answer = go (is_store_failure a) (failed_more answers answer)
-  where
-    go : (b : Bool) → has_failed (answers ++ answer ∷ []) ≡ (has_failed answers || is_store_failure answer) → (b || has_failed (answers ++ answer ∷ [])) ≡ ((b || has_failed answers) || is_store_failure answer)
-    go true more = refl
-    go false more = more
-
-all_more : (answers : List Answer) (answer : Answer) → list_all is_store_failure answers ≡ true → is_store_failure answer ≡ true → list_all is_store_failure (answers ++ answer ∷ []) ≡ true
-all_more answers answer all one = all_append is_store_failure answers (answer ∷ []) all (rw one refl)
+failed_more answers answer = list_any-append is_store_failure answers (answer ∷ []) ∙ ap (λ r. has_failed answers || r) (or-false (is_store_failure answer))
 
 stays_more : (answers : List Answer) (answer : Answer) → fails_for_good answers ≡ true → (has_failed answers ≡ true → is_store_failure answer ≡ true) → fails_for_good (answers ++ answer ∷ []) ≡ true
-stays_more [] answer good later = go (is_store_failure answer)
-  where
-    go : (b : Bool) → (if b then true else true) ≡ true
-    go true = refl
-    go false = refl
-stays_more (a ∷ answers) answer good later = go (is_store_failure a) good later (stays_more answers answer)
-  where
-    go : (b : Bool) → (if b then list_all is_store_failure answers else fails_for_good answers) ≡ true → ((b || has_failed answers) ≡ true → is_store_failure answer ≡ true)
-        → (fails_for_good answers ≡ true → (has_failed answers ≡ true → is_store_failure answer ≡ true) → fails_for_good (answers ++ answer ∷ []) ≡ true)
-        → (if b then list_all is_store_failure (answers ++ answer ∷ []) else fails_for_good (answers ++ answer ∷ [])) ≡ true
-    go true good later more = all_more answers answer good (later refl)
-    go false good later more = more good later
+stays_more [] answer good later = elim (cases_Bool (is_store_failure answer)) [ inl is ↦ rw is | inr isnt ↦ rw isnt ]
+stays_more (a ∷ answers) answer good later = elim (cases_Bool (is_store_failure a)) [
+  | inl failed ↦
+      let all : list_all is_store_failure answers ≡ true = rw failed at good in
+      let last : is_store_failure answer ≡ true = later (rw failed) in
+      rw failed (all_append is_store_failure answers (answer ∷ []) all (rw last refl))
+  | inr fine ↦ rw fine (stays_more answers answer (rw fine at good) (rw fine at later))
+]
 
 never_failed : (answers : List Answer) (answer : Answer) → (has_failed answers ≡ true → is_store_failure answer ≡ true) → is_store_failure answer ≡ false → has_failed answers ≡ false
 never_failed answers answer later isnt = elim (cases_Bool (has_failed answers)) [
@@ -209,10 +148,9 @@ run_more rules look events answers event answer old mid new r later (inl d) =
       books = d.books ∙ ap (λ (b : Books). after rules event b) r.books ∙ sym (last_append rules history (event ∷ []) old) ∙ ap (λ (es : List Event). last_books rules es old) (sym counts);
     }
 run_more rules look events answers event answer old mid new r later (inr (inl l)) =
-    let lacks = room_decided answer l.reply in
-    let sound = room_failure answer l.reply in
-    let one : one_counted event answer ≡ [] = rw (lacks, sound) refl in
-    run_idle rules look events answers event answer old mid new r later l.books lacks (room_answer answer l.reply) one
+    let room = room_is answer l.reply in
+    let one : one_counted event answer ≡ [] = rw (room.2, room.1) refl in
+    run_idle rules look events answers event answer old mid new r later l.books room.2 room.0 one
 run_more rules look events answers event answer old mid new r later (inr (inr f)) =
     let lacks : is_decided answer ≡ false = rw f.reply refl in
     let failed : is_store_failure answer ≡ true = rw f.reply failed_failure in

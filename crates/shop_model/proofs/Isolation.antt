@@ -1,41 +1,29 @@
 -- What a branch is told depends on its own shop, the catalogue and its view alone.
-use Rattle.shop_model.proofs.Common.{◌≡◌, inl, inr, ℕ, List, [], ◌∷◌, ◌++◌, filter, Bool, true, false, refl, sym, ap, subst, ◌∙◌, append_assoc, ⊤, ◌==◌, bytes_eq, cases_Bool, true≢false, false≢true, Moment, Act, AddCustomer, Dispatch, Command, OfficeAsk, Rules, Refusal, Kept, Shop, Catalogue, same_command, Verdict, Again, Refused, Accepted, first, resent, refusals, act_refusals, verdict, office_verdict, Reply, State, Request, Do, Office, Input, FromOffice, Own, done, office_done, if_accepted, moved, answers, replies, state_after, Books, Caller, Counter, HeadOffice, Nobody, shop_of, state_of, book_acted, book_done, branch_after, after_for, after, reply_for, reply_in, caller_in, is_counter, replies_to, run, parcel_seen, other_seen, office_seen, seen_of, view, HasNumbers, BranchesAreAlone, BranchesAreIsolated}
+use Rattle.shop_model.proofs.Common.{◌≡◌, inl, inr, ℕ, List, [], ◌∷◌, ◌++◌, filter, Bool, false, refl, sym, ap, subst, ◌∙◌, append_assoc, ⊤, ◌==◌, bytes_eq, cases_Bool, true≢false, Moment, Act, AddCustomer, Dispatch, Command, OfficeAsk, Rules, Refusal, Kept, Shop, Catalogue, Verdict, Again, Refused, Accepted, first, resent, refusals, act_refusals, verdict, office_verdict, Reply, State, Request, Do, Office, Input, FromOffice, Own, done, office_done, if_accepted, moved, answers, replies, state_after, Books, Caller, Counter, HeadOffice, Nobody, shop_of, state_of, book_acted, book_done, branch_after, after_for, after, reply_for, reply_in, caller_in, is_counter, replies_to, run, parcel_seen, other_seen, office_seen, seen_of, view, HasNumbers, BranchesAreAlone, BranchesAreIsolated, Text, resent_by, KeyUsed}
 use Rattle.shop_model.proofs.RowLemmas.{same_if, same_test}
 use Rattle.shop_model.proofs.ShopLemmas.{done_own, done_other, with_arrivals}
 use Rattle.shop_model.proofs.NumberLemmas.{after_numbers}
-use Rattle.shop_model.proofs.SameStates.{told_same}
+use Rattle.shop_model.proofs.SameStates.{by_cases, by_verdict, told_same}
 
 -- ---- verdicts
-
-abbrev pub is_accepted : Verdict → Bool
-is_accepted (Again text) = false
-is_accepted (Refused refusal) = false
-is_accepted Accepted = true
-
-pub accepted_is : (v : Verdict) → is_accepted v ≡ true → v ≡ Accepted
-accepted_is (Again text) e = cc
-accepted_is (Refused refusal) e = cc
-accepted_is Accepted e = refl
-
-pub not_accepted : {A : Type 0} (v : Verdict) (x y : A) → is_accepted v ≡ false → if_accepted v x y ≡ y
-not_accepted (Again text) x y e = refl
-not_accepted (Refused refusal) x y e = refl
-not_accepted Accepted x y e = absurd (true≢false e)
 
 -- of an accepted command no refusal holds
 pub first_holds : (c : Refusal × Bool) (cs : List (Refusal × Bool)) → first (c ∷ cs) ≡ Accepted → (c.1 ≡ false) × (first cs ≡ Accepted)
 first_holds c cs e = elim (cases_Bool c.1) [
-  | inl is ↦ let no : Refused c.0 ≡ Accepted = rw is at e in absurd (false≢true (ap is_accepted no))
+  | inl is ↦ let no : Refused c.0 ≡ Accepted = rw is at e in cc
   | inr isnt ↦ (isnt, rw isnt at e)
 ]
 
 -- and nothing was kept under its key
-pub none_kept : (command : Command) (kept : List Kept) (v : Verdict) → resent command kept v ≡ Accepted → (kept ≡ []) × (v ≡ Accepted)
-none_kept command [] v e = (refl, e)
-none_kept command (k ∷ kept) v e = elim (cases_Bool (same_command k.command command)) [
-  | inl is ↦ let no : Again k.reply ≡ Accepted = rw is at e in absurd (false≢true (ap is_accepted no))
-  | inr isnt ↦ let no : Refused _ ≡ Accepted = rw isnt at e in absurd (false≢true (ap is_accepted no))
+pub nothing_kept : {A : Type 0} (same : A → Bool) (reply : A → Text) (kept : List A) (v : Verdict) → resent_by same reply kept v ≡ Accepted → (kept ≡ []) × (v ≡ Accepted)
+nothing_kept same reply [] v e = (refl, e)
+nothing_kept same reply (k ∷ kept) v e = elim (cases_Bool (same k)) [
+  | inl is ↦ let no : Again (reply k) ≡ Accepted = rw is at e in cc
+  | inr isnt ↦ let no : Refused KeyUsed ≡ Accepted = rw isnt at e in cc
 ]
+
+pub none_kept : (command : Command) (kept : List Kept) (v : Verdict) → resent command kept v ≡ Accepted → (kept ≡ []) × (v ≡ Accepted)
+none_kept command kept v e = nothing_kept _ _ kept v e
 
 abbrev pub NoneHold : List (Refusal × Bool) → Type 0
 NoneHold [] = ⊤
@@ -63,9 +51,6 @@ not_self rules b catalogue shop moment act none xs is =
 
 -- ---- one event
 
-state_is : (c d : Catalogue) (s t : Shop) → c ≡ d → s ≡ t → ◌≡◌ {A = State} (record { catalogue = c; shop = s }) (record { catalogue = d; shop = t })
-state_is c d s t e f = rw (e, f)
-
 pub catalogue_stays : (rules : Rules) (b : ℕ) (command : Command) (act : Act) (books : Books) → (book_acted rules b command act books).catalogue ≡ books.catalogue
 catalogue_stays rules b command (AddCustomer person) books = refl
 catalogue_stays rules b command act books = refl
@@ -81,54 +66,41 @@ parcel_replies rules b c act books = refl
 -- the books after b's own request, as b's machine
 own_state : (rules : Rules) (b : ℕ) (request : Request) (books : Books) → HasNumbers books → state_of b (branch_after rules b request books) ≡ moved rules b (Own request) (state_of b books)
 own_state rules b (Do command) books has =
-    let v = verdict rules b books.catalogue (shop_of b books) command in
-    elim (cases_Bool (is_accepted v)) [
-      | inl is ↦
-          let e : v ≡ Accepted = accepted_is v is in
-          let away = not_self rules b books.catalogue (shop_of b books) command.moment command.act (act_holds rules b books.catalogue (shop_of b books) command e) in
-          rw e (state_is _ _ _ _ (catalogue_stays rules b command command.act books) (done_own rules b command books has away))
-      | inr isnt ↦ rw (not_accepted v (book_done rules b command books) books isnt, not_accepted v (done rules books.catalogue command (shop_of b books)) (shop_of b books) isnt)
-    ]
+    let shop = shop_of b books in
+    by_cases (λ v. ◌≡◌ {A = State} (state_of b (if_accepted v (book_done rules b command books) books)) (record { catalogue = books.catalogue; shop = if_accepted v (done rules books.catalogue command shop) shop }))
+    (verdict rules b books.catalogue shop command)
+    (λ e i. record {
+      catalogue = catalogue_stays rules b command command.act books i;
+      shop = done_own rules b command books has (not_self rules b books.catalogue shop command.moment command.act (act_holds rules b books.catalogue shop command e)) i;
+    })
+    (λ _ _. refl) (λ _. refl)
 own_state rules b request books has = refl
 
 -- after another's request
 other_state : (rules : Rules) (b c : ℕ) (request : Request) (books : Books) → HasNumbers books → (c == b) ≡ false
     → state_of b (branch_after rules c request books) ≡ state_after rules b (other_seen rules b c request books) (state_of b books)
 other_state rules b c (Do command) books has differ =
-    let v = verdict rules c books.catalogue (shop_of c books) command in
-    elim (cases_Bool (is_accepted v)) [
-      | inl is ↦
-          let e : v ≡ Accepted = accepted_is v is in
-          rw e (state_is _ _ _ _ (catalogue_stays rules c command command.act books) (done_other rules b c command books has differ) ∙ parcel_state rules b c command.act books)
-      | inr isnt ↦ rw (not_accepted v (book_done rules c command books) books isnt, not_accepted v (parcel_seen b c command.act books) [] isnt)
-    ]
+    by_cases (λ v. state_of b (if_accepted v (book_done rules c command books) books) ≡ state_after rules b (if_accepted v (parcel_seen b c command.act books) []) (state_of b books))
+    (verdict rules c books.catalogue (shop_of c books) command)
+    (λ _. (λ i. record { catalogue = catalogue_stays rules c command command.act books i; shop = done_other rules b c command books has differ i }) ∙ parcel_state rules b c command.act books)
+    (λ _ _. refl) (λ _. refl)
 other_state rules b c request books has differ = refl
 
 other_replies : (rules : Rules) (b c : ℕ) (request : Request) (books : Books) → replies rules b (other_seen rules b c request books) (state_of b books) ≡ []
 other_replies rules b c (Do command) books =
-    let v = verdict rules c books.catalogue (shop_of c books) command in
-    elim (cases_Bool (is_accepted v)) [
-      | inl is ↦ let e : v ≡ Accepted = accepted_is v is in rw e (parcel_replies rules b c command.act books)
-      | inr isnt ↦ rw (not_accepted v (parcel_seen b c command.act books) [] isnt)
-    ]
+    by_verdict (λ inputs. replies rules b inputs (state_of b books) ≡ []) (verdict rules c books.catalogue (shop_of c books) command) (parcel_seen b c command.act books) [] (λ _. parcel_replies rules b c command.act books) refl
 other_replies rules b c request books = refl
 
 office_state : (rules : Rules) (b : ℕ) (request : Request) (books : Books) → state_of b (after_for rules HeadOffice request books) ≡ state_after rules b (office_seen rules request books) (state_of b books)
 office_state rules b (Office command) books =
-    let v = office_verdict rules books.catalogue command in
-    elim (cases_Bool (is_accepted v)) [
-      | inl is ↦ let e : v ≡ Accepted = accepted_is v is in rw e (rw e)
-      | inr isnt ↦ rw (not_accepted v (office_done command books.catalogue) books.catalogue isnt, not_accepted v (FromOffice command ∷ []) [] isnt)
-    ]
+    by_cases (λ v. ◌≡◌ {A = State} (record { catalogue = if_accepted v (office_done command books.catalogue) books.catalogue; shop = shop_of b books })
+    (state_after rules b (if_accepted v (FromOffice command ∷ []) []) (state_of b books)))
+    (office_verdict rules books.catalogue command) (λ e. rw e refl) (λ _ _. refl) (λ _. refl)
 office_state rules b request books = refl
 
 office_replies : (rules : Rules) (b : ℕ) (request : Request) (books : Books) → replies rules b (office_seen rules request books) (state_of b books) ≡ []
 office_replies rules b (Office command) books =
-    let v = office_verdict rules books.catalogue command in
-    elim (cases_Bool (is_accepted v)) [
-      | inl is ↦ let e : v ≡ Accepted = accepted_is v is in rw e
-      | inr isnt ↦ rw (not_accepted v (FromOffice command ∷ []) [] isnt)
-    ]
+    by_verdict (λ inputs. replies rules b inputs (state_of b books) ≡ []) (office_verdict rules books.catalogue command) (FromOffice command ∷ []) [] (λ _. refl) refl
 office_replies rules b request books = refl
 
 one_state : (rules : Rules) (b : ℕ) (caller : Caller) (request : Request) (books : Books) → HasNumbers books

@@ -1,11 +1,12 @@
 -- Each step keeps what the rows of a shop name.
-use Rattle.shop_model.proofs.Common.{◌≡◌, inl, inr, ℕ, ◌-◌, List, [], ◌∷◌, ◌++◌, filter, map, Bool, true, false, refl, sym, subst, ap, ◌∙◌, ⊤, ◌==◌, ◌&&◌, option_to_list, list_any, list_all, bytes_eq, cases_Bool, Row, Owned, of, owned_by, is_of, next, put_all, set_rows, AreNumbered, at, lacks, set_at, set_all, Text, Customer, Copy, Rental, Payment, Arrival, Parcel, Act, Dispatch, Command, Rules, Kept, Shop, Catalogue, films_at, reply_text, Books, BookCopy, Line, Consignment, Table, Customers, CopyRows, Rentals, Payments, RowOf, rows_of, with_rows, Edit, Put, Set, PutLot, Append, Update, edited, edits_of, book_acted, book_done, shop_of, unmarked, as_arrival, as_parcel, has_row, are_different, is_staff_of, pays_for, is_parcel, IsLinkedShop, HasNumbers}
+use Rattle.shop_model.proofs.Common.{◌≡◌, inl, inr, ℕ, ◌-◌, List, [], ◌∷◌, ◌++◌, filter, map, Bool, true, false, refl, sym, subst, ap, ◌∙◌, ⊤, ◌==◌, ◌&&◌, option_to_list, list_any, list_all, bytes_eq, cases_Bool, Row, Owned, of, owned_by, is_of, next, put_all, set_rows, AreNumbered, at, lacks, set_at, set_all, Text, Customer, Copy, Rental, Payment, Arrival, Act, Command, Rules, Kept, Shop, Catalogue, films_at, reply_text, Books, BookCopy, Line, Consignment, Table, Customers, CopyRows, Rentals, Payments, RowOf, rows_of, with_rows, Edit, Put, Set, PutLot, Append, Update, edited, edits_of, book_acted, book_done, shop_of, unmarked, as_arrival, as_parcel, has_row, are_different, is_staff_of, pays_for, is_parcel, IsLinkedShop, HasNumbers, AreRowsNumbered, Terms}
+use mathlib.Core.Path.{fun_ext}
+use Rattle.std.proofs.lemmas.List.Folds.{list_all-map}
 use Rattle.shop_model.proofs.RowLemmas.{same_test, more_yes, more_no, set_same, put_all_counted, set_rows_own, set_rows_counted}
-use Rattle.shop_model.proofs.ShopLemmas.{with_arrivals}
-use Rattle.shop_model.proofs.NumberLemmas.{tables_numbered}
-use Rattle.shop_model.proofs.EditLemmas.{by_table, by_others, AskedOfEach, each_keeps, new_its, put_all_its}
+use Rattle.shop_model.proofs.ShopLemmas.{with_arrivals, arrived_or_same}
+use Rattle.shop_model.proofs.EditLemmas.{by_table, AskedOfEach, each_keeps, new_its, put_all_its}
 use Rattle.shop_model.proofs.Isolation.{catalogue_stays}
-use Rattle.shop_model.proofs.GoodShops.{all_more, all_weaker, all_map}
+use Rattle.shop_model.proofs.GoodShops.{all_more, all_weaker}
 use Rattle.shop_model.proofs.Origins.{all_append}
 use Rattle.shop_model.proofs.LinkLemmas.{has_more, has_set_all, any_at_more, any_at_set, all_at, all_set_all, all_mapped, different_more}
 
@@ -19,8 +20,7 @@ has_mapped g n [] = refl
 has_mapped g n (row ∷ rows) = elim (cases_Bool (n == 1)) [ inl is ↦ rw is | inr isnt ↦ rw isnt (has_mapped g (n - 1) rows) ]
 
 all_same : {A : Type 0} (p q : A → Bool) (xs : List A) → ((x : A) → p x ≡ q x) → list_all p xs ≡ list_all q xs
-all_same p q [] same = refl
-all_same p q (x ∷ xs) same = rw (same x, all_same p q xs same)
+all_same p q xs same = ap (λ test. list_all test xs) (fun_ext same)
 
 abbrev pub AreLinked : ℕ → Books → (t : Table) → List (RowOf t) → Type 0
 AreLinked b books Customers its = list_all (λ (it : Customer). has_row books.catalogue.cities it.person.city) its ≡ true
@@ -61,32 +61,32 @@ KeepsPays Rentals old new = (it : Payment) → pays_for old it ≡ true → pays
 KeepsPays t old new = ⊤
 
 abbrev Stays : ℕ → Books → (t : Table) → List (Row (RowOf t)) → Type 0
-Stays b books t new = ((n : ℕ) → has_row (of b (rows_of t books)) n ≡ true → has_row (of b new) n ≡ true) × KeepsPays t (of b (rows_of t books)) (of b new)
+Stays b books t new = ((n : ℕ) → has_row (of b (rows_of books t)) n ≡ true → has_row (of b new) n ≡ true) × KeepsPays t (of b (rows_of books t)) (of b new)
 
 pays_all : (xs ys : List Rental) → ((n r : ℕ) → list_any (λ (it : Rental). it.customer == n) (at r xs) ≡ true → list_any (λ (it : Rental). it.customer == n) (at r ys) ≡ true) → (it : Payment) → pays_for xs it ≡ true → pays_for ys it ≡ true
 pays_all xs ys more it pays = all_weaker _ _ (option_to_list it.rental) (λ r some. more it.customer r some) pays
 
-stays_put : (b : ℕ) (books : Books) (t : Table) (makes : List (ℕ → RowOf t)) → Stays b books t (put_all b makes (rows_of t books))
-stays_put b books t makes = (λ n has. rw (put_all_its b makes (rows_of t books)) (has_more n (of b (rows_of t books)) (new_its (next b (rows_of t books)) makes) has), pays t makes) where
-  pays : (t : Table) (makes : List (ℕ → RowOf t)) → KeepsPays t (of b (rows_of t books)) (of b (put_all b makes (rows_of t books)))
+stays_put : (b : ℕ) (books : Books) (t : Table) (makes : List (ℕ → RowOf t)) → Stays b books t (put_all b makes (rows_of books t))
+stays_put b books t makes = (λ n has. rw (put_all_its b makes (rows_of books t)) (has_more n (of b (rows_of books t)) (new_its (next b (rows_of books t)) makes) has), pays t makes) where
+  pays : (t : Table) (makes : List (ℕ → RowOf t)) → KeepsPays t (of b (rows_of books t)) (of b (put_all b makes (rows_of books t)))
   pays Rentals makes = rw (put_all_its b makes books.rentals) (pays_all (of b books.rentals) _ (λ n r some. any_at_more _ r (of b books.rentals) _ some))
   pays t makes = tt
 
-stays_set : (b : ℕ) (books : Books) (t : Table) (ns : List ℕ) (f : RowOf t → RowOf t) → AreNumbered (is_of b) (λ (row : Row (RowOf t)). row.number) (rows_of t books) → KeepsLinks books t f → Stays b books t (set_rows b ns f (rows_of t books))
-stays_set b books t ns f counted keeps = (λ n has. rw (set_rows_own b ns f (rows_of t books) counted) (has_set_all n ns f (of b (rows_of t books)) ∙ has), pays t f counted keeps) where
+stays_set : (b : ℕ) (books : Books) (t : Table) (ns : List ℕ) (f : RowOf t → RowOf t) → AreNumbered (is_of b) (λ (row : Row (RowOf t)). row.number) (rows_of books t) → KeepsLinks books t f → Stays b books t (set_rows b ns f (rows_of books t))
+stays_set b books t ns f counted keeps = (λ n has. rw (set_rows_own b ns f (rows_of books t) counted) (has_set_all n ns f (of b (rows_of books t)) ∙ has), pays t f counted keeps) where
   set_any : (p : Rental → Bool) (r : ℕ) (ns : List ℕ) (f : Rental → Rental) (xs : List Rental) → ((x : Rental) → p (f x) ≡ p x) → list_any p (at r (set_all ns f xs)) ≡ list_any p (at r xs)
   set_any p r [] f xs same = refl
   set_any p r (n ∷ ns) f xs same = set_any p r ns f (set_at n f xs) same ∙ any_at_set p r n f xs same
 
-  pays : (t : Table) (f : RowOf t → RowOf t) → AreNumbered (is_of b) (λ (row : Row (RowOf t)). row.number) (rows_of t books) → KeepsLinks books t f → KeepsPays t (of b (rows_of t books)) (of b (set_rows b ns f (rows_of t books)))
+  pays : (t : Table) (f : RowOf t → RowOf t) → AreNumbered (is_of b) (λ (row : Row (RowOf t)). row.number) (rows_of books t) → KeepsLinks books t f → KeepsPays t (of b (rows_of books t)) (of b (set_rows b ns f (rows_of books t)))
   pays Rentals f counted keeps = rw (set_rows_own b ns f books.rentals counted) (pays_all (of b books.rentals) _ (λ n r some. set_any (λ (it : Rental). it.customer == n) r ns f (of b books.rentals) (λ x. ap (λ c. c == n) (keeps x).1) ∙ some))
   pays t f counted keeps = tt
 
 linked_stays : (b : ℕ) (books : Books) (u : Table) (new : List (Row (RowOf u))) → Stays b books u new → (t : Table) (its : List (RowOf t)) → AreLinked b books t its → AreLinked b (with_rows u new books) t its
 linked_stays b books u new stays t its is = go t its is where
-  all : (t : Table) → Stays b books t (rows_of t (with_rows u new books))
+  all : (t : Table) → Stays b books t (rows_of (with_rows u new books) t)
   all = by_table (Stays b books) u new books stays (λ t. (λ n has. has, same t)) where
-    same : (t : Table) → KeepsPays t (of b (rows_of t books)) (of b (rows_of t books))
+    same : (t : Table) → KeepsPays t (of b (rows_of books t)) (of b (rows_of books t))
     same Rentals = λ it pays. pays
     same t = tt
 
@@ -111,19 +111,11 @@ IsLinkedEdit b books (Append it) = (list_all (has_row books.catalogue.films) (ma
 IsLinkedEdit b books (Update test f) = KeepsParcel f
 
 record AreBooksLinked (b : ℕ) (books : Books) : Type 0 where
-  tables : (t : Table) → AreLinked b books t (of b (rows_of t books))
-  counted : (t : Table) → AreNumbered (is_of b) (λ (row : Row (RowOf t)). row.number) (rows_of t books)
+  tables : (t : Table) → AreLinked b books t (of b (rows_of books t))
+  counted : (t : Table) → AreRowsNumbered t (rows_of books t)
   lots : are_different (λ (earlier later : Text). bytes_eq later earlier) (owned_by b books.lots) ≡ true
   arrivals : list_all (list_all (has_row books.catalogue.films)) (map (λ (it : Consignment). map (λ (line : Line). line.film) it.lines) (filter (λ (it : Consignment). it.addressee == b) books.consignments)) ≡ true
   parcels : list_all is_parcel (map as_parcel (filter (λ (it : Consignment). it.source == b) books.consignments)) ≡ true
-
--- other consignments and lots leave the tables
-others_linked : (b : ℕ) (lots : List (Owned Text)) (cs : List Consignment) (books : Books) → AreBooksLinked b books → (t : Table) → AreLinked b (record books { lots = lots; consignments = cs }) t (of b (rows_of t (record books { lots = lots; consignments = cs })))
-others_linked b lots cs books h Customers = h.tables Customers
-others_linked b lots cs books h CopyRows = h.tables CopyRows
-others_linked b lots cs books h Rentals = h.tables Rentals
-others_linked b lots cs books h Payments = h.tables Payments
-others_linked b lots cs books h t = tt
 
 all_one_more : {A B : Type 0} (p : B → Bool) (g : A → B) (q : A → Bool) (xs : List A) (x : A) → list_all p (map g (filter q xs)) ≡ true → p (g x) ≡ true → list_all p (map g (filter q (xs ++ x ∷ []))) ≡ true
 all_one_more p g q xs x all is = elim (cases_Bool (q x)) [
@@ -133,50 +125,48 @@ all_one_more p g q xs x all is = elim (cases_Bool (q x)) [
 
 linked_edited : (b : ℕ) (books : Books) (edit : Edit) → IsLinkedEdit b books edit → AreBooksLinked b books → AreBooksLinked b (edited b edit books)
 linked_edited b books (Put t makes) asked h =
-    let new = put_all b makes (rows_of t books) in
+    let new = put_all b makes (rows_of books t) in
     let still = linked_stays b books t new (stays_put b books t makes) in
-    let own = linked_append b (with_rows t new books) t (of b (rows_of t books)) (new_its (next b (rows_of t books)) makes) (still t _ (h.tables t)) (still t _ (asked (next b (rows_of t books)))) in
+    let own = linked_append b (with_rows t new books) t (of b (rows_of books t)) (new_its (next b (rows_of books t)) makes) (still t _ (h.tables t)) (still t _ (asked (next b (rows_of books t)))) in
     record {
-      tables = by_table (λ u its. AreLinked b (with_rows t new books) u (of b its)) t new books (subst (AreLinked b (with_rows t new books) t) (sym (put_all_its b makes (rows_of t books))) own) (λ u. still u _ (h.tables u));
-      counted = by_table (λ u its. AreNumbered (is_of b) (λ (row : Row (RowOf u)). row.number) its) t new books (put_all_counted b b makes (rows_of t books) (h.counted t)) h.counted;
+      tables = by_table (λ u its. AreLinked b (with_rows t new books) u (of b its)) t new books (subst (AreLinked b (with_rows t new books) t) (sym (put_all_its b makes (rows_of books t))) own) (λ u. still u _ (h.tables u));
+      counted = by_table AreRowsNumbered t new books (λ c. put_all_counted c b makes (rows_of books t) (h.counted t c)) h.counted;
       lots = h.lots;
       arrivals = h.arrivals;
       parcels = h.parcels;
     }
 linked_edited b books (Set t ns f) asked h =
-    let new = set_rows b ns f (rows_of t books) in
-    let still = linked_stays b books t new (stays_set b books t ns f (h.counted t) asked) in
-    let own = still t _ (linked_set b books t ns f (of b (rows_of t books)) asked (h.tables t)) in
+    let new = set_rows b ns f (rows_of books t) in
+    let still = linked_stays b books t new (stays_set b books t ns f (h.counted t b) asked) in
+    let own = still t _ (linked_set b books t ns f (of b (rows_of books t)) asked (h.tables t)) in
     record {
-      tables = by_table (λ u its. AreLinked b (with_rows t new books) u (of b its)) t new books (subst (AreLinked b (with_rows t new books) t) (sym (set_rows_own b ns f (rows_of t books) (h.counted t))) own) (λ u. still u _ (h.tables u));
-      counted = by_table (λ u its. AreNumbered (is_of b) (λ (row : Row (RowOf u)). row.number) its) t new books (set_rows_counted b b ns f (rows_of t books) (h.counted t)) h.counted;
+      tables = by_table (λ u its. AreLinked b (with_rows t new books) u (of b its)) t new books (subst (AreLinked b (with_rows t new books) t) (sym (set_rows_own b ns f (rows_of books t) (h.counted t b))) own) (λ u. still u _ (h.tables u));
+      counted = by_table AreRowsNumbered t new books (λ c. set_rows_counted c b ns f (rows_of books t) (h.counted t c)) h.counted;
       lots = h.lots;
       arrivals = h.arrivals;
       parcels = h.parcels;
     }
 linked_edited b books (PutLot lot) asked h = record {
-  tables = others_linked b _ books.consignments books h;
-  counted = by_others (λ u its. AreNumbered (is_of b) (λ (row : Row (RowOf u)). row.number) its) _ books.consignments books h.counted;
+  tables = h.tables;
+  counted = h.counted;
   lots = rw (more_yes (λ (row : Owned Text). row.it) (λ row. row.owner == b) books.lots (record { owner = b; it = lot }) (same_test b)) (different_more (λ (earlier later : Text). bytes_eq later earlier) (owned_by b books.lots) lot h.lots asked);
   arrivals = h.arrivals;
   parcels = h.parcels;
 }
 linked_edited b books (Append it) asked h = record {
-  tables = others_linked b books.lots _ books h;
-  counted = by_others (λ u its. AreNumbered (is_of b) (λ (row : Row (RowOf u)). row.number) its) books.lots _ books h.counted;
+  tables = h.tables;
+  counted = h.counted;
   lots = h.lots;
   arrivals = all_one_more _ _ _ books.consignments it h.arrivals asked.0;
   parcels = all_one_more _ _ _ books.consignments it h.parcels asked.1;
 }
 linked_edited b books (Update test f) asked h = record {
-  tables = others_linked b books.lots _ books h;
-  counted = by_others (λ u its. AreNumbered (is_of b) (λ (row : Row (RowOf u)). row.number) its) books.lots _ books h.counted;
+  tables = h.tables;
+  counted = h.counted;
   lots = h.lots;
   arrivals = rw (set_same (λ (it : Consignment). it.addressee == b) test f (λ (it : Consignment). map (λ (line : Line). line.film) it.lines) books.consignments (λ it. ap (λ a. a == b) (asked it).1) (λ it. (asked it).2)) h.arrivals;
-  parcels = rw (set_same (λ (it : Consignment). it.source == b) test f as_parcel books.consignments (λ it. ap (λ a. a == b) (asked it).0) (λ it. same_parcel _ _ _ _ (asked it).1 (asked it).2)) h.parcels;
-} where
-  same_parcel : (a c : ℕ) (fs gs : List ℕ) → a ≡ c → fs ≡ gs → ◌≡◌ {A = Parcel} (record { addressee = a; films = fs }) (record { addressee = c; films = gs })
-  same_parcel a c fs gs e g = rw (e, g)
+  parcels = rw (set_same (λ (it : Consignment). it.source == b) test f as_parcel books.consignments (λ it. ap (λ a. a == b) (asked it).0) (λ it i. record { addressee = (asked it).1 i; films = (asked it).2 i })) h.parcels;
+}
 
 -- ---- a command
 
@@ -189,14 +179,14 @@ linked_done rules b command books has h fresh asked =
     let k : Kept = record { command = command; reply = reply_text rules command (shop_of b books) } in
     let all = each_keeps (AreBooksLinked b) (IsLinkedEdit b) b (linked_edited b) (edits_of rules b command command.act books) books asked (record {
       tables = tables_linked;
-      counted = λ t. tables_numbered books has t b;
+      counted = has.rows;
       lots = h.lots;
       arrivals = arrivals_films (has_row books.catalogue.films) (filter (λ (it : Consignment). it.addressee == b) books.consignments) ∙ h.arrival_films;
       parcels = h.parcels;
     }) in
     subst (λ (catalogue : Catalogue). IsLinkedShop b catalogue (shop_of b (book_done rules b command books))) same (record {
       customer_cities = all.tables Customers;
-      copy_films = all_map (λ (it : Copy). has_row after.catalogue.films it.film) unmarked (of b after.copies) ∙ all.tables CopyRows;
+      copy_films = list_all-map (λ (it : Copy). has_row after.catalogue.films it.film) unmarked (of b after.copies) ∙ all.tables CopyRows;
       rental_copies = all_same _ _ (of b after.rentals) (λ (it : Rental). has_mapped unmarked it.copy (of b after.copies)) ∙ (all.tables Rentals).0;
       rental_customers = (all.tables Rentals).1;
       rental_staff = (all.tables Rentals).2;
@@ -208,9 +198,9 @@ linked_done rules b command books has h fresh asked =
       lots = all.lots;
       keys = rw (more_yes (λ (row : Owned Kept). row.it) (λ row. row.owner == b) books.kept (record { owner = b; it = k }) (same_test b)) (different_more (λ (earlier later : Kept). bytes_eq earlier.command.key later.command.key) (shop_of b books).kept k h.keys fresh);
     }) where
-      tables_linked : (t : Table) → AreLinked b books t (of b (rows_of t books))
+      tables_linked : (t : Table) → AreLinked b books t (of b (rows_of books t))
       tables_linked Customers = h.customer_cities
-      tables_linked CopyRows = sym (all_map (λ (it : Copy). has_row books.catalogue.films it.film) unmarked (of b books.copies)) ∙ h.copy_films
+      tables_linked CopyRows = sym (list_all-map (λ (it : Copy). has_row books.catalogue.films it.film) unmarked (of b books.copies)) ∙ h.copy_films
       tables_linked Rentals = (sym (all_same _ _ (of b books.rentals) (λ (it : Rental). has_mapped unmarked it.copy (of b books.copies))) ∙ h.rental_copies, h.rental_customers, h.rental_staff)
       tables_linked Payments = (h.payment_customers, h.payment_staff, h.payment_rentals)
       tables_linked t = tt
@@ -229,9 +219,10 @@ outgoing_films catalogue (x ∷ xs) copies all =
     (all_mapped (has_row catalogue.films) (λ (it : Copy). has_row catalogue.films it.film) (λ (it : Copy). it.film) (at x copies) (λ it h. h) (all_at (λ (it : Copy). has_row catalogue.films it.film) x copies all))
     (outgoing_films catalogue xs copies all)
 
-arrives : (b c : ℕ) (catalogue : Catalogue) (shop other : Shop) (xs : List ℕ) → IsLinkedShop b catalogue shop → IsLinkedShop c catalogue other
-    → IsLinkedShop b catalogue (record shop { arrivals = shop.arrivals ++ record { source = c; films = films_at xs other.copies; received = false } ∷ [] })
-arrives b c catalogue shop other xs h from = record {
+-- terms aren't read, and of arrivals the films
+pub linked_same : (b : ℕ) (catalogue : Catalogue) (shop : Shop) (arrivals : List Arrival) (terms : List Terms) → IsLinkedShop b catalogue shop
+    → list_all (λ (it : Arrival). list_all (has_row catalogue.films) it.films) arrivals ≡ true → IsLinkedShop b catalogue (record shop { arrivals = arrivals; terms = terms })
+linked_same b catalogue shop arrivals terms h films = record {
   customer_cities = h.customer_cities;
   copy_films = h.copy_films;
   rental_copies = h.rental_copies;
@@ -240,15 +231,13 @@ arrives b c catalogue shop other xs h from = record {
   payment_customers = h.payment_customers;
   payment_staff = h.payment_staff;
   payment_rentals = h.payment_rentals;
-  arrival_films = all_more (λ (it : Arrival). list_all (has_row catalogue.films) it.films) shop.arrivals (record { source = c; films = films_at xs other.copies; received = false }) h.arrival_films (outgoing_films catalogue xs other.copies from.copy_films);
+  arrival_films = films;
   parcels = h.parcels;
   lots = h.lots;
   keys = h.keys;
 }
 
 pub linked_other : (b c : ℕ) (act : Act) (books : Books) → IsLinkedShop b books.catalogue (shop_of b books) → IsLinkedShop c books.catalogue (shop_of c books) → IsLinkedShop b books.catalogue (with_arrivals b c act books)
-linked_other b c (Dispatch to xs) books h from = elim (cases_Bool (to == b)) [
-  | inl is ↦ rw is (arrives b c books.catalogue (shop_of b books) (shop_of c books) xs h from)
-  | inr isnt ↦ rw isnt h
-]
-linked_other b c act books h from = h
+linked_other b c act books h from =
+    arrived_or_same (IsLinkedShop b books.catalogue) b c act books (λ xs. linked_same b books.catalogue (shop_of b books) _ _ h
+    (all_more (λ (it : Arrival). list_all (has_row books.catalogue.films) it.films) (shop_of b books).arrivals _ h.arrival_films (outgoing_films books.catalogue xs (shop_of c books).copies from.copy_films))) h

@@ -1,12 +1,14 @@
 -- Books of version 1 become sound books, in which balances and overdue rentals are the same.
-use Rattle.shop_model.proofs.Common.{◌≡◌, inl, inr, ℕ, ◌+◌, ◌*◌, List, [], ◌∷◌, ◌++◌, length, filter, map, Bool, true, false, refl, sym, ap, ap₂, subst, ◌∙◌, arith, ◌==◌, ◌&&◌, ◌-ℤ◌, nat_lt, flat_map, zip, is_none, AllByRecursion, list_any, list_all, or-false, cases_Bool, and_parts, not-true, map-append, filter-append, Row, IsCounted, AreNumbered, lacks, is_of, of, total, Moment, is_by, Film, Rental, Terms, Payment, Rule, ByCode, Rules, Catalogue, Shop, film_of, film_terms, terms_now, late_days, fee, balance, is_overdue, Books, shop_of, has_row, IsLinkedShop, IsSoundBy, HasTerms}
+use Rattle.shop_model.proofs.Common.{◌≡◌, inl, inr, ℕ, ◌+◌, ◌*◌, List, [], ◌∷◌, ◌++◌, length, filter, map, Bool, true, false, refl, sym, ap, ap₂, subst, ◌∙◌, arith, ◌==◌, ◌&&◌, ◌-ℤ◌, nat_lt, flat_map, zip, is_none, AllByRecursion, list_any, list_all, or-false, cases_Bool, and_parts, not-true, map-append, filter-append, Row, IsCounted, AreNumbered, lacks, is_of, of, total, Moment, is_by, Film, Rental, Terms, Payment, Rule, ByCode, Rules, Catalogue, Shop, film_of, film_terms, terms_now, late_days, fee, balance, is_overdue, Books, shop_of, has_row, IsLinkedShop, IsSoundBy, HasTerms, Rentals, TermRows, AreRowsNumbered, AreRowsOwned}
 use Rattle.std.specs.Prelude.{pos}
 use Rattle.std.proofs.lemmas.List.{length-append}
 use Rattle.shop_model.specs.Calendar.{day_of}
 use Rattle.shop_model.specs.Migration.{HasNoTerms, IsSoundWithoutTerms, film_fee, film_balance, is_film_overdue, row_terms, migrated, MigratedIsSound, SoundWithoutTerms, MigratedKeepsBalances}
 use Rattle.shop_model.proofs.RowLemmas.{same_if, same_test, length_map}
+use Rattle.shop_model.proofs.EditLemmas.{by_table}
 use Rattle.shop_model.proofs.LinkLemmas.{all_joined}
-use Rattle.shop_model.proofs.Soundness.{one_film_now, holder_same}
+use Rattle.shop_model.proofs.LinkedShops.{linked_same}
+use Rattle.shop_model.proofs.Soundness.{one_film_now, holder_same, good_same}
 
 -- ---- each rental has one film
 
@@ -177,61 +179,16 @@ module _ (Were Are : Shop → Type 0) (rules : Rules) (books : Books) (its : Lis
       → ((b : ℕ) → AreNumbered (is_of b) (λ (row : Row Terms). row.number) its) → ((b : ℕ) → Are (shop_of b with_its)) → IsSoundBy Are rules with_its
   with_terms sound owned numbered termed = record {
     catalogue = sound.catalogue;
-    owners = let h = sound.owners in record {
-      customers = h.customers;
-      copies = h.copies;
-      rentals = h.rentals;
-      terms = owned;
-      payments = h.payments;
-      lots = h.lots;
-      kept = h.kept;
-      lasts = h.lasts;
-      sources = h.sources;
-      addressees = h.addressees;
-    };
-    numbers = let h = sound.numbers in record {
-      customers = h.customers;
-      copies = h.copies;
-      rentals = h.rentals;
-      terms = numbered;
-      payments = h.payments;
-      consignments = h.consignments;
-    };
+    owners = let h = sound.owners in record { rows = by_table (AreRowsOwned books.catalogue.branches) TermRows its books owned h.rows; lots = h.lots; kept = h.kept; lasts = h.lasts; sources = h.sources; addressees = h.addressees };
+    numbers = record { rows = by_table AreRowsNumbered TermRows its books numbered sound.numbers.rows; consignments = sound.numbers.consignments };
     places = sound.places;
     custody = sound.custody;
     origins = record { rows = sound.origins.rows; lines = sound.origins.lines };
     settled = sound.settled;
     lasts = sound.lasts;
     held = λ b. holder_same (shop_of b books) (shop_of b with_its) refl refl (sound.held b);
-    shops = λ b. let g = sound.shops b in record {
-      apart = g.apart;
-      created = g.created;
-      rented = g.rented;
-      paid = g.paid;
-      rentals_rise = g.rentals_rise;
-      payments_rise = g.payments_rise;
-      keys = g.keys;
-      copies = g.copies;
-      customers_fit = g.customers_fit;
-      rentals_fit = g.rentals_fit;
-      payments_fit = g.payments_fit;
-      lots_fit = g.lots_fit;
-      sent_fit = g.sent_fit;
-    };
-    links = λ b. let l = sound.links b in record {
-      customer_cities = l.customer_cities;
-      copy_films = l.copy_films;
-      rental_copies = l.rental_copies;
-      rental_customers = l.rental_customers;
-      rental_staff = l.rental_staff;
-      payment_customers = l.payment_customers;
-      payment_staff = l.payment_staff;
-      payment_rentals = l.payment_rentals;
-      arrival_films = l.arrival_films;
-      parcels = l.parcels;
-      lots = l.lots;
-      keys = l.keys;
-    };
+    shops = λ b. good_same rules (shop_of b books) (shop_of b books).arrivals (of b its) (sound.shops b);
+    links = λ b. linked_same b books.catalogue (shop_of b books) (shop_of b books).arrivals (of b its) (sound.links b) (sound.links b).arrival_films;
     terms = termed;
   }
 
@@ -242,8 +199,8 @@ pub migrated_sound : MigratedIsSound
 migrated_sound rules books sound =
     with_terms HasNoTerms HasTerms rules books (flat_map (row_terms books) books.rentals) sound
     (all_joined (λ (row : Row Terms). has_row books.catalogue.branches row.branch) (λ (row : Row Rental). has_row books.catalogue.branches row.branch) (row_terms books) books.rentals
-    (λ row there. all_made row.branch row.number (terms_now books.catalogue (shop_of row.branch books) row.it.copy) there) sound.owners.rentals)
-    (λ b. subst (IsCounted 1) (sym (branch_numbers books b books.rentals (one b))) (sound.numbers.rentals b))
+    (λ row there. all_made row.branch row.number (terms_now books.catalogue (shop_of row.branch books) row.it.copy) there) (sound.owners.rows Rentals))
+    (λ b. subst (IsCounted 1) (sym (branch_numbers books b books.rentals (one b))) (sound.numbers.rows Rentals b))
     (λ b. ap length (branch_terms books b books.rentals) ∙ terms_length books b (shop_of b books).rentals (one b))
   where
     one : (b : ℕ) → HaveOne books.catalogue (shop_of b books) (shop_of b books).rentals

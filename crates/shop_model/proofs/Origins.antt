@@ -1,27 +1,23 @@
 -- Each step keeps that every mark was made, with its film.
-use Rattle.shop_model.proofs.Common.{◌≡◌, inl, inr, ℕ, ◌+◌, List, [], ◌∷◌, ◌++◌, filter, map, Bool, true, not, refl, sym, ap, ◌∙◌, append-nil, append_assoc, ◌&&◌, flat_map, list_any, list_all, or-true, cases_Bool, and_parts, false≢true, arrived, Row, update_where, is_row, next, put_all, set_row, set_rows, mem, numbered_from, CopyState, Sent, Scrapped, Act, Import, Dispatch, Receive, Scrap, Command, Rules, films_in, Books, BookCopy, Mark, Line, Consignment, book_acted, is_consignment, imported, unpacked, put_state, rows_at, under_way, checked, checked_line, come, new_consignment, is_made_as, all_lines, HasOrigins}
+use Rattle.shop_model.proofs.Common.{◌≡◌, inl, inr, ℕ, ◌+◌, List, [], ◌∷◌, ◌++◌, filter, map, Bool, true, refl, sym, ap, ◌∙◌, append-nil, ◌&&◌, flat_map, list_any, list_all, or-true, cases_Bool, and_parts, arrived, Row, update_where, is_row, next, put_all, set_row, set_rows, numbered_from, CopyState, Sent, Scrapped, Act, Import, Dispatch, Receive, Scrap, Command, Rules, films_in, Books, BookCopy, Mark, Line, Consignment, book_acted, is_consignment, imported, unpacked, put_state, rows_at, under_way, checked, checked_line, come, new_consignment, is_made_as, all_lines, HasOrigins, list_any-append}
+use Rattle.std.proofs.lemmas.List.Concat.{flat_map-append}
+use Rattle.std.proofs.lemmas.List.Folds.{list_all-append}
 use Rattle.shop_model.specs.Rows.{put}
 use Rattle.shop_model.proofs.RowLemmas.{same_test}
 use Rattle.shop_model.proofs.GoodShops.{all_weaker}
+use Rattle.shop_model.proofs.LinkLemmas.{all_arrived}
 
 any_left : {A : Type 0} (p : A → Bool) (xs ys : List A) → list_any p xs ≡ true → list_any p (xs ++ ys) ≡ true
-any_left p [] ys some = absurd (false≢true some)
-any_left p (x ∷ xs) ys some = elim (cases_Bool (p x)) [
-  | inl is ↦ rw is
-  | inr isnt ↦ rw isnt (any_left p xs ys (rw isnt at some))
-]
+any_left p xs ys some = rw (list_any-append p xs ys, some)
 
 any_last : {A : Type 0} (p : A → Bool) (xs : List A) (x : A) → p x ≡ true → list_any p (xs ++ x ∷ []) ≡ true
-any_last p [] x is = rw is
-any_last p (y ∷ ys) x is = rw (any_last p ys x is) (or-true (p y))
+any_last p xs x is = rw (list_any-append p xs (x ∷ []), is) (or-true (list_any p xs))
 
 pub all_append : {A : Type 0} (p : A → Bool) (xs ys : List A) → list_all p xs ≡ true → list_all p ys ≡ true → list_all p (xs ++ ys) ≡ true
-all_append p [] ys a c = c
-all_append p (x ∷ xs) ys a c = let h = and_parts (p x) (list_all p xs) a in rw h.0 (all_append p xs ys h.1 c)
+all_append p xs ys a c = rw (list_all-append p xs ys, a) c
 
-all_parts : {A : Type 0} (p : A → Bool) (xs ys : List A) → list_all p (xs ++ ys) ≡ true → (list_all p xs ≡ true) × (list_all p ys ≡ true)
-all_parts p [] ys a = (refl, a)
-all_parts p (x ∷ xs) ys a = let h = and_parts (p x) (list_all p (xs ++ ys)) a in let m = all_parts p xs ys h.1 in (rw h.0 m.0, m.1)
+pub all_parts : {A : Type 0} (p : A → Bool) (xs ys : List A) → list_all p (xs ++ ys) ≡ true → (list_all p xs ≡ true) × (list_all p ys ≡ true)
+all_parts p xs ys a = and_parts (list_all p xs) (list_all p ys) (sym (list_all-append p xs ys) ∙ a)
 
 pub all_filter : {A : Type 0} (p q : A → Bool) (xs : List A) → list_all p xs ≡ true → list_all p (filter q xs) ≡ true
 all_filter p q [] all = refl
@@ -101,9 +97,8 @@ sent_lines b (x ∷ xs) p rows all = by_rows (filter (is_row b x) rows) (all_fil
   by_rows [] h rest = rest
   by_rows (row ∷ hit) h rest = let m = and_parts (p row.it.film row.it.mark) _ h in rw m.0 (by_rows hit m.1 rest)
 
-lines_more : (cs : List Consignment) (c : Consignment) → flat_map (λ (it : Consignment). it.lines) (cs ++ c ∷ []) ≡ flat_map (λ (it : Consignment). it.lines) cs ++ c.lines
-lines_more [] c = append-nil c.lines
-lines_more (d ∷ cs) c = rw (lines_more cs c) (sym (append_assoc d.lines _ c.lines))
+pub lines_more : (cs : List Consignment) (c : Consignment) → flat_map (λ (it : Consignment). it.lines) (cs ++ c ∷ []) ≡ flat_map (λ (it : Consignment). it.lines) cs ++ c.lines
+lines_more cs c = flat_map-append (λ (it : Consignment). it.lines) cs (c ∷ []) ∙ ap (λ rest. flat_map (λ (it : Consignment). it.lines) cs ++ rest) (append-nil c.lines)
 
 checked_all : (p : ℕ → Mark → Bool) (missing : List ℕ) (k : ℕ) (lines : List Line) → list_all (λ (line : Line). p line.film line.mark) (map (checked_line missing) (numbered_from k lines)) ≡ list_all (λ (line : Line). p line.film line.mark) lines
 checked_all p missing k [] = refl
@@ -119,19 +114,12 @@ received_lines p missing q (c ∷ cs) all =
       | inr isnt ↦ rw isnt (all_append (λ (line : Line). p line.film line.mark) _ _ h.0 (received_lines p missing q cs h.1))
     ]
 
-arrived_all : (p : Line → Bool) (missing : List ℕ) (k : ℕ) (lines : List Line) → list_all p lines ≡ true → list_all p (map (λ it. it.1) (filter (λ it. not (mem it.0 missing)) (numbered_from k lines))) ≡ true
-arrived_all p missing k [] all = refl
-arrived_all p missing k (line ∷ lines) all = let h = and_parts (p line) (list_all p lines) all in elim (cases_Bool (mem k missing)) [
-  | inl gone ↦ rw gone (arrived_all p missing (k + 1) lines h.1)
-  | inr stays ↦ rw (stays, h.0) (arrived_all p missing (k + 1) lines h.1)
-]
-
 come_all : (p : Line → Bool) (missing : List ℕ) (q : Consignment → Bool) (cs : List Consignment) → list_all p (flat_map (λ (it : Consignment). it.lines) cs) ≡ true → list_all p (flat_map (λ (it : Consignment). arrived missing it.lines) (filter q cs)) ≡ true
 come_all p missing q [] all = refl
 come_all p missing q (c ∷ cs) all =
     let h = all_parts p c.lines _ all in
     elim (cases_Bool (q c)) [
-      | inl is ↦ rw is (all_append p _ _ (arrived_all p missing 1 c.lines h.0) (come_all p missing q cs h.1))
+      | inl is ↦ rw is (all_append p _ _ (all_arrived p missing 1 c.lines h.0) (come_all p missing q cs h.1))
       | inr isnt ↦ rw isnt (come_all p missing q cs h.1)
     ]
 

@@ -1,5 +1,5 @@
 -- Each step keeps that the branches of rows are there, and the places of consignments.
-use Rattle.shop_model.proofs.Common.{◌≡◌, inl, inr, ℕ, ◌+◌, List, [], ◌∷◌, map, length, Bool, true, not, refl, subst, ap, ◌∙◌, arith, ◌==◌, list_any, list_all, cases_Bool, and_parts, false≢true, map_push, Row, Owned, at, next, put_all, set_row, set_rows, update_where, is_row, IsCounted, Moment, Text, Branch, Staff, Customer, Rental, Terms, Payment, Act, Dispatch, Receive, Command, Rules, Kept, Catalogue, act_refusals, staff_is, reply_text, Books, BookCopy, Consignment, Table, Customers, CopyRows, Rentals, TermRows, Payments, RowOf, rows_of, with_rows, Edit, Put, Set, PutLot, Append, Update, edited, edits_of, shop_of, book_acted, book_done, has_row, is_staff_of, HasOwners}
+use Rattle.shop_model.proofs.Common.{◌≡◌, inl, inr, ℕ, ◌+◌, List, [], ◌∷◌, map, length, Bool, true, not, refl, subst, ap, ◌∙◌, arith, ◌==◌, list_any, list_all, cases_Bool, and_parts, false≢true, map_push, Row, Owned, at, next, put_all, set_row, set_rows, update_where, is_row, IsCounted, Moment, Text, Branch, Staff, Act, Dispatch, Receive, Command, Rules, Kept, Catalogue, act_refusals, staff_is, reply_text, Books, Consignment, Table, RowOf, RowsOf, rows_of, with_rows, Edit, Put, Set, PutLot, Append, Update, edited, edits_of, shop_of, book_acted, book_done, has_row, is_staff_of, HasOwners, AreRowsOwned}
 use Rattle.shop_model.specs.Rows.{put}
 use Rattle.shop_model.proofs.RowLemmas.{same_if, length_map, counted_more}
 use Rattle.shop_model.proofs.Isolation.{NoneHold}
@@ -55,49 +55,17 @@ set_all_owned : {A : Type 0} (branches : List Branch) (b : ℕ) (ns : List ℕ) 
 set_all_owned branches b [] f rows all = all
 set_all_owned branches b (n ∷ ns) f rows all = set_all_owned branches b ns f (set_row b n f rows) (set_owned branches b n f rows all)
 
-abbrev AreOwned : List Branch → (t : Table) → List (Row (RowOf t)) → Type 0
-AreOwned branches t rows = list_all (λ (row : Row (RowOf t)). has_row branches row.branch) rows ≡ true
-
-tables_owned : (branches : List Branch) (books : Books) → HasOwners branches books → (t : Table) → AreOwned branches t (rows_of t books)
-tables_owned branches books h Customers = h.customers
-tables_owned branches books h CopyRows = h.copies
-tables_owned branches books h Rentals = h.rentals
-tables_owned branches books h TermRows = h.terms
-tables_owned branches books h Payments = h.payments
-
 -- another list in one table
-with_owned : (branches : List Branch) (t : Table) (new : List (Row (RowOf t))) (books : Books) → AreOwned branches t new → HasOwners branches books → HasOwners branches (with_rows t new books)
+with_owned : (branches : List Branch) (t : Table) (new : RowsOf t) (books : Books) → AreRowsOwned branches t new → HasOwners branches books → HasOwners branches (with_rows t new books)
 with_owned branches t new books is h =
-    let all = by_table (AreOwned branches) t new books is (tables_owned branches books h) in
-    record {
-      customers = all Customers;
-      copies = all CopyRows;
-      rentals = all Rentals;
-      terms = all TermRows;
-      payments = all Payments;
-      lots = h.lots;
-      kept = h.kept;
-      lasts = h.lasts;
-      sources = h.sources;
-      addressees = h.addressees;
-    }
+    record { rows = by_table (AreRowsOwned branches) t new books is h.rows; lots = h.lots; kept = h.kept; lasts = h.lasts; sources = h.sources; addressees = h.addressees }
 
 -- other lots and consignments
 with_others : (branches : List Branch) (lots : List (Owned Text)) (cs : List Consignment) (books : Books) → HasOwners branches books → list_all (λ (row : Owned Text). has_row branches row.owner) lots ≡ true
     → list_all (λ (it : Consignment). has_row branches it.source) cs ≡ true → list_all (λ (it : Consignment). has_row branches it.addressee) cs ≡ true
     → HasOwners branches (record books { lots = lots; consignments = cs })
-with_others branches lots cs books h lots_are sources addressees = record {
-  customers = h.customers;
-  copies = h.copies;
-  rentals = h.rentals;
-  terms = h.terms;
-  payments = h.payments;
-  lots = lots_are;
-  kept = h.kept;
-  lasts = h.lasts;
-  sources = sources;
-  addressees = addressees;
-}
+with_others branches lots cs books h lots_are sources addressees =
+    record { rows = h.rows; lots = lots_are; kept = h.kept; lasts = h.lasts; sources = sources; addressees = addressees }
 
 -- what edits of consignments are asked
 abbrev IsBetween : List Branch → Books → Consignment → Type 0
@@ -107,8 +75,8 @@ abbrev KeepsBranches : (Consignment → Consignment) → Type 0
 KeepsBranches f = (it : Consignment) → ((f it).source ≡ it.source) × ((f it).addressee ≡ it.addressee)
 
 owners_edited : (branches : List Branch) (b : ℕ) → has_row branches b ≡ true → (books : Books) (edit : Edit) → AskedOfSend (IsBetween branches) KeepsBranches books edit → HasOwners branches books → HasOwners branches (edited b edit books)
-owners_edited branches b there books (Put t makes) asked h = with_owned branches t _ books (put_all_owned branches b makes (rows_of t books) there (tables_owned branches books h t)) h
-owners_edited branches b there books (Set t ns f) asked h = with_owned branches t _ books (set_all_owned branches b ns f (rows_of t books) (tables_owned branches books h t)) h
+owners_edited branches b there books (Put t makes) asked h = with_owned branches t _ books (put_all_owned branches b makes (rows_of books t) there (h.rows t)) h
+owners_edited branches b there books (Set t ns f) asked h = with_owned branches t _ books (set_all_owned branches b ns f (rows_of books t) (h.rows t)) h
 owners_edited branches b there books (PutLot lot) asked h = with_others branches _ books.consignments books h (all_more _ books.lots (record { owner = b; it = lot }) h.lots there) h.sources h.addressees
 owners_edited branches b there books (Append it) asked h =
     with_others branches books.lots _ books h h.lots (all_more _ books.consignments it h.sources asked.0) (all_more _ books.consignments it h.addressees asked.1)
@@ -131,11 +99,7 @@ owners_acted rules b catalogue command act books h there none =
 pub owners_done : (rules : Rules) (b : ℕ) (catalogue : Catalogue) (command : Command) (books : Books) → HasOwners catalogue.branches books → has_row catalogue.branches b ≡ true
     → NoneHold (act_refusals rules b catalogue (shop_of b books) command.moment command.act) → HasOwners catalogue.branches (book_done rules b command books)
 owners_done rules b catalogue command books h there none = let g = owners_acted rules b catalogue command command.act books h there none in record {
-  customers = g.customers;
-  copies = g.copies;
-  rentals = g.rentals;
-  terms = g.terms;
-  payments = g.payments;
+  rows = g.rows;
   lots = g.lots;
   kept = all_more (λ (row : Owned Kept). has_row catalogue.branches row.owner) books.kept (record { owner = b; it = record { command = command; reply = reply_text rules command (shop_of b books) } }) h.kept there;
   lasts = rw there (all_filter (λ (row : Owned Moment). has_row catalogue.branches row.owner) (λ (row : Owned Moment). not (row.owner == b)) books.lasts h.lasts);
@@ -145,11 +109,7 @@ owners_done rules b catalogue command books h there none = let g = owners_acted 
 
 pub owners_grow : (old new : List Branch) (books : Books) → ((n : ℕ) → has_row old n ≡ true → has_row new n ≡ true) → HasOwners old books → HasOwners new books
 owners_grow old new books more h = record {
-  customers = all_weaker (λ (row : Row Customer). has_row old row.branch) _ books.customers (λ (row : Row Customer) is. more row.branch is) h.customers;
-  copies = all_weaker (λ (row : Row BookCopy). has_row old row.branch) _ books.copies (λ (row : Row BookCopy) is. more row.branch is) h.copies;
-  rentals = all_weaker (λ (row : Row Rental). has_row old row.branch) _ books.rentals (λ (row : Row Rental) is. more row.branch is) h.rentals;
-  terms = all_weaker (λ (row : Row Terms). has_row old row.branch) _ books.terms (λ (row : Row Terms) is. more row.branch is) h.terms;
-  payments = all_weaker (λ (row : Row Payment). has_row old row.branch) _ books.payments (λ (row : Row Payment) is. more row.branch is) h.payments;
+  rows = λ t. all_weaker (λ (row : Row (RowOf t)). has_row old row.branch) _ (rows_of books t) (λ (row : Row (RowOf t)) is. more row.branch is) (h.rows t);
   lots = all_weaker (λ (row : Owned Text). has_row old row.owner) _ books.lots (λ (row : Owned Text) is. more row.owner is) h.lots;
   kept = all_weaker (λ (row : Owned Kept). has_row old row.owner) _ books.kept (λ (row : Owned Kept) is. more row.owner is) h.kept;
   lasts = all_weaker (λ (row : Owned Moment). has_row old row.owner) _ books.lasts (λ (row : Owned Moment) is. more row.owner is) h.lasts;

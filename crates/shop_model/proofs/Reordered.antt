@@ -1,24 +1,6 @@
 -- States of which the one has its maps and sets in another order are the same to a branch.
-use Rattle.shop_model.proofs.Common.{◌≡◌, inl, inr, List, [], ◌∷◌, find, Bool, true, false, not, Option, None, Some, refl, sym, subst, ◌∙◌, All, IsPermutation, ◌==◌, ◌&&◌, bytes_eq, list_any, AllByRecursion, cases_Bool, and_parts, or_parts, not-true, true≢false, false≢true, All-nil, All-cons, All-from_recursion, recursion_from_All, list_any_none, bytes_eq-Decides, Text, Cast, Kept, OfficeKept, State, are_different, SameState, IsReordered}
-use Rattle.std.proofs.lemmas.List.Sorted.{All-permutation, IsPermutation-sym, length_permutation}
-
--- ---- sets
-
-any_none : {A : Type 0} (p : A → Bool) (xs : List A) → list_any p xs ≡ false → All (λ x. p x ≡ false) xs
-any_none p [] none = All-nil (λ x. p x ≡ false)
-any_none p (x ∷ xs) none = let parts = or_parts (p x) (list_any p xs) none in All-cons (λ x. p x ≡ false) x xs parts.0 (any_none p xs parts.1)
-
-none_moved : {A : Type 0} (p : A → Bool) (xs ys : List A) → IsPermutation xs ys → list_any p xs ≡ false → list_any p ys ≡ false
-none_moved p xs ys moved none = list_any_none p ys (All-permutation (λ x. p x ≡ false) xs ys moved (any_none p xs none))
-
-any_moved : {A : Type 0} (p : A → Bool) (xs ys : List A) → IsPermutation xs ys → list_any p xs ≡ list_any p ys
-any_moved p xs ys moved = elim (cases_Bool (list_any p xs)) [
-  | inl some ↦ elim (cases_Bool (list_any p ys)) [
-    | inl too ↦ some ∙ sym too
-    | inr none ↦ absurd (true≢false (sym some ∙ none_moved p ys xs (IsPermutation-sym xs ys moved) none))
-  ]
-  | inr none ↦ none ∙ sym (none_moved p xs ys moved none)
-]
+use Rattle.shop_model.proofs.Common.{◌≡◌, inl, inr, List, [], ◌∷◌, find, Bool, true, false, not, Option, None, Some, refl, sym, subst, ◌∙◌, IsPermutation, ◌==◌, ◌&&◌, bytes_eq, list_any, AllByRecursion, cases_Bool, and_parts, or_parts, not-true, false≢true, All-from_recursion, recursion_from_All, bytes_eq-Decides, Text, Cast, Kept, OfficeKept, State, are_different, SameState, IsReordered}
+use Rattle.std.proofs.lemmas.List.Sorted.{All-permutation, length_permutation, list_any-IsPermutation}
 
 -- ---- maps
 
@@ -66,7 +48,7 @@ found_moved {A} same p xs ys agree differ moved =
       | inl some ↦
           let only = recursion_from_All IsIt ys (All-permutation IsIt xs ys moved (All-from_recursion IsIt xs (only_one same p xs agree differ))) in
           one_found p (find p xs) ys only some
-      | inr none ↦ none_found p xs (any_moved p xs ys moved ∙ none) ∙ sym (none_found p ys none)
+      | inr none ↦ none_found p xs (list_any-IsPermutation p xs ys moved ∙ none) ∙ sym (none_found p ys none)
     ]
 
 -- ---- states
@@ -84,13 +66,13 @@ reordered_same one other is =
         kept = λ key. found_moved (λ (a b : OfficeKept). bytes_eq a.command.key b.command.key) (λ (k : OfficeKept). bytes_eq k.command.key key) one.catalogue.kept other.catalogue.kept
             (λ a b. same_key key a.command.key b.command.key) shared.keys shared.kept;
         size = sym (length_permutation one.catalogue.kept other.catalogue.kept shared.kept);
-        casts = λ film actor. any_moved (λ (it : Cast). it.film == film && it.actor == actor) one.catalogue.casts other.catalogue.casts shared.casts;
+        casts = λ film actor. list_any-IsPermutation (λ (it : Cast). it.film == film && it.actor == actor) one.catalogue.casts other.catalogue.casts shared.casts;
       };
       shop = record {
         rest = own.rest;
         kept = λ key. found_moved (λ (a b : Kept). bytes_eq a.command.key b.command.key) (λ (k : Kept). bytes_eq k.command.key key) one.shop.kept other.shop.kept
             (λ a b. same_key key a.command.key b.command.key) own.keys own.kept;
         size = sym (length_permutation one.shop.kept other.shop.kept own.kept);
-        lots = λ lot. any_moved (bytes_eq lot) one.shop.lots other.shop.lots own.lots;
+        lots = λ lot. list_any-IsPermutation (bytes_eq lot) one.shop.lots other.shop.lots own.lots;
       };
     }

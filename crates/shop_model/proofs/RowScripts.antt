@@ -1,5 +1,9 @@
 -- The words in which the worked rows are written: who asks what, and what is answered.
 use Rattle.std.specs.Prelude.{◌≡◌, ℕ, List, [], ◌∷◌, map, Some}
+use Rattle.std.specs.Fmt.{digits}
+use Rattle.shop_model.specs.Calendar.{day_of, day_number, days_of_years, days_of_months, seconds_of}
+use Rattle.shop_model.specs.Json.{escape_byte}
+use Rattle.shop_model.specs.Values.{NewCustomer}
 use Rattle.shop_model.proofs.Common.{if◌then◌else◌, codes, bytes_eq, Moment, Text, Person, Act, OfficeAct, Ask, OfficeAsk, Stock, Copies, BadLine, Rules, Request, Do, Look, Office, OfficeLook, Reply, Answer, answer_of, token_of, opening_books, Books, Event, Caller, run, last_books, office_look}
 
 -- ---- moments
@@ -90,8 +94,11 @@ wants ask = sends 0 (OfficeLook ask)
 abbrev pub named : Text → Person
 named first = record { first = first; last = codes "SMITH"; address = codes "1 Main"; postal = []; phone = codes "555"; city = 1 }
 
-abbrev pub mary : Person
-mary = named (codes "MARY")
+abbrev pub newcomer : Text → NewCustomer
+newcomer first = record { person = named first }
+
+abbrev pub mary : NewCustomer
+mary = newcomer (codes "MARY")
 
 -- ---- answers
 
@@ -116,3 +123,8 @@ PlaysOn rules books script = map (λ (it : Caller × Reply). answer_of it.1) (ru
 -- and so on the opening rows, after the requests of another script
 abbrev pub Plays : Rules → Script → Script → Type 0
 Plays rules earlier script = PlaysOn rules (books_after rules earlier) script
+
+-- what the rows compute with: to unfold this is to unfold those words
+unfoldable pub computing : Unit {0}
+unfolding digits escape_byte day_of day_number days_of_years days_of_months seconds_of
+computing = tt

@@ -1,10 +1,7 @@
 -- Worked rows: consignments, and where each copy is.
 use Rattle.shop_model.proofs.Common.{◌≡◌, ℕ, List, [], ◌∷◌, ◌++◌, true, refl, codes, Here, AddCustomer, Rent, TakeBack, Import, Dispatch, Receive, Scrap, Arrivals, SentOff, Custody, Transit, Audit, Books, made, transit, gone, set_row, put_state}
-use Rattle.std.specs.Fmt.{digits}
-use Rattle.shop_model.specs.Json.{escape_byte}
-use Rattle.shop_model.specs.Calendar.{day_of, day_number, days_of_years, days_of_months, seconds_of}
 use Rattle.shop_model.specs.Sound.{here}
-use Rattle.shop_model.proofs.RowScripts.{ten, four_copies, two_copies, one_copy, limited, rules, does, asks, wants, mary, ok, no, Script, Plays, books_after}
+use Rattle.shop_model.proofs.RowScripts.{computing, ten, four_copies, two_copies, one_copy, limited, rules, does, asks, wants, mary, ok, no, Script, Plays, books_after}
 
 -- the first branch has four copies, the second two
 abbrev pub stocked : Script
@@ -30,7 +27,7 @@ two_dispatches : Plays rules [] (
     ∷ (asks 1 SentOff, ok (codes "[{\"films\":[1],\"number\":1,\"to\":3},{\"films\":[1,1,2],\"number\":1,\"to\":2}]"))
     ∷ (does 1 (codes "a") ten (Rent 1 1), no (codes "{\"refused\":\"copy_not_here\"}"))
     ∷ [])
-unfolding digits escape_byte day_of day_number days_of_years days_of_months seconds_of
+unfolding computing
 two_dispatches = refl
 
 -- the sender is shown the same, before and after the receipt
@@ -44,7 +41,7 @@ receipt_with_missing : Plays rules (stocked ++ dispatched) (
     ∷ (asks 1 SentOff, ok (codes "[{\"films\":[1],\"number\":1,\"to\":3},{\"films\":[1,1,2],\"number\":1,\"to\":2}]"))
     ∷ (asks 2 Arrivals, ok (codes "[{\"films\":[1,1,2],\"from\":1,\"number\":1,\"received\":true}]"))
     ∷ [])
-unfolding digits escape_byte day_of day_number days_of_years days_of_months seconds_of
+unfolding computing
 receipt_with_missing = refl
 
 -- a copy that comes home has a new number and its old mark
@@ -62,26 +59,26 @@ there_and_back : Plays rules [] (
     ∷ (does 1 (codes "e") ten (TakeBack 1), ok (codes "{\"returned\":1}"))
     ∷ (does 1 (codes "f") ten (Dispatch 1 (2 ∷ [])), no (codes "{\"refused\":\"own_branch\"}"))
     ∷ [])
-unfolding digits escape_byte day_of day_number days_of_years days_of_months seconds_of
+unfolding computing
 there_and_back = refl
 
 -- by sender and addressee, not by the order of dispatch
 in_transit : Plays rules (stocked ++ dispatched) (
     (wants Transit, ok (codes "[{\"films\":[1,1,2],\"from\":1,\"number\":1,\"to\":2},{\"films\":[1],\"from\":1,\"number\":1,\"to\":3}]"))
     ∷ [])
-unfolding digits escape_byte day_of day_number days_of_years days_of_months seconds_of
+unfolding computing
 in_transit = refl
 
 abbrev all_of : Books → List ℕ
 all_of books = made (λ _. true) books ∷ here (λ _. true) books ∷ transit (λ _. true) books ∷ gone (λ _. true) books ∷ []
 
 in_transit_counts : all_of (books_after rules (stocked ++ dispatched)) ≡ 6 ∷ 2 ∷ 4 ∷ 0 ∷ []
-unfolding digits escape_byte day_of day_number days_of_years days_of_months seconds_of
+unfolding computing
 in_transit_counts = refl
 
 -- a copy that is under way and is said to be here as well is in two places, and the numbers no longer agree
 copy_in_two_places : (let books = books_after rules (stocked ++ dispatched) in all_of (record books { copies = set_row 1 1 (put_state Here) books.copies })) ≡ 6 ∷ 3 ∷ 4 ∷ 0 ∷ []
-unfolding digits escape_byte day_of day_number days_of_years days_of_months seconds_of
+unfolding computing
 copy_in_two_places = refl
 
 -- no copy, a copy twice, a copy and a branch that aren't there, and of two faults the first
@@ -93,7 +90,7 @@ bad_lines_sent : Plays rules stocked (
     ∷ (does 1 (codes "e") ten (Dispatch 1 []), no (codes "{\"refused\":\"own_branch\"}"))
     ∷ (does 1 (codes "f") ten (Dispatch 9 (9 ∷ [])), no (codes "{\"refused\":\"no_copy\"}"))
     ∷ [])
-unfolding digits escape_byte day_of day_number days_of_years days_of_months seconds_of
+unfolding computing
 bad_lines_sent = refl
 
 -- missing lines are named in order; none and all may be missing
@@ -103,7 +100,7 @@ bad_lines_received : Plays rules (stocked ++ dispatched) (
     ∷ (does 2 (codes "c") ten (Receive 1 2 []), no (codes "{\"refused\":\"no_arrival\"}"))
     ∷ (does 2 (codes "d") ten (Receive 1 1 (1 ∷ 2 ∷ 3 ∷ [])), ok (codes "{\"copies\":[]}"))
     ∷ [])
-unfolding digits escape_byte day_of day_number days_of_years days_of_months seconds_of
+unfolding computing
 bad_lines_received = refl
 
 -- four copies are allowed, and two are there
@@ -111,7 +108,7 @@ full_at_receipt : Plays (limited 1000000 4) (stocked ++ dispatched) (
     (does 2 (codes "a") ten (Receive 1 1 []), no (codes "{\"refused\":\"full\"}"))
     ∷ (does 2 (codes "b") ten (Receive 1 1 (2 ∷ [])), ok (codes "{\"copies\":[3,4]}"))
     ∷ [])
-unfolding digits escape_byte day_of day_number days_of_years days_of_months seconds_of
+unfolding computing
 full_at_receipt = refl
 
 -- a copy that was sent keeps its row
@@ -120,7 +117,7 @@ sent_copies_count : Plays (limited 1000000 1) [] (
     ∷ (does 1 (codes "b") ten (Dispatch 2 (1 ∷ [])), ok (codes "{\"consignment\":1,\"to\":2}"))
     ∷ (does 1 (codes "c") ten (Import (codes "L2") one_copy), no (codes "{\"refused\":\"full\"}"))
     ∷ [])
-unfolding digits escape_byte day_of day_number days_of_years days_of_months seconds_of
+unfolding computing
 sent_copies_count = refl
 
 scrapped_is_gone : Plays rules stocked (
@@ -129,5 +126,5 @@ scrapped_is_gone : Plays rules stocked (
     ∷ (wants (Custody 9 1), no (codes "{\"refused\":\"no_branch\"}"))
     ∷ (wants Audit, ok (codes "{\"gone\":1,\"here\":5,\"made\":6,\"sound\":true,\"transit\":0}"))
     ∷ [])
-unfolding digits escape_byte day_of day_number days_of_years days_of_months seconds_of
+unfolding computing
 scrapped_is_gone = refl

@@ -1,9 +1,6 @@
 -- Worked rows: what head office adds, changes and withdraws.
 use Rattle.shop_model.proofs.Common.{ℕ, [], ◌∷◌, false, None, refl, codes, Film, Branch, ByCode, ByComment, AddCustomer, Import, AddCountry, AddCity, AddLanguage, AddCategory, AddActor, AddFilm, PriceFilm, WithdrawFilm, AddCast, AddBranch, AddStaff, StaffLeaves, SetManager, ChooseRule, OneFilm, Sales, Usage, Unread, token_of, Catalogue, opening}
-use Rattle.std.specs.Fmt.{digits}
-use Rattle.shop_model.specs.Json.{escape_byte}
-use Rattle.shop_model.specs.Calendar.{day_of, day_number, days_of_years, days_of_months, seconds_of}
-use Rattle.shop_model.proofs.RowScripts.{ten, one_comedy, limited, rules, sends, does, asks, orders, wants, mary, ok, no, Plays, PlaysOn}
+use Rattle.shop_model.proofs.RowScripts.{computing, ten, one_comedy, limited, rules, sends, does, asks, orders, wants, mary, ok, no, Plays, PlaysOn}
 
 abbrev stone : Film
 stone = record { title = codes "STONE"; description = []; language = 1; category = 2; period = 3; rate = 499; replacement = 1999; minutes = None; rating = codes "G"; features = []; withdrawn = false }
@@ -18,7 +15,7 @@ film_added : Plays rules [] (
     (orders (codes "f1") (AddFilm stone), ok (codes "{\"film\":3}"))
     ∷ (asks 3 (OneFilm 3), ok (codes "{\"category\":2,\"description\":\"\",\"features\":\"\",\"film\":3,\"language\":1,\"length\":null,\"period\":3,\"rate\":499,\"rating\":\"G\",\"replacement\":1999,\"title\":\"STONE\",\"withdrawn\":false}"))
     ∷ [])
-unfolding digits escape_byte day_of day_number days_of_years days_of_months seconds_of
+unfolding computing
 film_added = refl
 
 film_withdrawn : Plays rules [] (
@@ -26,7 +23,7 @@ film_withdrawn : Plays rules [] (
     ∷ (orders (codes "w2") (WithdrawFilm 2), no (codes "{\"refused\":\"already\"}"))
     ∷ (does 1 (codes "a") ten (Import (codes "L1") one_comedy), no (codes "{\"refused\":\"film_withdrawn\"}"))
     ∷ [])
-unfolding digits escape_byte day_of day_number days_of_years days_of_months seconds_of
+unfolding computing
 film_withdrawn = refl
 
 -- the token of a branch, that of head office, and a free one
@@ -34,9 +31,9 @@ token_taken : Plays rules [] (
     (orders (codes "a") (AddBranch (high_street 1)), no (codes "{\"refused\":\"token_taken\"}"))
     ∷ (orders (codes "b") (AddBranch (high_street 0)), no (codes "{\"refused\":\"token_taken\"}"))
     ∷ (orders (codes "c") (AddBranch (high_street 4)), ok (codes "{\"branch\":4}"))
-    ∷ (orders (codes "d") (AddStaff (record { branch = 4; person = mary; gone = false })), ok (codes "{\"staff\":4}"))
+    ∷ (orders (codes "d") (AddStaff (record { branch = 4; person = mary.person; gone = false })), ok (codes "{\"staff\":4}"))
     ∷ [])
-unfolding digits escape_byte day_of day_number days_of_years days_of_months seconds_of
+unfolding computing
 token_taken = refl
 
 -- staff of another branch, staff that isn't there, and then the branch's own
@@ -46,7 +43,7 @@ managers : Plays rules [] (
     ∷ (orders (codes "c") (SetManager 3 3), ok (codes "{\"branch\":3,\"staff\":3}"))
     ∷ (orders (codes "d") (SetManager 3 3), no (codes "{\"refused\":\"already\"}"))
     ∷ [])
-unfolding digits escape_byte day_of day_number days_of_years days_of_months seconds_of
+unfolding computing
 managers = refl
 
 -- head office begins with no shared row at all
@@ -55,7 +52,7 @@ file_from_nothing : PlaysOn rules (opening nowhere) (
     ∷ (orders (codes "c2") (AddCity (record { name = codes "Lethbridge"; country = 2 })), no (codes "{\"refused\":\"no_shared_row\"}"))
     ∷ (orders (codes "c3") (AddCity (record { name = codes "Lethbridge"; country = 1 })), ok (codes "{\"city\":1}"))
     ∷ [])
-unfolding digits escape_byte day_of day_number days_of_years days_of_months seconds_of
+unfolding computing
 file_from_nothing = refl
 
 shared_rows : Plays rules [] (
@@ -68,7 +65,7 @@ shared_rows : Plays rules [] (
     ∷ (orders (codes "g") (StaffLeaves 3), ok (codes "{\"staff\":3}"))
     ∷ (orders (codes "h") (StaffLeaves 3), no (codes "{\"refused\":\"already\"}"))
     ∷ [])
-unfolding digits escape_byte day_of day_number days_of_years days_of_months seconds_of
+unfolding computing
 shared_rows = refl
 
 -- the rule that is chosen already
@@ -79,7 +76,7 @@ already_by_code : Plays rules [] (
     ∷ (orders (codes "r1") (ChooseRule ByCode), no (codes "{\"refused\":\"key_used\"}"))
     ∷ (orders (codes "r2") (ChooseRule ByComment), no (codes "{\"refused\":\"already\"}"))
     ∷ [])
-unfolding digits escape_byte day_of day_number days_of_years days_of_months seconds_of
+unfolding computing
 already_by_code = refl
 
 -- with one kept key allowed the second command finds no room, and a reading is answered
@@ -88,7 +85,7 @@ office_limit : Plays (limited 1 1000000) [] (
     ∷ (orders (codes "b") (AddCountry (codes "Peru")), no (codes "{\"refused\":\"full\"}"))
     ∷ (wants Sales, ok (codes "[]"))
     ∷ [])
-unfolding digits escape_byte day_of day_number days_of_years days_of_months seconds_of
+unfolding computing
 office_limit = refl
 
 -- head office's keys are kept as a branch's are; words that are no command
@@ -97,7 +94,7 @@ used_key_and_usage : Plays rules ((orders (codes "p1") (PriceFilm 1 299), ok (co
     ∷ (orders (codes "p1") (PriceFilm 1 299), ok (codes "{\"film\":1,\"rate\":299}"))
     ∷ (sends 0 (Unread Usage), record { status = 400; body = codes "{\"refused\":\"usage\"}" })
     ∷ [])
-unfolding digits escape_byte day_of day_number days_of_years days_of_months seconds_of
+unfolding computing
 used_key_and_usage = refl
 
 -- who left works no more
@@ -107,5 +104,5 @@ manager_leaves : Plays rules [] (
     ∷ (does 1 (codes "a") ten (AddCustomer mary), no (codes "{\"refused\":\"no_staff\"}"))
     ∷ (orders (codes "c") (PriceFilm 9 1), no (codes "{\"refused\":\"no_film\"}"))
     ∷ [])
-unfolding digits escape_byte day_of day_number days_of_years days_of_months seconds_of
+unfolding computing
 manager_leaves = refl

@@ -1,9 +1,6 @@
 -- Worked rows: whole histories of several branches.
 use Rattle.shop_model.proofs.Common.{◌≡◌, ℕ, List, [], ◌∷◌, ◌++◌, map, Some, refl, codes, decimal, Moment, AddCustomer, Rent, TakeBack, Pay, Import, Dispatch, Receive, FilmList, InStock, HeldBy, Balance, OneView, Audit, Answer, answer_of, opening_books, Event, run, replies_to, office_look, replicate}
-use Rattle.std.specs.Fmt.{digits}
-use Rattle.shop_model.specs.Json.{escape_byte}
-use Rattle.shop_model.specs.Calendar.{day_of, day_number, days_of_years, days_of_months, seconds_of}
-use Rattle.shop_model.proofs.RowScripts.{moment, ten, two_copies, one_copy, rules, does, asks, wants, mary, ok, Plays}
+use Rattle.shop_model.proofs.RowScripts.{computing, moment, ten, two_copies, one_copy, rules, does, asks, wants, mary, ok, Plays}
 use Rattle.shop_model.proofs.RowsOfRentals.{four_copies_in}
 
 -- the same, counted from 1
@@ -55,16 +52,16 @@ told =
     ∷ []
 
 none_between : sent_to 2 alone ≡ told
-unfolding digits escape_byte day_of day_number days_of_years days_of_months seconds_of
+unfolding computing
 none_between = refl
 
 -- forty requests of another branch between change no byte of it
 forty_between : sent_to 2 among_others ≡ told
-unfolding digits escape_byte day_of day_number days_of_years days_of_months seconds_of
+unfolding computing
 forty_between = refl
 
 forty_accepted : map (λ (it : Answer). it.status) (sent_to 1 among_others) ≡ replicate 40 200
-unfolding digits escape_byte day_of day_number days_of_years days_of_months seconds_of
+unfolding computing
 forty_accepted = refl
 
 -- one request of each kind, from the first customer to the audit
@@ -80,5 +77,5 @@ whole_day : Plays rules [] (
     ∷ (does 2 (codes "a") ten (Receive 1 1 []), ok (codes "{\"copies\":[1]}"))
     ∷ (wants Audit, ok (codes "{\"gone\":0,\"here\":4,\"made\":4,\"sound\":true,\"transit\":0}"))
     ∷ [])
-unfolding digits escape_byte day_of day_number days_of_years days_of_months seconds_of
+unfolding computing
 whole_day = refl

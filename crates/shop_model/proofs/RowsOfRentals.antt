@@ -1,9 +1,6 @@
 -- Worked rows: stock files, rentals and what is in stock.
 use Rattle.shop_model.proofs.Common.{[], ◌∷◌, ◌++◌, false, refl, codes, AddCustomer, SetActive, Rent, TakeBack, Import, Scrap, InStock, HeldBy, FilmInStock, FilmNotInStock}
-use Rattle.std.specs.Fmt.{digits}
-use Rattle.shop_model.specs.Json.{escape_byte}
-use Rattle.shop_model.specs.Calendar.{day_of, day_number, days_of_years, days_of_months, seconds_of}
-use Rattle.shop_model.proofs.RowScripts.{ten, four_copies, two_copies, two_and_unknown, none_on_third_line, header_alone, limited, rules, does, asks, mary, ok, no, Script, Plays}
+use Rattle.shop_model.proofs.RowScripts.{computing, ten, four_copies, two_copies, two_and_unknown, none_on_third_line, header_alone, limited, rules, does, asks, mary, ok, no, Script, Plays}
 
 -- the first branch has copies 1 to 3 of the first film and copy 4 of the second
 abbrev pub four_copies_in : Script
@@ -29,7 +26,7 @@ rent_return_rent : Plays rules [] (
     ∷ (asks 1 (FilmInStock 1), ok (codes "{\"copies\":[2,3],\"count\":2}"))
     ∷ (asks 1 (InStock 5), no (codes "{\"refused\":\"no_copy\"}"))
     ∷ [])
-unfolding digits escape_byte day_of day_number days_of_years days_of_months seconds_of
+unfolding computing
 rent_return_rent = refl
 
 abbrev pub one_out_one_scrapped : Script
@@ -49,7 +46,7 @@ scrapped_and_out : Plays rules (four_copies_in ++ two_customers) (
     ∷ (does 1 (codes "f") ten (Rent 1 5), no (codes "{\"refused\":\"no_copy\"}"))
     ∷ (asks 1 (FilmInStock 9), no (codes "{\"refused\":\"no_film\"}"))
     ∷ [])
-unfolding digits escape_byte day_of day_number days_of_years days_of_months seconds_of
+unfolding computing
 scrapped_and_out = refl
 
 -- who isn't active can't rent, and can give back
@@ -62,7 +59,7 @@ inactive_customer : Plays rules (four_copies_in ++ two_customers ++ one_out_one_
     ∷ (does 1 (codes "l") ten (TakeBack 1), no (codes "{\"refused\":\"rental_returned\"}"))
     ∷ (does 1 (codes "m") ten (TakeBack 2), no (codes "{\"refused\":\"no_rental\"}"))
     ∷ [])
-unfolding digits escape_byte day_of day_number days_of_years days_of_months seconds_of
+unfolding computing
 inactive_customer = refl
 
 -- a stock file with a fault leaves nothing, so that the next copy is the first
@@ -73,7 +70,7 @@ bad_stock_file : Plays rules [] (
     ∷ (does 1 (codes "d") ten (Import (codes "L2") []), no (codes "{\"line\":1,\"refused\":\"bad_csv\"}"))
     ∷ (does 1 (codes "e") ten (Import (codes "L1") four_copies), no (codes "{\"refused\":\"lot_in\"}"))
     ∷ [])
-unfolding digits escape_byte day_of day_number days_of_years days_of_months seconds_of
+unfolding computing
 bad_stock_file = refl
 
 -- a refused import leaves its lot free
@@ -81,19 +78,19 @@ unknown_film_then_lot : Plays rules [] (
     (does 1 (codes "a") ten (Import (codes "L1") two_and_unknown), no (codes "{\"refused\":\"no_film\"}"))
     ∷ (does 1 (codes "b") ten (Import (codes "L1") two_copies), ok (codes "{\"copies\":2,\"first\":1}"))
     ∷ [])
-unfolding digits escape_byte day_of day_number days_of_years days_of_months seconds_of
+unfolding computing
 unknown_film_then_lot = refl
 
 -- a lot that is in, with a stock file that doesn't read
 lot_before_csv : Plays rules four_copies_in (
     (does 1 (codes "a") ten (Import (codes "L1") none_on_third_line), no (codes "{\"refused\":\"lot_in\"}"))
     ∷ [])
-unfolding digits escape_byte day_of day_number days_of_years days_of_months seconds_of
+unfolding computing
 lot_before_csv = refl
 
 -- a stock file that reads and is too large is refused for that, whatever its films are
 full_before_film : Plays (limited 1000000 2) [] (
     (does 1 (codes "a") ten (Import (codes "L1") two_and_unknown), no (codes "{\"refused\":\"full\"}"))
     ∷ [])
-unfolding digits escape_byte day_of day_number days_of_years days_of_months seconds_of
+unfolding computing
 full_before_film = refl

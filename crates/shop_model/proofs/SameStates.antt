@@ -1,5 +1,5 @@
 -- In states that are the same but for the order of maps and sets a branch is told the same, and each step leaves such states.
-use Rattle.shop_model.proofs.Common.{◌≡◌, inl, inr, ℕ, ◌+◌, List, [], ◌∷◌, ◌++◌, length, filter, find, Bool, true, false, Option, None, Some, refl, sym, ap, ap₂, subst, ◌∙◌, arith, length-append, ◌==◌, ◌&&◌, ◌||◌, nat_lt, nat_le, if◌then◌else◌, codes, option_or, bytes_eq, list_any, join_by, cases_Bool, find-append, list_any-append, at, is_empty, lacks, numbered, Moment, month_before, Text, Actor, Film, Cast, Act, AddCustomer, Import, Command, OfficeAct, AddCountry, AddCast, OfficeCommand, View, FilmList, ActorInfo, Ask, Rewards, OneView, Stock, Copies, BadLine, Rules, Refusal, KeyUsed, Full, MomentBack, NoStaff, NoFilm, FilmWithdrawn, LotIn, BadCsv, NoSharedRow, Already, BadThreshold, Kept, OfficeKept, Catalogue, Shop, same_command, same_office, rewarded_in, Verdict, Again, Refused, Accepted, first, staff_is, is_film_withdrawn, new_copies, is_full, import_refusals, act_refusals, is_before, refusals, resent, verdict, office_refusals, office_resent, office_verdict, object, acted, reply_text, done, office_acted, office_told, office_text, office_done, Request, Do, Look, CustomersAre, FilmsListed, ActorsListed, Reply, Sorry, Shows, view_rows, look, reply_by, reply_to, if_accepted, State, Input, FromOffice, Arrive, Own, shop_after, catalogue_after, moved, answers, rest_of_shop, rest_of_catalogue, SameShop, SameCatalogue, SameState, IsToldTheSame, OrderTellsNothing}
+use Rattle.shop_model.proofs.Common.{◌≡◌, inl, inr, ℕ, ◌+◌, List, [], ◌∷◌, ◌++◌, length, filter, find, Bool, true, false, Option, None, Some, refl, sym, ap, ap₂, subst, ◌∙◌, arith, length-append, ◌==◌, ◌&&◌, ◌||◌, nat_lt, nat_le, if◌then◌else◌, codes, option_or, bytes_eq, list_any, join_by, cases_Bool, find-append, list_any-append, at, is_empty, lacks, numbered, Moment, month_before, Text, Actor, Film, Cast, Act, AddCustomer, Import, Command, OfficeAct, AddCountry, AddCast, OfficeCommand, View, FilmList, ActorInfo, Ask, Rewards, OneView, Stock, Copies, BadLine, Rules, Refusal, KeyUsed, Full, MomentBack, NoStaff, NoFilm, FilmWithdrawn, LotIn, BadCsv, NoSharedRow, Already, BadThreshold, Kept, OfficeKept, Catalogue, Shop, same_command, same_office, rewarded_in, Verdict, Again, Refused, Accepted, first, staff_is, is_film_withdrawn, new_copies, is_full, import_refusals, act_refusals, is_before, refusals, verdict, office_refusals, office_verdict, object, acted, done, office_acted, office_told, office_done, Request, Do, Look, CustomersAre, FilmsListed, ActorsListed, Reply, Sorry, Shows, view_rows, look, reply_by, reply_to, if_accepted, State, Input, FromOffice, Arrive, Own, shop_after, catalogue_after, moved, answers, rest_of_shop, rest_of_catalogue, SameShop, SameCatalogue, SameState, IsToldTheSame, OrderTellsNothing, resent_by}
 use mathlib.Core.Path.{fun_ext}
 use Rattle.std.specs.Prelude.{not, map}
 use Rattle.shop_model.specs.Views.{sorted_by, is_before_text, full_name, is_cast, FilmRow, film_row, film_list, categories_by_name, ActorRow, actor_row, actor_info}
@@ -21,15 +21,25 @@ as_many xs ys x y e = let one = length-append xs (x ∷ []) in let other = lengt
 
 -- ---- a branch's verdicts
 
-abbrev resent_found : Command → Option Kept → Verdict → Verdict
-resent_found command None fresh = fresh
-resent_found command (Some k) fresh = if same_command k.command command then Again k.reply else Refused KeyUsed
+-- what follows from acceptance, and holds also where the command is answered otherwise
+pub by_cases : (P : Verdict → Type 0) (v : Verdict) → (v ≡ Accepted → P Accepted) → ((text : Text) → v ≡ Again text → P (Again text)) → ((refusal : Refusal) → P (Refused refusal)) → P v
+by_cases P (Again text) accepted again refused = again text refl
+by_cases P (Refused refusal) accepted again refused = refused refusal
+by_cases P Accepted accepted again refused = accepted refl
 
-resent_is : (command : Command) (p : Kept → Bool) (kept : List Kept) (fresh : Verdict) → resent command (filter p kept) fresh ≡ resent_found command (find p kept) fresh
-resent_is command p [] fresh = refl
-resent_is command p (k ∷ kept) fresh = elim (cases_Bool (p k)) [
+-- what holds of the one of two that a verdict chooses
+pub by_verdict : {A : Type 0} (P : A → Type 0) (v : Verdict) (new old : A) → (v ≡ Accepted → P new) → P old → P (if_accepted v new old)
+by_verdict P v new old accepted stays = by_cases (λ v. P (if_accepted v new old)) v accepted (λ _ _. stays) (λ _. stays)
+
+abbrev found_by : {A : Type 0} → (A → Bool) → (A → Text) → Option A → Verdict → Verdict
+found_by same reply None fresh = fresh
+found_by same reply (Some k) fresh = if same k then Again (reply k) else Refused KeyUsed
+
+found_is : {A : Type 0} (same : A → Bool) (reply : A → Text) (p : A → Bool) (kept : List A) (fresh : Verdict) → resent_by same reply (filter p kept) fresh ≡ found_by same reply (find p kept) fresh
+found_is same reply p [] fresh = refl
+found_is same reply p (k ∷ kept) fresh = elim (cases_Bool (p k)) [
   | inl is ↦ rw is
-  | inr isnt ↦ rw isnt (resent_is command p kept fresh)
+  | inr isnt ↦ rw isnt (found_is same reply p kept fresh)
 ]
 
 copies_same : (rules : Rules) (act : Act) (s t : Shop) → rest_of_shop s ≡ rest_of_shop t → new_copies rules s act ≡ new_copies rules t act
@@ -66,9 +76,10 @@ verdict_same : (rules : Rules) (b : ℕ) (command : Command) (c d : Catalogue) (
     → verdict rules b c s command ≡ verdict rules b d t command
 verdict_same rules b command c d s t shared own =
     let under : Kept → Bool = λ k. bytes_eq k.command.key command.key in
-    resent_is command under s.kept (first (refusals rules b c s command))
-    ∙ ap₂ (λ (found : Option Kept) (tests : List (Refusal × Bool)). resent_found command found (first tests)) (own.kept command.key) (refusals_same rules b command c d s t shared own)
-    ∙ sym (resent_is command under t.kept (first (refusals rules b d t command)))
+    let same : Kept → Bool = λ k. same_command k.command command in
+    found_is same _ under s.kept (first (refusals rules b c s command))
+    ∙ ap₂ (λ (found : Option Kept) (tests : List (Refusal × Bool)). found_by same (λ k. k.reply) found (first tests)) (own.kept command.key) (refusals_same rules b command c d s t shared own)
+    ∙ sym (found_is same _ under t.kept (first (refusals rules b d t command)))
 
 -- ---- what it does and replies
 
@@ -86,15 +97,12 @@ lots_acted : (rules : Rules) (command : Command) (act : Act) (c d : Catalogue) (
 lots_acted rules command (Import new file) c d s t same lot = any_more (bytes_eq lot) s.lots t.lots new (same lot)
 lots_acted rules command act c d s t same lot = same lot
 
-kept_is : (command : Command) (a b : Text) → a ≡ b → ◌≡◌ {A = Kept} (record { command = command; reply = a }) (record { command = command; reply = b })
-kept_is command a b e = rw e
-
 done_same : (rules : Rules) (command : Command) (c d : Catalogue) (s t : Shop) → SameCatalogue c d → SameShop s t → SameShop (done rules c command s) (done rules d command t)
 done_same rules command c d s t shared own =
-    let new = kept_is command (reply_text rules command s) (reply_text rules command t) (text_same rules command.act s t own.rest) in
+    let same = text_same rules command.act s t own.rest in
     record {
       rest = ap (λ (r : Shop). record r { last = Some command.moment }) (rest_acted rules command command.act c d s t shared.rest own.rest);
-      kept = λ key. found_more (λ (k : Kept). bytes_eq k.command.key key) s.kept t.kept _ _ new (own.kept key);
+      kept = λ key. found_more (λ (k : Kept). bytes_eq k.command.key key) s.kept t.kept _ _ (λ i. record { command = command; reply = same i }) (own.kept key);
       size = as_many s.kept t.kept _ _ own.size;
       lots = lots_acted rules command command.act c d s t own.lots;
     }
@@ -103,12 +111,8 @@ own_same : (rules : Rules) (b : ℕ) (request : Request) (c d : Catalogue) (s t 
     → SameShop (shop_after rules b c s request) (shop_after rules b d t request)
 own_same rules b (Do command) c d s t shared own =
     let Same : Verdict → Type 0 = λ v. SameShop (if_accepted (verdict rules b c s command) (done rules c command s) s) (if_accepted v (done rules d command t) t) in
-    subst Same (verdict_same rules b command c d s t shared own) (by (verdict rules b c s command))
-  where
-    by : (v : Verdict) → SameShop (if_accepted v (done rules c command s) s) (if_accepted v (done rules d command t) t)
-    by (Again text) = own
-    by (Refused refusal) = own
-    by Accepted = done_same rules command c d s t shared own
+    subst Same (verdict_same rules b command c d s t shared own)
+    (by_cases (λ v. SameShop (if_accepted v (done rules c command s) s) (if_accepted v (done rules d command t) t)) (verdict rules b c s command) (λ _. done_same rules command c d s t shared own) (λ _ _. own) (λ _. own))
 own_same rules b request c d s t shared own = own
 
 -- ---- what it is shown
@@ -165,18 +169,6 @@ reply_same rules b request c d s t shared own = refl
 
 -- ---- head office's commands
 
-abbrev office_found : OfficeCommand → Option OfficeKept → Verdict → Verdict
-office_found command None fresh = fresh
-office_found command (Some k) fresh = if same_office k.command command then Again k.reply else Refused KeyUsed
-
-office_resent_is : (command : OfficeCommand) (p : OfficeKept → Bool) (kept : List OfficeKept) (fresh : Verdict)
-    → office_resent command (filter p kept) fresh ≡ office_found command (find p kept) fresh
-office_resent_is command p [] fresh = refl
-office_resent_is command p (k ∷ kept) fresh = elim (cases_Bool (p k)) [
-  | inl is ↦ rw is
-  | inr isnt ↦ rw isnt (office_resent_is command p kept fresh)
-]
-
 office_acts_same : (act : OfficeAct) (c d : Catalogue) → SameCatalogue c d → office_refusals c act ≡ office_refusals d act
 office_acts_same (AddCast cast) c d shared =
     let tests : Catalogue → Bool → List (Refusal × Bool) = λ q is. (NoFilm, lacks q.films cast.film) ∷ (NoSharedRow, lacks q.actors cast.actor) ∷ (Already, is) ∷ [] in
@@ -187,10 +179,11 @@ office_verdict_same : (rules : Rules) (command : OfficeCommand) (c d : Catalogue
 office_verdict_same rules command c d shared =
     let under : OfficeKept → Bool = λ k. bytes_eq k.command.key command.key in
     let tests : ℕ → List (Refusal × Bool) → List (Refusal × Bool) = λ size more. (Full, nat_le rules.commands size) ∷ more in
+    let is : OfficeKept → Bool = λ k. same_office k.command command in
     let same = ap₂ tests shared.size (office_acts_same command.act c d shared) in
-    office_resent_is command under c.kept (first (tests (length c.kept) (office_refusals c command.act)))
-    ∙ ap₂ (λ (found : Option OfficeKept) (list : List (Refusal × Bool)). office_found command found (first list)) (shared.kept command.key) same
-    ∙ sym (office_resent_is command under d.kept (first (tests (length d.kept) (office_refusals d command.act))))
+    found_is is _ under c.kept (first (tests (length c.kept) (office_refusals c command.act)))
+    ∙ ap₂ (λ (found : Option OfficeKept) (list : List (Refusal × Bool)). found_by is (λ k. k.reply) found (first list)) (shared.kept command.key) same
+    ∙ sym (found_is is _ under d.kept (first (tests (length d.kept) (office_refusals d command.act))))
 
 office_text_same : (act : OfficeAct) (c d : Catalogue) → rest_of_catalogue c ≡ rest_of_catalogue d → object (office_told act c) ≡ object (office_told act d)
 office_text_same (AddCountry name) c d e = ap (λ (q : Catalogue). object (office_told (AddCountry name) q)) e
@@ -205,15 +198,12 @@ office_casts : (act : OfficeAct) (c d : Catalogue) → ((film actor : ℕ) → i
 office_casts (AddCast cast) c d same film actor = any_more (λ (it : Cast). it.film == film && it.actor == actor) c.casts d.casts cast (same film actor)
 office_casts act c d same film actor = same film actor
 
-office_kept_is : (command : OfficeCommand) (a b : Text) → a ≡ b → ◌≡◌ {A = OfficeKept} (record { command = command; reply = a }) (record { command = command; reply = b })
-office_kept_is command a b e = rw e
-
 office_done_same : (command : OfficeCommand) (c d : Catalogue) → SameCatalogue c d → SameCatalogue (office_done command c) (office_done command d)
 office_done_same command c d shared =
-    let new = office_kept_is command (office_text command c) (office_text command d) (office_text_same command.act c d shared.rest) in
+    let same = office_text_same command.act c d shared.rest in
     record {
       rest = office_rest command.act c d shared.rest;
-      kept = λ key. found_more (λ (k : OfficeKept). bytes_eq k.command.key key) c.kept d.kept _ _ new (shared.kept key);
+      kept = λ key. found_more (λ (k : OfficeKept). bytes_eq k.command.key key) c.kept d.kept _ _ (λ i. record { command = command; reply = same i }) (shared.kept key);
       size = as_many c.kept d.kept _ _ shared.size;
       casts = office_casts command.act c d shared.casts;
     }
@@ -221,12 +211,8 @@ office_done_same command c d shared =
 office_same : (rules : Rules) (command : OfficeCommand) (c d : Catalogue) → SameCatalogue c d → SameCatalogue (catalogue_after rules command c) (catalogue_after rules command d)
 office_same rules command c d shared =
     let Same : Verdict → Type 0 = λ v. SameCatalogue (if_accepted (office_verdict rules c command) (office_done command c) c) (if_accepted v (office_done command d) d) in
-    subst Same (office_verdict_same rules command c d shared) (by (office_verdict rules c command))
-  where
-    by : (v : Verdict) → SameCatalogue (if_accepted v (office_done command c) c) (if_accepted v (office_done command d) d)
-    by (Again text) = shared
-    by (Refused refusal) = shared
-    by Accepted = office_done_same command c d shared
+    subst Same (office_verdict_same rules command c d shared)
+    (by_cases (λ v. SameCatalogue (if_accepted v (office_done command c) c) (if_accepted v (office_done command d) d)) (office_verdict rules c command) (λ _. office_done_same command c d shared) (λ _ _. shared) (λ _. shared))
 
 -- ---- all that reaches a branch
 

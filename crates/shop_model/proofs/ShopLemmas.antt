@@ -1,7 +1,8 @@
 -- What an accepted command of one branch does to the shop of each.
-use Rattle.shop_model.proofs.Common.{◌≡◌, inl, inr, ℕ, ◌+◌, ◌-◌, List, [], ◌∷◌, ◌++◌, filter, map, Bool, true, false, not, refl, sym, ap, ◌∙◌, arith, append_assoc, append-nil, if◌then◌else◌, ◌==◌, ◌&&◌, flat_map, cases_Bool, map-append, arrived, at, Row, Owned, owned_by, is_of, is_row, of, IsCounted, numbered_from, mem, put_all, Moment, Text, Customer, Copy, Rental, Terms, Payment, Arrival, Parcel, Sent, Scrapped, Act, AddCustomer, SetActive, Rent, TakeBack, Pay, Import, Dispatch, Receive, Scrap, Command, Rules, Kept, Shop, terms_now, arrival, acted, done, reply_text, here, with_state, films_in, films_at, incoming, Books, BookCopy, Line, Consignment, Table, Customers, CopyRows, Rentals, TermRows, Payments, RowOf, rows_of, with_rows, Edit, Put, Set, PutLot, Append, Update, edited, edits_of, shop_of, unmarked, as_arrival, as_parcel, head, book_acted, book_done, is_consignment, imported, unpacked, put_state, rows_at, under_way, checked, checked_line, come, set_last, new_consignment, HasNumbers}
-use Rattle.std.specs.Prelude.{Option, Some, None}
+use Rattle.shop_model.proofs.Common.{◌≡◌, inl, inr, ℕ, ◌+◌, ◌-◌, List, [], ◌∷◌, ◌++◌, filter, map, true, false, not, refl, sym, ap, ◌∙◌, arith, append_assoc, append-nil, if◌then◌else◌, ◌==◌, ◌&&◌, flat_map, cases_Bool, map-append, arrived, at, Row, Owned, owned_by, is_of, is_row, of, IsCounted, numbered_from, mem, put_all, Moment, Text, Copy, Terms, Arrival, Sent, Scrapped, Act, AddCustomer, SetActive, Rent, TakeBack, Pay, Import, Dispatch, Receive, Scrap, Command, Rules, Kept, Shop, terms_now, arrival, acted, done, reply_text, here, with_state, films_in, films_at, incoming, Books, BookCopy, Line, Consignment, Table, Customers, CopyRows, Rentals, TermRows, Payments, RowOf, rows_of, with_rows, Edit, Put, Set, PutLot, Append, Update, edited, edits_of, shop_of, unmarked, as_arrival, as_parcel, head, book_acted, book_done, is_consignment, imported, unpacked, put_state, rows_at, under_way, checked, checked_line, come, set_last, new_consignment, HasNumbers}
+use Rattle.std.specs.Prelude.{Some, None}
 use Rattle.shop_model.specs.Rows.{put}
+use Rattle.shop_model.specs.Values.{new_customer}
 use Rattle.shop_model.proofs.RowLemmas.{same_if, differ_if, same_test, differ_test, more_yes, more_no, at_numbered, set_numbered_among, set_same, set_other, map_map, map_at, put_own, put_all_own, put_all_other, set_own, set_rows_own, set_rows_other, map_set_at, map_set_all, row_at, filter_map, filter_filter, filter_away}
 use Rattle.shop_model.proofs.EditLemmas.{by_table, AskedOfSend, sends_keep}
 
@@ -22,20 +23,11 @@ pub checked_films : (missing : List ℕ) (k : ℕ) (lines : List Line) → map (
 checked_films missing k [] = refl
 checked_films missing k (line ∷ lines) = ap (λ r. line.film ∷ r) (checked_films missing (k + 1) lines)
 
-received : Arrival → Arrival
-received it = record it { received = true }
-
-arrival_is : (s : ℕ) (fs gs : List ℕ) (r : Bool) → fs ≡ gs → ◌≡◌ {A = Arrival} (record { source = s; films = fs; received = r }) (record { source = s; films = gs; received = r })
-arrival_is s fs gs r e = rw e
-
-parcel_is : (a : ℕ) (fs gs : List ℕ) → fs ≡ gs → ◌≡◌ {A = Parcel} (record { addressee = a; films = fs }) (record { addressee = a; films = gs })
-parcel_is a fs gs e = rw e
-
 checked_arrival : (missing : List ℕ) (it : Consignment) → ◌≡◌ {A = Arrival} (as_arrival (checked missing it)) (record (as_arrival it) { received = true })
-checked_arrival missing it = arrival_is it.source _ _ true (checked_films missing 1 it.lines)
+checked_arrival missing it = λ i. record { source = it.source; films = checked_films missing 1 it.lines i; received = true }
 
 checked_parcel : (missing : List ℕ) (it : Consignment) → as_parcel (checked missing it) ≡ as_parcel it
-checked_parcel missing it = parcel_is it.addressee _ _ (checked_films missing 1 it.lines)
+checked_parcel missing it = λ i. record { addressee = it.addressee; films = checked_films missing 1 it.lines i }
 
 -- ---- what is sent
 
@@ -86,14 +78,9 @@ last_other b c moment lasts differ =
 
 -- ---- shops
 
-shop_parts : (a a2 : List Customer) (b b2 : List Copy) (c c2 : List Rental) (t t2 : List Terms) (d d2 : List Payment) (e e2 : List Text) (f f2 : List Arrival) (g g2 : List Parcel) (h h2 : List Kept) (i i2 : Option Moment)
-    → a ≡ a2 → b ≡ b2 → c ≡ c2 → t ≡ t2 → d ≡ d2 → e ≡ e2 → f ≡ f2 → g ≡ g2 → h ≡ h2 → i ≡ i2
-    → ◌≡◌ {A = Shop} (record { customers = a; copies = b; rentals = c; terms = t; payments = d; lots = e; arrivals = f; sent = g; kept = h; last = i })
-    (record { customers = a2; copies = b2; rentals = c2; terms = t2; payments = d2; lots = e2; arrivals = f2; sent = g2; kept = h2; last = i2 })
-shop_parts a a2 b b2 c c2 t t2 d d2 e e2 f f2 g g2 h h2 i i2 ea eb ec et ed ee ef eg eh ei = rw (ea, eb, ec, et, ed, ee, ef, eg, eh, ei)
-
 pub shop_is : (s t : Shop) → s.customers ≡ t.customers → s.copies ≡ t.copies → s.rentals ≡ t.rentals → s.terms ≡ t.terms → s.payments ≡ t.payments → s.lots ≡ t.lots → s.arrivals ≡ t.arrivals → s.sent ≡ t.sent → s.kept ≡ t.kept → s.last ≡ t.last → s ≡ t
-shop_is s t ea eb ec et ed ee ef eg eh ei = shop_parts _ _ _ _ _ _ _ _ _ _ _ _ _ _ _ _ _ _ _ _ ea eb ec et ed ee ef eg eh ei
+shop_is s t ea eb ec et ed ee ef eg eh ei =
+    λ i. record { customers = ea i; copies = eb i; rentals = ec i; terms = et i; payments = ed i; lots = ee i; arrivals = ef i; sent = eg i; kept = eh i; last = ei i }
 
 put_terms_own : (b : ℕ) (more : List Terms) (rows : List (Row Terms)) → of b (put_all b (map (λ it _. it) more) rows) ≡ of b rows ++ more
 put_terms_own b [] rows = sym (append-nil (of b rows))
@@ -104,10 +91,10 @@ put_terms_own b (it ∷ more) rows =
 pub acted_own : (rules : Rules) (b : ℕ) (command : Command) (act : Act) (books : Books) → HasNumbers books
     → ((xs : List ℕ) → act ≡ Dispatch b xs → ⊥)
     → shop_of b (book_acted rules b command act books) ≡ acted rules books.catalogue command act (shop_of b books)
-acted_own rules b command (AddCustomer person) books has away = shop_is _ _ (put_own b (λ _. record { person = person; active = true; created = command.moment }) books.customers) refl refl refl refl refl refl refl refl refl
-acted_own rules b command (SetActive c active) books has away = shop_is _ _ (set_own b c _ books.customers (has.customers b)) refl refl refl refl refl refl refl refl refl
+acted_own rules b command (AddCustomer it) books has away = shop_is _ _ (put_own b (λ _. new_customer command.moment it) books.customers) refl refl refl refl refl refl refl refl refl
+acted_own rules b command (SetActive c active) books has away = shop_is _ _ (set_own b c _ books.customers (has.rows Customers b)) refl refl refl refl refl refl refl refl refl
 acted_own rules b command (Rent c x) books has away = shop_is _ _ refl refl (put_own b (λ _. record { rented = command.moment; copy = x; customer = c; returned = None; staff = command.staff }) books.rentals) (put_terms_own b (terms_now books.catalogue (shop_of b books) x) books.terms) refl refl refl refl refl refl
-acted_own rules b command (TakeBack r) books has away = shop_is _ _ refl refl (set_own b r _ books.rentals (has.rentals b)) refl refl refl refl refl refl refl
+acted_own rules b command (TakeBack r) books has away = shop_is _ _ refl refl (set_own b r _ books.rentals (has.rows Rentals b)) refl refl refl refl refl refl refl
 acted_own rules b command (Pay c rental amount) books has away = shop_is _ _ refl refl refl refl (put_own b (λ _. record { customer = c; staff = command.staff; rental = rental; amount = amount; paid = command.moment }) books.payments) refl refl refl refl refl
 acted_own rules b command (Import lot file) books has away =
     shop_is _ _ refl (put_all_own unmarked (imported b) here b (films_in (rules.stock_of file)) books.copies (λ c n. refl)) refl refl refl
@@ -115,10 +102,10 @@ acted_own rules b command (Import lot file) books has away =
 acted_own rules b command (Dispatch to xs) books has away = elim (cases_Bool (to == b)) [
   | inl is ↦ absurd (away xs (rw (same_if to b is)))
   | inr isnt ↦
-      shop_is _ _ refl (rw (set_rows_own b xs (put_state Sent) books.copies (has.copies b)) (map_set_all unmarked (put_state Sent) (with_state Sent) xs (of b books.copies) (λ x. refl))) refl refl refl refl
+      shop_is _ _ refl (rw (set_rows_own b xs (put_state Sent) books.copies (has.rows CopyRows b)) (map_set_all unmarked (put_state Sent) (with_state Sent) xs (of b books.copies) (λ x. refl))) refl refl refl refl
       (more_no as_arrival (λ (it : Consignment). it.addressee == b) books.consignments (new_consignment b to xs books) isnt)
       (more_yes as_parcel (λ (it : Consignment). it.source == b) books.consignments (new_consignment b to xs books) (same_test b)
-      ∙ ap (λ fs. map as_parcel (filter (λ it. it.source == b) books.consignments) ++ record { addressee = to; films = fs } ∷ []) (films_sent b xs books.copies (has.copies b)))
+      ∙ ap (λ fs. map as_parcel (filter (λ it. it.source == b) books.consignments) ++ record { addressee = to; films = fs } ∷ []) (films_sent b xs books.copies (has.rows CopyRows b)))
       refl refl
 ]
 acted_own rules b command (Receive source number missing) books has away =
@@ -134,7 +121,7 @@ acted_own rules b command (Receive source number missing) books has away =
     (set_same (λ (it : Consignment). it.source == b) (is_consignment source b number) (checked missing) as_parcel books.consignments (λ x. refl) (checked_parcel missing))
     refl refl
 acted_own rules b command (Scrap x) books has away =
-    shop_is _ _ refl (rw (set_own b x (put_state Scrapped) books.copies (has.copies b)) (map_set_at unmarked (put_state Scrapped) (with_state Scrapped) x (of b books.copies) (λ x. refl))) refl refl refl refl refl refl refl refl
+    shop_is _ _ refl (rw (set_own b x (put_state Scrapped) books.copies (has.rows CopyRows b)) (map_set_at unmarked (put_state Scrapped) (with_state Scrapped) x (of b books.copies) (λ x. refl))) refl refl refl refl refl refl refl refl
 
 kept_own : (rules : Rules) (b : ℕ) (command : Command) (books : Books) → (t : Shop) → shop_of b (book_acted rules b command command.act books) ≡ t
     → shop_of b (book_done rules b command books) ≡ record t { kept = (shop_of b books).kept ++ record { command = command; reply = reply_text rules command (shop_of b books) } ∷ []; last = Some command.moment }
@@ -153,10 +140,17 @@ abbrev pub with_arrivals : ℕ → ℕ → Act → Books → Shop
 with_arrivals b c (Dispatch to xs) books = if to == b then record (shop_of b books) { arrivals = (shop_of b books).arrivals ++ record { source = c; films = films_at xs (shop_of c books).copies; received = false } ∷ [] } else shop_of b books
 with_arrivals b c act books = shop_of b books
 
+-- it has the arrivals of a dispatch more, or is as it was
+pub arrived_or_same : (P : Shop → Type 0) (b c : ℕ) (act : Act) (books : Books)
+    → ((xs : List ℕ) → P (record (shop_of b books) { arrivals = (shop_of b books).arrivals ++ record { source = c; films = films_at xs (shop_of c books).copies; received = false } ∷ [] }))
+    → P (shop_of b books) → P (with_arrivals b c act books)
+arrived_or_same P b c (Dispatch to xs) books more same = elim (cases_Bool (to == b)) [ inl is ↦ rw is (more xs) | inr isnt ↦ rw isnt same ]
+arrived_or_same P b c act books more same = same
+
 -- other rows in one table, of which the branch has the same
-tables_stay : (b : ℕ) (t : Table) (new : List (Row (RowOf t))) (books : Books) → of b new ≡ of b (rows_of t books) → shop_of b (with_rows t new books) ≡ shop_of b books
+tables_stay : (b : ℕ) (t : Table) (new : List (Row (RowOf t))) (books : Books) → of b new ≡ of b (rows_of books t) → shop_of b (with_rows t new books) ≡ shop_of b books
 tables_stay b t new books same =
-    let all = by_table (λ u its. of b its ≡ of b (rows_of u books)) t new books same (λ u. refl) in
+    let all = by_table (λ u its. of b its ≡ of b (rows_of books u)) t new books same (λ u. refl) in
     shop_is _ _ (all Customers) (ap (map unmarked) (all CopyRows)) (all Rentals) (all TermRows) (all Payments) refl refl refl refl refl
 
 abbrev NoSend : Books → Consignment → Type 0
@@ -167,8 +161,8 @@ NoChange f = ⊥
 
 -- but for edits of consignments, those of one branch leave the shops of all others
 shop_stays : (b c : ℕ) → (c == b) ≡ false → (books : Books) (edit : Edit) → AskedOfSend NoSend NoChange books edit → shop_of b (edited c edit books) ≡ shop_of b books
-shop_stays b c differ books (Put t makes) asked = tables_stay b t _ books (put_all_other b c makes (rows_of t books) differ)
-shop_stays b c differ books (Set t ns f) asked = tables_stay b t _ books (set_rows_other b c ns f (rows_of t books) differ)
+shop_stays b c differ books (Put t makes) asked = tables_stay b t _ books (put_all_other b c makes (rows_of books t) differ)
+shop_stays b c differ books (Set t ns f) asked = tables_stay b t _ books (set_rows_other b c ns f (rows_of books t) differ)
 shop_stays b c differ books (PutLot lot) asked = shop_is _ _ refl refl refl refl refl (more_no (λ (row : Owned Text). row.it) (λ row. row.owner == b) books.lots (record { owner = c; it = lot }) differ) refl refl refl refl
 shop_stays b c differ books (Append it) asked = absurd asked
 shop_stays b c differ books (Update test f) asked = absurd asked
@@ -181,7 +175,7 @@ acted_other rules b c command (Dispatch to xs) books has differ =
     elim (cases_Bool (to == b)) [
       | inl is ↦ rw is (shop_is _ _ refl copies refl refl refl refl
           (more_yes as_arrival (λ (it : Consignment). it.addressee == b) books.consignments (new_consignment c to xs books) is
-          ∙ ap (λ fs. map as_arrival (filter (λ it. it.addressee == b) books.consignments) ++ record { source = c; films = fs; received = false } ∷ []) (films_sent c xs books.copies (has.copies c)))
+          ∙ ap (λ fs. map as_arrival (filter (λ it. it.addressee == b) books.consignments) ++ record { source = c; films = fs; received = false } ∷ []) (films_sent c xs books.copies (has.rows CopyRows c)))
           sent refl refl)
       | inr isnt ↦ rw isnt (shop_is _ _ refl copies refl refl refl refl
           (more_no as_arrival (λ (it : Consignment). it.addressee == b) books.consignments (new_consignment c to xs books) isnt)
@@ -207,11 +201,7 @@ done_other rules b c command books has differ =
     let kept = more_no (λ (row : Owned Kept). row.it) (λ row. row.owner == b) books.kept (record { owner = c; it = record { command = command; reply = reply_text rules command (shop_of c books) } }) differ in
     let last = ap head (last_other b c command.moment books.lasts differ) in
     shop_is _ (shop_of b (book_acted rules c command command.act books)) refl refl refl refl refl refl refl refl
-    (kept ∙ sym (acted_kept rules c b command command.act books)) (last ∙ sym (acted_last rules c b command command.act books)) ∙ e where
-      acted_kept : (rules : Rules) (c b : ℕ) (command : Command) (act : Act) (books : Books) → (shop_of b (book_acted rules c command act books)).kept ≡ (shop_of b books).kept
-      acted_kept rules c b command (AddCustomer person) books = refl
-      acted_kept rules c b command act books = refl
-
-      acted_last : (rules : Rules) (c b : ℕ) (command : Command) (act : Act) (books : Books) → (shop_of b (book_acted rules c command act books)).last ≡ (shop_of b books).last
-      acted_last rules c b command (AddCustomer person) books = refl
-      acted_last rules c b command act books = refl
+    (kept ∙ sym (still command.act).0) (last ∙ sym (still command.act).1) ∙ e where
+      still : (act : Act) → ((shop_of b (book_acted rules c command act books)).kept ≡ (shop_of b books).kept) × ((shop_of b (book_acted rules c command act books)).last ≡ (shop_of b books).last)
+      still (AddCustomer person) = (refl, refl)
+      still act = (refl, refl)

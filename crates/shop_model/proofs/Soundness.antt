@@ -1,18 +1,21 @@
 -- Each step keeps the books sound.
-use Rattle.shop_model.proofs.Common.{◌≡◌, inl, inr, ℕ, ◌+◌, ◌-◌, ◌≤◌, List, [], ◌∷◌, ◌++◌, suc, length, filter, map, Bool, true, false, not, None, Some, refl, sym, subst, ap, ◌∙◌, arith, append-nil, length-append, ◌==◌, ◌&&◌, ◌||◌, nat_lt, flat_map, is_none, list_any, list_all, or-false, cases_Bool, or_parts, and_parts, not-true, not-false, true≢false, Row, Owned, at, lacks, set_at, set_all, is_empty, is_row, next, mem, has_double, Moment, Branch, OfficeCommand, Copy, CopyState, Here, Sent, Scrapped, Rental, Arrival, Act, Rent, TakeBack, Import, Dispatch, Receive, Scrap, Command, Rules, Kept, Shop, Catalogue, is_here, in_stock, keeps_out, film_terms, terms_now, Accepted, first, refusals, verdict, office_verdict, act_refusals, is_away, arrival, Request, Do, Office, acted, catalogue_after, office_done, here, with_state, films_in, incoming, Books, BookCopy, Mark, Line, UnderWay, Missing, Consignment, Caller, Counter, HeadOffice, shop_of, unmarked, as_arrival, book_acted, book_done, edits_of, is_consignment, imported, unpacked, rows_at, come, new_consignment, set_last, branch_after, after_for, after, caller_in, last_books, one, copy_is, line_is, is_origin, rows_made, is_mark, places, is_made_as, marked_films, HasNumbers, HasOwners, HasCustody, HasOneHolder, HasTerms, IsSound, all_lines, lines_in, is_settled, StaySound, StaySoundWithin, CopiesAreInOnePlace, SoundBooksAreInCustody, OpeningIsSound, EmptyIsSound, OpeningBooksAreSound, empty_catalogue, opening_catalogue, has_row, are_different, is_staff_of, IsLinkedShop, IsGoodCatalogue, option_to_list, bytes_eq, nat_tests, IsGoodShop}
-use Rattle.shop_model.proofs.RowLemmas.{same_if, same_test, differ_if, differ_test, row_at, one_more, length_map}
-use Rattle.shop_model.proofs.ShopLemmas.{arrival_of, done_own, done_other, with_arrivals}
+use Rattle.shop_model.proofs.Common.{◌≡◌, inl, inr, ℕ, ◌+◌, ◌-◌, ◌≤◌, List, [], ◌∷◌, ◌++◌, length, filter, map, Bool, true, false, not, None, Some, refl, sym, subst, ap, ◌∙◌, arith, append-nil, length-append, ◌==◌, ◌&&◌, ◌||◌, nat_lt, flat_map, list_any, list_all, or-false, cases_Bool, or_parts, and_parts, not-true, not-false, true≢false, Row, Owned, at, lacks, set_at, set_all, is_empty, is_row, next, mem, has_double, Moment, Branch, OfficeCommand, Copy, CopyState, Here, Sent, Scrapped, Rental, Arrival, Act, Rent, TakeBack, Import, Dispatch, Receive, Scrap, Command, Rules, Kept, Shop, Catalogue, is_here, in_stock, keeps_out, film_terms, terms_now, Accepted, first, refusals, verdict, office_verdict, act_refusals, is_away, arrival, Request, Do, Office, acted, catalogue_after, office_done, here, with_state, films_in, incoming, Books, BookCopy, Mark, Line, UnderWay, Missing, Consignment, Caller, Counter, HeadOffice, shop_of, unmarked, as_arrival, book_acted, book_done, edits_of, is_consignment, imported, unpacked, rows_at, come, new_consignment, set_last, branch_after, after_for, after, caller_in, last_books, one, copy_is, line_is, is_origin, rows_made, is_mark, places, is_made_as, marked_films, HasNumbers, HasOwners, HasCustody, HasOneHolder, HasTerms, IsSound, all_lines, lines_in, is_settled, StaySound, StaySoundWithin, CopiesAreInOnePlace, SoundBooksAreInCustody, OpeningIsSound, EmptyIsSound, OpeningBooksAreSound, empty_catalogue, opening_catalogue, has_row, are_different, is_staff_of, IsLinkedShop, IsGoodCatalogue, option_to_list, bytes_eq, nat_tests, IsGoodShop, CopyRows, AreRowsNumbered, AreRowsOwned, put_all, set_row, set_rows, put_state, list_any-append, Terms}
+use Rattle.std.proofs.Math.Bool.{and-false}
+use Rattle.std.proofs.lemmas.Map.Views.{any-filter_same}
+use Rattle.shop_model.proofs.RowLemmas.{same_if, same_test, differ_if, row_at, one_more, length_map, turned, equal_test}
+use Rattle.shop_model.proofs.ShopLemmas.{arrival_of, done_own, done_other, arrived_or_same}
 use Rattle.shop_model.proofs.NumberLemmas.{acted_numbers}
-use Rattle.shop_model.proofs.Isolation.{is_accepted, accepted_is, not_accepted, none_kept, NoneHold, accepted_holds, act_holds, not_self, catalogue_stays}
-use Rattle.shop_model.proofs.GoodShops.{IsGoodEdit, all_weaker, good_shop_done, length_set}
-use Rattle.shop_model.proofs.LinkLemmas.{at_set_other, none_left, all_mapped, any_at_more, all_at, one_at}
+use Rattle.shop_model.proofs.SameStates.{by_verdict}
+use Rattle.shop_model.proofs.Isolation.{none_kept, NoneHold, accepted_holds, act_holds, not_self, catalogue_stays}
+use Rattle.shop_model.proofs.GoodShops.{IsGoodEdit, all_weaker, good_shop_done, length_set, all_more}
+use Rattle.shop_model.proofs.LinkLemmas.{at_set_other, none_left, all_mapped, any_at_more, all_at, one_at, some_passes}
 use Rattle.shop_model.proofs.LinkedShops.{IsLinkedEdit, linked_done, linked_other}
 use Rattle.shop_model.proofs.Allowed.{IsAllowed, edits_allowed}
-use Rattle.shop_model.proofs.EditLemmas.{each_weaker}
+use Rattle.shop_model.proofs.EditLemmas.{by_none, each_weaker}
 use Rattle.shop_model.proofs.GoodCatalogues.{Grows, done_grows, good_done, linked_grows}
 use Rattle.shop_model.proofs.Owners.{staff_works, branch_there, owners_done, owners_grow, places_kept}
-use Rattle.shop_model.proofs.Origins.{all_append, origins_kept}
-use Rattle.shop_model.proofs.CustodyLemmas.{total-append, AreHere, AllHere, scrapped_total, sent_total, sent_unscrapped, state_made, states_made, lines_sent, lines_unlost, import_total, put_unscrapped, unpacked_total, unpacked_made, UnderWayOld, under_way_old, made_old, made_once, AreOpen, come_old, received_total, settled_checked, settled_new, settled_sent}
+use Rattle.shop_model.proofs.Origins.{all_append, origins_kept, lines_more as more_lines}
+use Rattle.shop_model.proofs.CustodyLemmas.{total-append, AreHere, AllHere, scrapped_total, sent_total, state_made, states_made, lines_sent, lines_unlost, import_total, unpacked_total, unpacked_made, UnderWayOld, under_way_old, made_old, made_once, AreOpen, come_old, received_total, settled_checked, settled_new, left_are}
 
 -- ---- from the verdict
 
@@ -25,20 +28,17 @@ any_none p (y ∷ ys) x none within =
       | inr isnt ↦ any_none p ys x h.1 (rw isnt at within)
     ]
 
-here_same : (copy : BookCopy) → is_here (unmarked copy) ≡ copy_is copy.state Here
-here_same copy = by_state copy.film copy.state where
-  by_state : (film : ℕ) (s : CopyState) → is_here (record { film = film; state = s }) ≡ copy_is s Here
-  by_state film Here = refl
-  by_state film Sent = refl
-  by_state film Scrapped = refl
+here_same : (film : ℕ) (s : CopyState) → is_here (record { film = film; state = s }) ≡ copy_is s Here
+here_same film Here = refl
+here_same film s = refl
 
 away_same : (rows : List (Row BookCopy)) → list_any (λ copy. not (is_here copy)) (map (λ (row : Row BookCopy). unmarked row.it) rows) ≡ list_any (λ (row : Row BookCopy). not (copy_is row.it.state Here)) rows
 away_same [] = refl
-away_same (row ∷ rows) = rw (here_same row.it, away_same rows)
+away_same (row ∷ rows) = rw (here_same row.it.film row.it.state, away_same rows)
 
 -- what is here in the shop is here in the books
 are_here : (b x : ℕ) (books : Books) → HasNumbers books → is_away (shop_of b books).copies x ≡ false → AreHere b x books.copies
-are_here b x books has isnt = sym (away_same (filter (is_row b x) books.copies)) ∙ (rw (row_at unmarked b x books.copies (has.copies b)) isnt)
+are_here b x books has isnt = sym (away_same (filter (is_row b x) books.copies)) ∙ (rw (row_at unmarked b x books.copies (has.rows CopyRows b)) isnt)
 
 open_same : (cs : List Consignment) → list_any (λ (it : Arrival). it.received) (map as_arrival cs) ≡ list_any (λ (it : Consignment). it.received) cs
 open_same [] = refl
@@ -52,15 +52,13 @@ custody_kept rules sizes b catalogue command (Import lot file) books sound none 
     let films = films_in (rules.stock_of file) in
     let before = sound.custody test in
     let i = import_total test b films books.copies in
-    let s = put_unscrapped test b (imported b) films books.copies (λ c n. refl) in
-    omega (arith, before, i, s)
+    omega (arith, before, i, left_are test books.copies, left_are test (put_all b (map (imported b) films) books.copies))
 custody_kept rules sizes b catalogue command (Dispatch to xs) books sound none = λ test.
     let before = sound.custody test in
     let away : list_any (is_away (shop_of b books).copies) xs ≡ false = none.1.0 in
     let single : has_double xs ≡ false = (or_parts (is_empty xs || nat_lt 100 (length xs)) (has_double xs) none.1.1.1.1.1.0).1 in
     let are : AllHere b xs books.copies = λ x within. are_here b x books sound.numbers (any_none (is_away (shop_of b books).copies) xs x away within) in
     let h = sent_total test b xs books.copies single are in
-    let s = sent_unscrapped test b xs books.copies single are in
     let m = states_made test b xs Sent books.copies in
     let lines = λ (it : Consignment). it.lines in
     let new = new_consignment b to xs books in
@@ -68,36 +66,30 @@ custody_kept rules sizes b catalogue command (Dispatch to xs) books sound none =
     let m1 = lines_more Missing test books.consignments new in
     let u2 = lines_sent test (rows_at b xs books.copies) in
     let m2 = lines_unlost test (rows_at b xs books.copies) in
-    omega (arith, before, h, s, m, u1, m1, u2, m2) where
+    omega (arith, before, h, m, u1, m1, u2, m2, left_are test books.copies, left_are test (set_rows b xs (put_state Sent) books.copies)) where
       lines_more : (state : Rattle.shop_model.specs.Books.LineState) (test : Mark → Bool) (cs : List Consignment) (c : Consignment)
           → lines_in state test (flat_map (λ (it : Consignment). it.lines) (cs ++ c ∷ [])) ≡ lines_in state test (flat_map (λ (it : Consignment). it.lines) cs) + lines_in state test c.lines
-      lines_more state test [] c = rw append-nil (omega arith)
-      lines_more state test (d ∷ cs) c =
-          let w = λ (line : Line). one (line_is line.state state && test line.mark) in
-          let a = total-append w d.lines (flat_map (λ (it : Consignment). it.lines) (cs ++ c ∷ [])) in
-          let e = total-append w d.lines (flat_map (λ (it : Consignment). it.lines) cs) in
-          let more = lines_more state test cs c in
-          omega (arith, a, e, more)
+      lines_more state test cs c =
+          ap (lines_in state test) (more_lines cs c) ∙ total-append (λ (line : Line). one (line_is line.state state && test line.mark)) (flat_map (λ (it : Consignment). it.lines) cs) c.lines
 custody_kept rules sizes b catalogue command (Receive source number missing) books sound none = λ test.
     let before = sound.custody test in
     let q = is_consignment source b number in
     let opens : AreOpen q books.consignments = sym (open_same (filter q books.consignments)) ∙ rw (sym (arrival_of source b number books.consignments (sound.numbers.consignments source b))) none.1.0 in
-    let old : UnderWayOld b (next b books.copies) (all_lines books) = under_way_old b (next b books.copies) (all_lines books) (λ mark some. let c = sound.custody (is_mark mark) in made_old b mark books.copies (sound.numbers.copies b) (omega (arith, some, c))) in
+    let old : UnderWayOld b (next b books.copies) (all_lines books) = under_way_old b (next b books.copies) (all_lines books) (λ mark some. let c = sound.custody (is_mark mark) in made_old b mark books.copies (sound.numbers.rows CopyRows b) (omega (arith, some, c))) in
     let lines = come source b number missing books.consignments in
     let m = unpacked_made test b lines books.copies (come_old b (next b books.copies) missing q books.consignments sound.settled opens old) in
     let h = unpacked_total test b lines books.copies in
-    let s = put_unscrapped test b unpacked lines books.copies (λ c n. refl) in
     let r = received_total test missing q books.consignments sound.settled opens in
-    omega (arith, before, m, h, s, r)
+    omega (arith, before, m, h, r, left_are test books.copies, left_are test (put_all b (map unpacked lines) books.copies))
 custody_kept rules sizes b catalogue command (Scrap x) books sound none = λ test.
     let before = sound.custody test in
     let h = scrapped_total test b x books.copies (are_here b x books sound.numbers none.1.0) in
     let m = state_made test b x Scrapped books.copies in
-    omega (arith, before, h, m)
+    omega (arith, before, h, m, left_are test books.copies, left_are test (set_row b x (put_state Scrapped) books.copies))
 custody_kept rules sizes b catalogue command act books sound none = sound.custody
 
 settled_kept : (rules : Rules) (b : ℕ) (command : Command) (act : Act) (books : Books) → list_all is_settled books.consignments ≡ true → list_all is_settled (book_acted rules b command act books).consignments ≡ true
-settled_kept rules b command (Dispatch to xs) books settled = settled_sent books.consignments (new_consignment b to xs books) settled (settled_new (rows_at b xs books.copies))
+settled_kept rules b command (Dispatch to xs) books settled = all_more is_settled books.consignments (new_consignment b to xs books) settled (settled_new (rows_at b xs books.copies))
 settled_kept rules b command (Receive source number missing) books settled = settled_checked missing (is_consignment source b number) books.consignments settled
 settled_kept rules b command act books settled = settled
 
@@ -114,31 +106,26 @@ none_none p [] none = refl
 none_none p (x ∷ xs) none = let h = or_parts (p x) (list_any p xs) none in rw h.0 (none_none p xs h.1)
 
 some_more : {A : Type 0} (p : A → Bool) (xs : List A) (x : A) → list_any p (xs ++ x ∷ []) ≡ (list_any p xs || p x)
-some_more p [] x = elim (cases_Bool (p x)) [ inl is ↦ rw is | inr isnt ↦ rw isnt ]
-some_more p (y ∷ ys) x = elim (cases_Bool (p y)) [ inl is ↦ rw is | inr isnt ↦ rw isnt (some_more p ys x) ]
+some_more p xs x = list_any-append p xs (x ∷ []) ∙ ap (λ r. list_any p xs || r) (or-false (p x))
 
--- rentals with no more open ones than before
-fewer_open : (x r : ℕ) (moment : Moment) (rentals : List Rental)
-    → (length (filter (keeps_out x) (set_at r (λ it. record it { returned = Some moment }) rentals)) ≤ length (filter (keeps_out x) rentals))
-    × (list_any (keeps_out x) (set_at r (λ it. record it { returned = Some moment }) rentals) ≡ true → list_any (keeps_out x) rentals ≡ true)
-fewer_open x r moment [] = (omega arith, λ e. e)
-fewer_open x r moment (it ∷ rentals) = elim (cases_Bool (r == 1)) [
-  | inl hit ↦ elim (cases_Bool (it.copy == x)) [
-    | inl same ↦ elim (cases_Bool (is_none it.returned)) [
-      | inl out ↦ rw (hit, same, out) (omega arith, λ e. refl)
-      | inr back ↦ rw (hit, same, back) (omega arith, λ e. e)
-    ]
-    | inr other ↦ rw (hit, other) (omega arith, λ e. e)
-  ]
-  | inr miss ↦
-      let more = fewer_open x (r - 1) moment rentals in
-      elim (cases_Bool (keeps_out x it)) [
-        | inl out ↦ rw (miss, out) (more_fewer _ _ more.0, λ e. refl)
-        | inr back ↦ rw (miss, back) more
-      ]
+-- no more pass where those that are set don't
+fewer : {A : Type 0} (p : A → Bool) (n : ℕ) (f : A → A) (xs : List A) → ((x : A) → p (f x) ≡ false) → length (filter p (set_at n f xs)) ≤ length (filter p xs)
+fewer p n f [] off = omega arith
+fewer p n f (x ∷ xs) off = elim (cases_Bool (n == 1)) [
+  | inl hit ↦ elim (cases_Bool (p x)) [ inl is ↦ rw (hit, off x, is) (omega arith) | inr isnt ↦ rw (hit, off x, isnt) (omega arith) ]
+  | inr miss ↦ let more = fewer p (n - 1) f xs off in elim (cases_Bool (p x)) [ inl is ↦ rw (miss, is) (omega (arith, more)) | inr isnt ↦ rw (miss, isnt) more ]
+]
+
+any_fewer : {A : Type 0} (p : A → Bool) (xs ys : List A) → length (filter p ys) ≤ length (filter p xs) → list_any p ys ≡ true → list_any p xs ≡ true
+any_fewer {A = A} p xs ys fewer some = elim (cases_Bool (list_any p xs)) [
+  | inl is ↦ is
+  | inr none ↦
+      let gone = ap length (none_none p xs none) in
+      absurd (true≢false (sym some ∙ none_left p ys (no_length (filter p ys) (omega (arith, fewer, gone)))))
 ] where
-  more_fewer : (a c : ℕ) → a ≤ c → suc a ≤ suc c
-  more_fewer a c le = omega (arith, le)
+  no_length : (zs : List A) → length zs ≡ 0 → zs ≡ []
+  no_length [] e = refl
+  no_length (z ∷ zs) e = absurd (omega (arith, e))
 
 -- ---- what a shop's command keeps
 
@@ -161,7 +148,7 @@ holder_kept rules b catalogue command (Rent c x) shop h none = record {
     | inr isnt ↦ rw (one_more (keeps_out y) shop.rentals new, isnt) (h.one y)
   ];
   here = λ y out. elim (cases_Bool (x == y)) [
-    | inl is ↦ rw (sym (same_if x y is)) (present shop.copies x none.1.1.0 none.1.1.1.0)
+    | inl is ↦ rw (sym (same_if x y is)) (some_passes is_here (at x shop.copies) none.1.1.0 none.1.1.1.0)
     | inr isnt ↦ h.here y (still y isnt out)
   ];
 } where
@@ -176,16 +163,13 @@ holder_kept rules b catalogue command (Rent c x) shop h none = record {
       let plain : (list_any (keeps_out y) shop.rentals || (x == y && true)) ≡ list_any (keeps_out y) shop.rentals = rw isnt (or-false (list_any (keeps_out y) shop.rentals)) in
       let e : list_any (keeps_out y) (shop.rentals ++ record { rented = command.moment; copy = x; customer = c; returned = None; staff = command.staff } ∷ []) ≡ list_any (keeps_out y) shop.rentals = some_more (keeps_out y) shop.rentals (record { rented = command.moment; copy = x; customer = c; returned = None; staff = command.staff }) ∙ plain in
       sym (ap not e) ∙ out
-
-  present : (copies : List Copy) (x : ℕ) → lacks copies x ≡ false → is_away copies x ≡ false → list_any is_here (at x copies) ≡ true
-  present copies x has isnt = by_row (at x copies) has isnt where
-    by_row : (xs : List Copy) → is_empty xs ≡ false → list_any (λ copy. not (is_here copy)) xs ≡ false → list_any is_here xs ≡ true
-    by_row [] e f = absurd (true≢false e)
-    by_row (copy ∷ xs) e f = rw (not-false (is_here copy) (or_parts (not (is_here copy)) _ f).0)
-holder_kept rules b catalogue command (TakeBack r) shop h none = record {
-  one = λ x. let fewer = (fewer_open x r command.moment shop.rentals).0 in let before = h.one x in omega (arith, fewer, before);
-  here = λ x out. let some = (fewer_open x r command.moment shop.rentals).1 (out_now x (set_at r (λ it. record it { returned = Some command.moment }) shop.rentals) out) in h.here x (rw some);
-}
+holder_kept rules b catalogue command (TakeBack r) shop h none =
+    let back : Rental → Rental = λ it. record it { returned = Some command.moment } in
+    let few = λ (x : ℕ). fewer (keeps_out x) r back shop.rentals (λ it. and-false (it.copy == x)) in
+    record {
+      one = λ x. let now = few x in let before = h.one x in omega (arith, now, before);
+      here = λ x out. h.here x (rw (any_fewer (keeps_out x) shop.rentals (set_at r back shop.rentals) (few x) (out_now x (set_at r back shop.rentals) out)));
+    }
 holder_kept rules b catalogue command (Import lot file) shop h none = record { one = h.one; here = λ x out. any_at_more is_here x shop.copies (map here (films_in (rules.stock_of file))) (h.here x out) }
 holder_kept rules b catalogue command (Dispatch to xs) shop h none = record {
   one = h.one;
@@ -204,22 +188,9 @@ holder_kept rules b catalogue command (Scrap x) shop h none = record {
 }
 holder_kept rules b catalogue command act shop h none = record { one = h.one; here = h.here }
 
-holder_other : (b c : ℕ) (act : Act) (books : Books) → HasOneHolder (shop_of b books) → HasOneHolder (with_arrivals b c act books)
-holder_other b c (Dispatch to xs) books h = elim (cases_Bool (to == b)) [
-  | inl is ↦ rw is (holder_same (shop_of b books) _ refl refl h)
-  | inr isnt ↦ rw isnt h
-]
-holder_other b c act books h = h
-
-good_same : (rules : Rules) (shop : Shop) (arrivals : List Arrival) → IsGoodShop rules shop → IsGoodShop rules (record shop { arrivals = arrivals })
-good_same rules shop arrivals h = record { apart = h.apart; created = h.created; rented = h.rented; paid = h.paid; rentals_rise = h.rentals_rise; payments_rise = h.payments_rise; keys = h.keys; copies = h.copies; customers_fit = h.customers_fit; rentals_fit = h.rentals_fit; payments_fit = h.payments_fit; lots_fit = h.lots_fit; sent_fit = h.sent_fit }
-
-good_other : (rules : Rules) (b c : ℕ) (act : Act) (books : Books) → IsGoodShop rules (shop_of b books) → IsGoodShop rules (with_arrivals b c act books)
-good_other rules b c (Dispatch to xs) books h = elim (cases_Bool (to == b)) [
-  | inl is ↦ rw is (good_same rules (shop_of b books) _ h)
-  | inr isnt ↦ rw isnt h
-]
-good_other rules b c act books h = h
+-- arrivals and terms aren't read
+pub good_same : (rules : Rules) (shop : Shop) (arrivals : List Arrival) (terms : List Terms) → IsGoodShop rules shop → IsGoodShop rules (record shop { arrivals = arrivals; terms = terms })
+good_same rules shop arrivals terms h = record { apart = h.apart; created = h.created; rented = h.rented; paid = h.paid; rentals_rise = h.rentals_rise; payments_rise = h.payments_rise; keys = h.keys; copies = h.copies; customers_fit = h.customers_fit; rentals_fit = h.rentals_fit; payments_fit = h.payments_fit; lots_fit = h.lots_fit; sent_fit = h.sent_fit }
 
 -- ---- last moments
 
@@ -227,11 +198,7 @@ abbrev of_one_branch : Owned Moment → Owned Moment → Bool
 of_one_branch earlier later = earlier.owner == later.owner
 
 none_of : (b : ℕ) (rows : List (Owned Moment)) → list_any (λ (row : Owned Moment). b == row.owner) (filter (λ row. not (row.owner == b)) rows) ≡ false
-none_of b [] = refl
-none_of b (row ∷ rows) = elim (cases_Bool (row.owner == b)) [
-  | inl is ↦ rw is (none_of b rows)
-  | inr isnt ↦ rw (isnt, differ_test b row.owner (λ e. differ_if row.owner b isnt (sym e))) (none_of b rows)
-]
+none_of b rows = any-filter_same (λ (row : Owned Moment). b == row.owner) (λ row. not (row.owner == b)) false (λ row is. rw (turned row.owner b, is) refl) rows
 
 any_filtered : {A : Type 0} (p q : A → Bool) (xs : List A) → list_any p xs ≡ false → list_any p (filter q xs) ≡ false
 any_filtered p q [] none = refl
@@ -278,15 +245,13 @@ one_film mark f g [] once is was = absurd (true≢false (sym is))
 one_film mark f g (row ∷ rows) once is was = elim (cases_Bool (made_by row f mark)) [
   | inl here ↦ elim (cases_Bool (made_by row g mark)) [
     | inl too ↦ sym (made_parts row g mark too).0 ∙ (made_parts row f mark here).0
-    | inr other ↦ let some = made_some g mark rows (rw other at was) in let one : 1 + rows_made (is_mark mark) rows ≤ 1 = rw (made_parts row f mark here).1 at once in absurd (clash _ some one)
+    | inr other ↦ let some = made_some g mark rows (rw other at was) in let one : 1 + rows_made (is_mark mark) rows ≤ 1 = rw (made_parts row f mark here).1 at once in absurd (omega (arith, some, one))
   ]
   | inr there ↦ elim (cases_Bool (made_by row g mark)) [
-    | inl here ↦ let some = made_some f mark rows (rw there at is) in let one : 1 + rows_made (is_mark mark) rows ≤ 1 = rw (made_parts row g mark here).1 at once in absurd (clash _ some one)
+    | inl here ↦ let some = made_some f mark rows (rw there at is) in let one : 1 + rows_made (is_mark mark) rows ≤ 1 = rw (made_parts row g mark here).1 at once in absurd (omega (arith, some, one))
     | inr other ↦ one_film mark f g rows (omega (arith, once)) (rw there at is) (rw other at was)
   ]
-] where
-  clash : (n : ℕ) → 1 ≤ n → 1 + n ≤ 1 → ⊥
-  clash n some one = omega (arith, some, one)
+]
 
 same_mark : (mark it : Mark) → is_mark mark it ≡ true → it ≡ mark
 same_mark mark it is =
@@ -314,13 +279,10 @@ in_custody rules books sound = record {
   positive n some = grind (arith, nat_tests)
 
   once : (mark : Mark) → rows_made (is_mark mark) books.copies ≤ 1
-  once mark = made_once mark 1 books.copies (sound.numbers.copies mark.branch)
-
-  one_is : (n : ℕ) → n ≡ 1 → (n == 1) ≡ true
-  one_is n e = rw e
+  once mark = made_once mark 1 books.copies (sound.numbers.rows CopyRows mark.branch)
 
   one_place : (mark : Mark) → 1 ≤ rows_made (is_mark mark) books.copies → (places (is_mark mark) books == 1) ≡ true
-  one_place mark some = let c = sound.custody (is_mark mark) in let most = once mark in one_is _ (omega (arith, c, some, most))
+  one_place mark some = let c = sound.custody (is_mark mark) in let most = once mark in equal_test _ 1 (omega (arith, c, some, most))
 
   same_film : (it other : ℕ × Mark) → is_made_as books.copies it.0 it.1 ≡ true → is_made_as books.copies other.0 other.1 ≡ true → (not (is_mark it.1 other.1) || other.0 == it.0) ≡ true
   same_film it other is was = elim (cases_Bool (is_mark it.1 other.1)) [
@@ -355,11 +317,14 @@ terms_kept rules b catalogue command (Rent c x) shop linked none same =
 terms_kept rules b catalogue command (TakeBack r) shop linked none same = same ∙ sym (length_set r (λ (it : Rental). record it { returned = Some command.moment }) shop.rentals)
 terms_kept rules b catalogue command act shop linked none same = same
 
-terms_other : (b c : ℕ) (act : Act) (books : Books) → HasTerms (shop_of b books) → HasTerms (with_arrivals b c act books)
-terms_other b c (Dispatch to xs) books same = elim (cases_Bool (to == b)) [ inl is ↦ rw is same | inr isnt ↦ rw isnt same ]
-terms_other b c act books same = same
-
 -- ---- a step and a run
+
+-- what holds of the branch that acts, and of each other one, holds of all
+of_each : (P : ℕ → Type 0) (b : ℕ) → P b → ((c : ℕ) → (b == c) ≡ false → P c) → (c : ℕ) → P c
+of_each P b own other c = elim (cases_Bool (b == c)) [
+  | inl is ↦ subst P (same_if b c is) own
+  | inr isnt ↦ other c isnt
+]
 
 done_sound : (rules sizes : Rules) (b : ℕ) (command : Command) (books : Books) → rules.commands ≤ sizes.commands → rules.copies ≤ sizes.copies → IsSound sizes books
     → verdict rules b books.catalogue (shop_of b books) command ≡ Accepted → IsSound sizes (book_done rules b command books)
@@ -371,61 +336,43 @@ done_sound rules sizes b command books most fit sound e =
     let same = catalogue_stays rules b command command.act books in
     let works = staff_works b books.catalogue.staff command.staff (not-false _ all.1.1.0) in
     let there = branch_there b books.catalogue.branches books.catalogue.staff command.staff sound.catalogue.names.staff_branches works in
+    let done = book_done rules b command books in
     let edits = edits_of rules b command command.act books in
     let allowed = edits_allowed rules b command command.act books sound.numbers (sound.links b) works none in
     record {
       catalogue = rw same sound.catalogue;
       owners = subst (λ (it : Catalogue). HasOwners it.branches (book_done rules b command books)) (sym same) (owners_done rules b books.catalogue command books sound.owners there none);
-      numbers = record { customers = numbers.customers; copies = numbers.copies; rentals = numbers.rentals; terms = numbers.terms; payments = numbers.payments; consignments = numbers.consignments };
+      numbers = record { rows = numbers.rows; consignments = numbers.consignments };
       places = places_kept rules b command command.act books sound.places;
       custody = custody_kept rules sizes b books.catalogue command command.act books sound none;
       origins = let o = origins_kept rules b command command.act books sound.origins in record { rows = o.rows; lines = o.lines };
       settled = settled_kept rules b command command.act books sound.settled;
       lasts = one_last b command.moment books.lasts sound.lasts;
-      held = λ c. elim (cases_Bool (b == c)) [
-        | inl is ↦
-            let P : ℕ → Type 0 = λ n. HasOneHolder (shop_of n (book_done rules b command books)) in
-            let h = holder_kept rules b books.catalogue command command.act (shop_of b books) (sound.held b) none in
-            let own : HasOneHolder (shop_of b (book_done rules b command books)) =
-            rw (done_own rules b command books sound.numbers away) (record { one = h.one; here = h.here }) in
-            subst P (same_if b c is) own
-        | inr isnt ↦ rw (done_other rules c b command books sound.numbers isnt) (holder_other c b command.act books (sound.held c))
-      ];
-      shops = λ c. elim (cases_Bool (b == c)) [
-        | inl is ↦
-            let P : ℕ → Type 0 = λ n. IsGoodShop sizes (shop_of n (book_done rules b command books)) in
-            let good = each_weaker (IsAllowed b command.moment) (IsGoodEdit b command.moment) b (λ (books : Books) edit is. is.good) edits books allowed in
-            subst P (same_if b c is) (good_shop_done rules sizes b command books most fit sound.numbers (sound.shops b) all.0 all.1.0 none good)
-        | inr isnt ↦ rw (done_other rules c b command books sound.numbers isnt) (good_other sizes c b command.act books (sound.shops c))
-      ];
-      links = λ c. elim (cases_Bool (b == c)) [
-        | inl is ↦
-            let P : ℕ → Type 0 = λ n. IsLinkedShop n (book_done rules b command books).catalogue (shop_of n (book_done rules b command books)) in
-            let linked = each_weaker (IsAllowed b command.moment) (IsLinkedEdit b) b (λ (books : Books) edit is. is.linked) edits books allowed in
-            let shop = shop_of b books in
-            let fresh = (none_kept command (filter (λ (k : Kept). bytes_eq k.command.key command.key) shop.kept) (first (refusals rules b books.catalogue shop command)) e).0 in
-            let own : IsLinkedShop b (book_done rules b command books).catalogue (shop_of b (book_done rules b command books)) =
-            rw same (linked_done rules b command books sound.numbers (sound.links b) (none_left (λ (it : Kept). bytes_eq it.command.key command.key) shop.kept fresh) linked) in
-            subst P (same_if b c is) own
-        | inr isnt ↦ rw (same, done_other rules c b command books sound.numbers isnt) (linked_other c b command.act books (sound.links c) (sound.links b))
-      ];
-      terms = λ c. elim (cases_Bool (b == c)) [
-        | inl is ↦
-            let P : ℕ → Type 0 = λ n. HasTerms (shop_of n (book_done rules b command books)) in
-            let own : HasTerms (shop_of b (book_done rules b command books)) =
-            subst HasTerms (sym (done_own rules b command books sound.numbers away)) (terms_kept rules b books.catalogue command command.act (shop_of b books) (sound.links b) none (sound.terms b)) in
-            subst P (same_if b c is) own
-        | inr isnt ↦ subst HasTerms (sym (done_other rules c b command books sound.numbers isnt)) (terms_other c b command.act books (sound.terms c))
-      ];
+      held =
+          let h = holder_kept rules b books.catalogue command command.act (shop_of b books) (sound.held b) none in
+          of_each (λ c. HasOneHolder (shop_of c done)) b (rw (done_own rules b command books sound.numbers away) (record { one = h.one; here = h.here }))
+          (λ c isnt. rw (done_other rules c b command books sound.numbers isnt)
+          (arrived_or_same HasOneHolder c b command.act books (λ xs. holder_same (shop_of c books) _ refl refl (sound.held c)) (sound.held c)));
+      shops =
+          let good = each_weaker (IsAllowed b command.moment) (IsGoodEdit b command.moment) b (λ (books : Books) edit is. is.good) edits books allowed in
+          of_each (λ c. IsGoodShop sizes (shop_of c done)) b (good_shop_done rules sizes b command books most fit sound.numbers (sound.shops b) all.0 all.1.0 none good)
+          (λ c isnt. rw (done_other rules c b command books sound.numbers isnt)
+          (arrived_or_same (IsGoodShop sizes) c b command.act books (λ xs. good_same sizes (shop_of c books) _ _ (sound.shops c)) (sound.shops c)));
+      links =
+          let linked = each_weaker (IsAllowed b command.moment) (IsLinkedEdit b) b (λ (books : Books) edit is. is.linked) edits books allowed in
+          let shop = shop_of b books in
+          let fresh = (none_kept command (filter (λ (k : Kept). bytes_eq k.command.key command.key) shop.kept) (first (refusals rules b books.catalogue shop command)) e).0 in
+          of_each (λ c. IsLinkedShop c done.catalogue (shop_of c done)) b
+          (rw same (linked_done rules b command books sound.numbers (sound.links b) (none_left (λ (it : Kept). bytes_eq it.command.key command.key) shop.kept fresh) linked))
+          (λ c isnt. rw (same, done_other rules c b command books sound.numbers isnt) (linked_other c b command.act books (sound.links c) (sound.links b)));
+      terms = of_each (λ c. HasTerms (shop_of c done)) b
+          (subst HasTerms (sym (done_own rules b command books sound.numbers away)) (terms_kept rules b books.catalogue command command.act (shop_of b books) (sound.links b) none (sound.terms b)))
+          (λ c isnt. subst HasTerms (sym (done_other rules c b command books sound.numbers isnt)) (arrived_or_same HasTerms c b command.act books (λ xs. sound.terms c) (sound.terms c)));
     }
 
 branch_sound : (rules sizes : Rules) (b : ℕ) (request : Request) (books : Books) → rules.commands ≤ sizes.commands → rules.copies ≤ sizes.copies → IsSound sizes books → IsSound sizes (branch_after rules b request books)
 branch_sound rules sizes b (Do command) books most fit sound =
-    let v = verdict rules b books.catalogue (shop_of b books) command in
-    elim (cases_Bool (is_accepted v)) [
-      | inl is ↦ let e : v ≡ Accepted = accepted_is v is in rw e (done_sound rules sizes b command books most fit sound e)
-      | inr isnt ↦ rw (not_accepted v (book_done rules b command books) books isnt) sound
-    ]
+    by_verdict (IsSound sizes) (verdict rules b books.catalogue (shop_of b books) command) (book_done rules b command books) books (done_sound rules sizes b command books most fit sound) sound
 branch_sound rules sizes b request books most fit sound = sound
 
 -- another catalogue, which is sound and has grown
@@ -433,8 +380,8 @@ grown_sound : (sizes : Rules) (catalogue : Catalogue) (books : Books) → IsSoun
 grown_sound sizes catalogue books sound good grows = record {
   catalogue = good;
   owners = let h = owners_grow books.catalogue.branches catalogue.branches books grows.branches sound.owners in
-      record { customers = h.customers; copies = h.copies; rentals = h.rentals; terms = h.terms; payments = h.payments; lots = h.lots; kept = h.kept; lasts = h.lasts; sources = h.sources; addressees = h.addressees };
-  numbers = let n = sound.numbers in record { customers = n.customers; copies = n.copies; rentals = n.rentals; terms = n.terms; payments = n.payments; consignments = n.consignments };
+      record { rows = h.rows; lots = h.lots; kept = h.kept; lasts = h.lasts; sources = h.sources; addressees = h.addressees };
+  numbers = record { rows = sound.numbers.rows; consignments = sound.numbers.consignments };
   places = sound.places;
   custody = sound.custody;
   origins = record { rows = sound.origins.rows; lines = sound.origins.lines };
@@ -448,13 +395,8 @@ grown_sound sizes catalogue books sound good grows = record {
 
 office_sound : (rules sizes : Rules) (command : OfficeCommand) (books : Books) → rules.commands ≤ sizes.commands → IsSound sizes books → IsSound sizes (record books { catalogue = catalogue_after rules command books.catalogue })
 office_sound rules sizes command books most sound =
-    let v = office_verdict rules books.catalogue command in
-    elim (cases_Bool (is_accepted v)) [
-      | inl is ↦
-          let e : v ≡ Accepted = accepted_is v is in
-          rw e (grown_sound sizes (office_done command books.catalogue) books sound (good_done rules sizes command books.catalogue most sound.catalogue e) (done_grows command books.catalogue))
-      | inr isnt ↦ rw (not_accepted v (office_done command books.catalogue) books.catalogue isnt) sound
-    ]
+    by_verdict (λ (it : Catalogue). IsSound sizes (record books { catalogue = it })) (office_verdict rules books.catalogue command) (office_done command books.catalogue) books.catalogue
+    (λ e. grown_sound sizes (office_done command books.catalogue) books sound (good_done rules sizes command books.catalogue most sound.catalogue e) (done_grows command books.catalogue)) sound
 
 pub after_sound : (rules sizes : Rules) (caller : Caller) (request : Request) (books : Books) → rules.commands ≤ sizes.commands → rules.copies ≤ sizes.copies → IsSound sizes books → IsSound sizes (after_for rules caller request books)
 after_sound rules sizes (Counter b) request books most fit sound = branch_sound rules sizes b request books most fit sound
@@ -474,7 +416,7 @@ pub in_one_place : CopiesAreInOnePlace
 in_one_place rules events books sound =
     let s = stays_sound rules events books sound in
     record {
-      once = λ mark. made_once mark 1 (last_books rules events books).copies (s.numbers.copies mark.branch);
+      once = λ mark. made_once mark 1 (last_books rules events books).copies (s.numbers.rows CopyRows mark.branch);
       place = λ mark. s.custody (is_mark mark);
       sums = s.custody (λ _. true);
       origins = s.origins;
@@ -485,9 +427,9 @@ in_one_place rules events books sound =
 pub opening_sound : OpeningIsSound
 opening_sound rules catalogue good = record {
   catalogue = good;
-  owners = record { customers = refl; copies = refl; rentals = refl; terms = refl; payments = refl; lots = refl; kept = refl; lasts = refl; sources = refl; addressees = refl };
+  owners = record { rows = by_none (AreRowsOwned catalogue.branches) catalogue (λ t. refl); lots = refl; kept = refl; lasts = refl; sources = refl; addressees = refl };
   places = tt;
-  numbers = record { customers = λ b. tt; copies = λ b. tt; rentals = λ b. tt; terms = λ b. tt; payments = λ b. tt; consignments = λ s a. tt };
+  numbers = record { rows = by_none AreRowsNumbered catalogue (λ t b. tt); consignments = λ s a. tt };
   custody = λ test. refl;
   origins = record { rows = refl; lines = refl };
   settled = refl;

@@ -1,13 +1,11 @@
 -- However often a chain is stopped and opened again, what it answers is one history.
-use Rattle.shop_model.proofs.Common.{◌≡◌, ◌⊎◌, ◌∙◌, take, inl, inr, ℕ, zero, suc, List, [], ◌∷◌, ◌++◌, length, filter, map, Bool, true, false, not, Some, refl, sym, subst, ap, ap₂, slice_get, nat_le, list_any, bytes_eq, cases_Bool, and_parts, not-true, false≢true, map-append, bytes_eq-Decides, lacks, Text, Command, OfficeCommand, OfficeAsk, Rules, Catalogue, Kept, OfficeKept, same_command, same_office, KeyUsed, Full, Verdict, Again, Refused, Accepted, resent, office_resent, verdict, office_verdict, first, refusals, office_refusals, are_different, Request, Do, Office, Reply, Done, if_accepted, reply_by, reply_text, office_text, office_done, Answer, answer_of, Books, Event, Caller, Counter, HeadOffice, Nobody, shop_of, book_done, caller_in, reply_for, after_for, reply_in, after, run, last_books, IsSound, is_decided, is_store_failure, counted_in, marked_ones, Asks, is_command, is_nobody, books_next, Life, in_flight, acted_in, Lives, history_of, answered_of, decisions_of, begun, IsKeptWith, KeepsAcknowledged, LivesAreOneHistory, ActsOnce, EachActsOnce, ResentFirst, LivesFollow}
-use Rattle.std.proofs.lemmas.List.{append_assoc}
+use Rattle.shop_model.proofs.Common.{◌≡◌, ◌⊎◌, ◌∙◌, take, inl, inr, ℕ, zero, suc, List, [], ◌∷◌, ◌++◌, length, filter, map, Bool, true, false, not, Some, refl, sym, subst, ap, ap₂, slice_get, nat_le, list_any, bytes_eq, cases_Bool, and_parts, not-true, false≢true, map-append, bytes_eq-Decides, Text, OfficeAsk, Rules, Kept, OfficeKept, KeyUsed, Full, Verdict, Again, Refused, first, refusals, office_refusals, are_different, Request, Do, Office, Reply, Done, Answer, answer_of, Books, Event, Caller, Counter, HeadOffice, Nobody, shop_of, caller_in, reply_for, after_for, reply_in, after, run, last_books, IsSound, is_decided, counted_in, marked_ones, Asks, is_command, is_nobody, Life, in_flight, acted_in, Lives, history_of, answered_of, decisions_of, begun, IsKeptWith, KeepsAcknowledged, LivesAreOneHistory, ActsOnce, EachActsOnce, ResentFirst, LivesFollow, ◌+◌, arith, books_at, IsRun, resent_by, true≢false}
+use Rattle.std.proofs.lemmas.List.{append_assoc, take_all}
 use Rattle.shop_model.proofs.Histories.{run_append, last_append}
 use Rattle.shop_model.proofs.Isolation.{alone}
 use Rattle.shop_model.proofs.Soundness.{in_one_place}
 use Rattle.shop_model.proofs.Repeats.{without_repeats}
-use Rattle.shop_model.proofs.Resends.{caller_after, by_command, verdict_of, stays, again_told, Steps, steps_of, good_decided, same_some, same_none, steps_next, sound_before, got, none_under, never_again}
-use Rattle.shop_model.proofs.Resent.{resent_again}
-use Rattle.shop_model.proofs.OfficeResent.{office_resent_again}
+use Rattle.shop_model.proofs.Resends.{caller_after, finds_counted, by_command, verdict_of, again_told, told as told_as, steps_of, same_head, same_tail, same_some, same_none, got_at, again_through, none_under, never_again}
 
 -- ---- the books
 
@@ -68,13 +66,6 @@ told_of rules look (life ∷ lives) old new (mid, ran, rest) =
 
 -- ---- what is kept
 
--- behind any events
-again_through : (rules : Rules) (text : Text) (caller : Caller) (request : Request) → is_command caller request ≡ true → (events : List Event) (books : Books)
-    → verdict_of rules caller request books ≡ Again text → verdict_of rules caller request (last_books rules events books) ≡ Again text
-again_through rules text caller request is [] books again = again
-again_through rules text caller request is (e ∷ events) books again =
-    again_through rules text caller request is events (after rules e books) (stays rules text (caller_in e books) (e.request (caller_in e books)) books caller request is again)
-
 -- where no key is twice, one row at most is under a key
 at_most_one : {A : Type 0} (key : A → Text) (t : Text) (x : A) (xs rest : List A) → are_different (λ (earlier later : A). bytes_eq (key earlier) (key later)) xs ≡ true
     → filter (λ y. bytes_eq (key y) t) xs ≡ x ∷ rest → rest ≡ []
@@ -84,34 +75,20 @@ at_most_one {A = A} key t x (y ∷ ys) rest apart is =
     elim (cases_Bool (bytes_eq (key y) t)) [
       | inl same ↦
           let both : y ∷ filter (λ z. bytes_eq (key z) t) ys ≡ x ∷ rest = rw same at is in
-          let behind : filter (λ z. bytes_eq (key z) t) ys ≡ rest = tail_of y x _ _ both in
+          let behind : filter (λ z. bytes_eq (key z) t) ys ≡ rest = same_tail y x _ _ both in
           let key_is : key y ≡ t = (bytes_eq-Decides (key y) t).0 same in
           sym behind ∙ subst (λ (k : Text). filter (λ z. bytes_eq (key z) k) ys ≡ []) key_is (none_under key y ys (not-true _ h.0))
       | inr other ↦ at_most_one key t x ys rest h.1 (rw other at is)
     ]
-  where
-    tail_of : (y x : A) (ys xs : List A) → y ∷ ys ≡ x ∷ xs → ys ≡ xs
-    tail_of y x ys xs e = cc
 
-branch_kept : (command : Command) (ks : List Kept) (v : Verdict) (text : Text) → (v ≡ Again text → ⊥) → ((x : Kept) (rest : List Kept) → ks ≡ x ∷ rest → rest ≡ []) → resent command ks v ≡ Again text
-    → (it : Kept) × (ks ≡ it ∷ []) × (same_command it.command command ≡ true) × (it.reply ≡ text)
-branch_kept command [] v text fresh one again = absurd (fresh again)
-branch_kept command (k ∷ ks) v text fresh one again = elim (cases_Bool (same_command k.command command)) [
+is_kept : {A : Type 0} (same : A → Bool) (reply : A → Text) (ks : List A) (v : Verdict) (text : Text) → (v ≡ Again text → ⊥) → ((x : A) (rest : List A) → ks ≡ x ∷ rest → rest ≡ [])
+    → resent_by same reply ks v ≡ Again text → (it : A) × (ks ≡ it ∷ []) × (same it ≡ true) × (reply it ≡ text)
+is_kept same reply [] v text fresh one again = absurd (fresh again)
+is_kept {A = A} same reply (k ∷ ks) v text fresh one again = elim (cases_Bool (same k)) [
   | inl is ↦
-      let told : Again k.reply ≡ Again text = rw is at again in
-      let reply : k.reply ≡ text = cc in
-      (k, ap (λ (l : List Kept). k ∷ l) (one k ks refl), is, reply)
-  | inr isnt ↦ let no : Refused KeyUsed ≡ Again text = rw isnt at again in cc
-]
-
-office_kept : (command : OfficeCommand) (ks : List OfficeKept) (v : Verdict) (text : Text) → (v ≡ Again text → ⊥) → ((x : OfficeKept) (rest : List OfficeKept) → ks ≡ x ∷ rest → rest ≡ [])
-    → office_resent command ks v ≡ Again text → (it : OfficeKept) × (ks ≡ it ∷ []) × (same_office it.command command ≡ true) × (it.reply ≡ text)
-office_kept command [] v text fresh one again = absurd (fresh again)
-office_kept command (k ∷ ks) v text fresh one again = elim (cases_Bool (same_office k.command command)) [
-  | inl is ↦
-      let told : Again k.reply ≡ Again text = rw is at again in
-      let reply : k.reply ≡ text = cc in
-      (k, ap (λ (l : List OfficeKept). k ∷ l) (one k ks refl), is, reply)
+      let told : Again (reply k) ≡ Again text = rw is at again in
+      let kept : reply k ≡ text = cc in
+      (k, ap (λ (l : List A). k ∷ l) (one k ks refl), is, kept)
   | inr isnt ↦ let no : Refused KeyUsed ≡ Again text = rw isnt at again in cc
 ]
 
@@ -119,45 +96,27 @@ again_kept : (rules sizes : Rules) (text : Text) (books : Books) → IsSound siz
     → verdict_of rules caller request books ≡ Again text → IsKeptWith caller request text books
 again_kept rules sizes text books sound = by_command (λ caller request. verdict_of rules caller request books ≡ Again text → IsKeptWith caller request text books)
     (λ b command again.
-    branch_kept command (filter (λ (k : Kept). bytes_eq k.command.key command.key) (shop_of b books).kept) (first (refusals rules b books.catalogue (shop_of b books) command)) text
+    is_kept _ _ (filter (λ (k : Kept). bytes_eq k.command.key command.key) (shop_of b books).kept) (first (refusals rules b books.catalogue (shop_of b books) command)) text
     (never_again (refusals rules b books.catalogue (shop_of b books) command) text)
     (λ x rest is. at_most_one (λ (k : Kept). k.command.key) command.key x (shop_of b books).kept rest (sound.links b).keys is) again)
     (λ command again.
-    office_kept command (filter (λ (k : OfficeKept). bytes_eq k.command.key command.key) books.catalogue.kept) (first ((Full, nat_le rules.commands (length books.catalogue.kept)) ∷ office_refusals books.catalogue command.act)) text
+    is_kept _ _ (filter (λ (k : OfficeKept). bytes_eq k.command.key command.key) books.catalogue.kept) (first ((Full, nat_le rules.commands (length books.catalogue.kept)) ∷ office_refusals books.catalogue command.act)) text
     (never_again ((Full, nat_le rules.commands (length books.catalogue.kept)) ∷ office_refusals books.catalogue command.act) text)
     (λ x rest is. at_most_one (λ (k : OfficeKept). k.command.key) command.key x books.catalogue.kept rest sound.catalogue.keys is) again)
 
--- what an event adds to the counted history
-next_books : (rules : Rules) (e : Event) (events : List Event) (a : Answer) (answers : List Answer) (books : Books) → is_store_failure a ≡ false
-    → last_books rules (counted_in (e ∷ events) (a ∷ answers)) books ≡ last_books rules (counted_in events answers) (books_next rules e a books)
-next_books rules e events a answers books sound = elim (cases_Bool (is_decided a)) [ inl fine ↦ rw fine refl | inr lacks ↦ rw (lacks, sound) refl ]
-
 module _ (rules : Rules) (look : Reads) (caller : Caller) (request : Request) (is : is_command caller request ≡ true) where
   -- a command that was answered with 200 is given again from the end of the run on
-  got_in : (events : List Event) (answers : List Answer) (books : Books) → Steps rules look events answers books → (i : ℕ) (x : Answer) → Asks rules events answers books i caller request
+  got_in : (events : List Event) (answers : List Answer) (old mid : Books) → IsRun rules look events answers old mid → (i : ℕ) (x : Answer) → Asks rules events answers old i caller request
       → slice_get answers i ≡ Some x → x.status ≡ 200
-      → (text : Text) × (x ≡ answer_of (Done text)) × (verdict_of rules caller request (last_books rules (counted_in events answers) books) ≡ Again text)
-  got_in [] answers books steps i x asks there good = absurd (same_none asks.event asks.stands)
-  got_in (e ∷ events) [] books steps i x asks there good = absurd (same_none x there)
-  got_in (e ∷ events) (a ∷ answers) books steps zero x asks there good =
-      let same : e ≡ asks.event = same_some e asks.event asks.stands in
-      let told : a ≡ x = same_some a x there in
-      let fine : is_decided a ≡ true = rw told (good_decided x good) in
-      let who : caller_in e books ≡ caller = ap (λ (event : Event). caller_in event books) same ∙ asks.who in
-      let what : e.request caller ≡ request = ap (λ (event : Event). event.request caller) same ∙ asks.what in
-      let says : reply_in rules look e books ≡ reply_for rules look caller request books = rw (who, what) refl in
-      let does : after rules e books ≡ after_for rules caller request books = rw (who, what) refl in
-      let done = got rules look x books caller request is (sym told ∙ (steps.0 fine).0 ∙ ap answer_of says) good in
-      let again : verdict_of rules caller request (after rules e books) ≡ Again done.0 = subst (λ (b : Books). verdict_of rules caller request b ≡ Again done.0) (sym does) done.2 in
-      let last = again_through rules done.0 caller request is (counted_in events answers) (after rules e books) again in
-      let counts : last_books rules (counted_in (e ∷ events) (a ∷ answers)) books ≡ last_books rules (counted_in events answers) (after rules e books) = rw fine refl in
-      (done.0, done.1, subst (λ (b : Books). verdict_of rules caller request b ≡ Again done.0) (sym counts) last)
-  got_in (e ∷ events) (a ∷ answers) books steps (suc i) x asks there good =
-      let sound = sound_before rules look e events a answers books steps i x there (good_decided x good) in
-      let next = books_next rules e a books in
-      let rest : Asks rules events answers next i caller request = record { event = asks.event; stands = asks.stands; who = asks.who; what = asks.what } in
-      let it = got_in events answers next (steps_next rules look e events a answers books steps sound) i x rest there good in
-      (it.0, it.1, subst (λ (b : Books). verdict_of rules caller request b ≡ Again it.0) (sym (next_books rules e events a answers books sound)) it.2)
+      → (text : Text) × (x ≡ answer_of (Done text)) × (verdict_of rules caller request mid ≡ Again text)
+  got_in events answers old mid ran i x asks there good =
+      let steps = steps_of rules look events answers old ran.each ran.stays ran.decisions in
+      let done = got_at rules look caller request is events answers old steps i x asks there good in
+      let n = suc i + length events in
+      let each = ran.each in
+      let end : books_at rules events answers old n ≡ mid = finds_counted rules events answers old ran.stays n
+      ∙ ap₂ (λ (es : List Event) (sent : List Answer). last_books rules (counted_in es sent) old) (take_all n events (omega arith)) (take_all n answers (omega (arith, each))) ∙ sym ran.books in
+      (done.0, done.1, subst (λ (b : Books). verdict_of rules caller request b ≡ Again done.0) end (done.2 n (omega arith)))
 
   acknowledged : (lives : List Life) (old new : Books) → Lives rules look lives old new → (n i : ℕ) (life : Life) (x : Answer) → slice_get lives n ≡ Some life
       → Asks rules life.events life.answers (begun rules lives old n) i caller request → slice_get life.answers i ≡ Some x → x.status ≡ 200
@@ -167,10 +126,9 @@ module _ (rules : Rules) (look : Reads) (caller : Caller) (request : Request) (i
       let same : l ≡ life = same_some l life at_n in
       let here : Asks rules l.events l.answers old i caller request = subst (λ (it : Life). Asks rules it.events it.answers old i caller request) (sym same) asks in
       let answer : slice_get l.answers i ≡ Some x = subst (λ (it : Life). slice_get it.answers i ≡ Some x) (sym same) there in
-      let done = got_in l.events l.answers old (steps_of rules look l.events l.answers old ran.each ran.stays ran.decisions) i x here answer good in
-      let ends : verdict_of rules caller request mid ≡ Again done.0 = subst (λ (b : Books). verdict_of rules caller request b ≡ Again done.0) (sym ran.books) done.2 in
-      let flown = again_through rules done.0 caller request is (in_flight l) mid ends in
-      let last = again_through rules done.0 caller request is (history_of lives) (last_books rules (in_flight l) mid) flown in
+      let done = got_in l.events l.answers old mid ran i x here answer good in
+      let flown = again_through rules caller request is done.0 (in_flight l) mid done.2 in
+      let last = again_through rules caller request is done.0 (history_of lives) (last_books rules (in_flight l) mid) flown in
       (done.0, done.1, subst (λ (b : Books). verdict_of rules caller request b ≡ Again done.0) (sym (last_of rules look lives (last_books rules (in_flight l) mid) new rest)) last)
   acknowledged (l ∷ lives) old new (mid, ran, rest) (suc n) i life x at_n asks there good =
       let next = last_books rules (in_flight l) mid in
@@ -196,35 +154,11 @@ one_history rules look lives old new lived = record {
 
 -- ---- the request in flight, sent again
 
-abbrev IsOnce : Rules → Reads → Caller → Request → Books → Type 0
-IsOnce rules look caller request books =
-    (after_for rules caller request books ≡ books)
-    ⊎ ((text : Text) × (is_command caller request ≡ true) × (reply_for rules look caller request books ≡ Done text) × (verdict_of rules caller request (after_for rules caller request books) ≡ Again text))
-
-once_branch : (rules : Rules) (b : ℕ) (command : Command) (books : Books) (v : Verdict) → v ≡ verdict rules b books.catalogue (shop_of b books) command
-    → (if_accepted v (book_done rules b command books) books ≡ books)
-    ⊎ ((text : Text) × (reply_by v (reply_text rules command (shop_of b books)) ≡ Done text) × (verdict_of rules (Counter b) (Do command) (if_accepted v (book_done rules b command books) books) ≡ Again text))
-once_branch rules b command books (Again text) is = inl refl
-once_branch rules b command books (Refused refusal) is = inl refl
-once_branch rules b command books Accepted is = inr (reply_text rules command (shop_of b books), refl, resent_again rules b command books [] (sym is))
-
-once_office : (rules : Rules) (command : OfficeCommand) (books : Books) (v : Verdict) → v ≡ office_verdict rules books.catalogue command
-    → (if_accepted v (office_done command books.catalogue) books.catalogue ≡ books.catalogue)
-    ⊎ ((text : Text) × (reply_by v (office_text command books.catalogue) ≡ Done text) × (office_verdict rules (if_accepted v (office_done command books.catalogue) books.catalogue) command ≡ Again text))
-once_office rules command books (Again text) is = inl refl
-once_office rules command books (Refused refusal) is = inl refl
-once_office rules command books Accepted is = inr (office_text command books.catalogue, refl, office_resent_again rules command books [] (sym is))
-
-once : (rules : Rules) (look : Reads) (caller : Caller) (request : Request) (books : Books) → IsOnce rules look caller request books
-once rules look (Counter b) (Do command) books = elim (once_branch rules b command books (verdict rules b books.catalogue (shop_of b books) command) refl) [
-  | inl same ↦ inl same
-  | inr done ↦ inr (done.0, refl, done.1, done.2)
-]
-once rules look HeadOffice (Office command) books = elim (once_office rules command books (office_verdict rules books.catalogue command) refl) [
-  | inl same ↦ inl (ap (λ (it : Catalogue). record books { catalogue = it }) same)
-  | inr done ↦ inr (done.0, refl, done.1, done.2)
-]
-once rules look caller request books = inl refl
+-- what is no command leaves the books
+idle : (rules : Rules) (caller : Caller) (request : Request) (books : Books) → is_command caller request ≡ false → after_for rules caller request books ≡ books
+idle rules (Counter b) (Do command) books isnt = absurd (true≢false isnt)
+idle rules HeadOffice (Office command) books isnt = absurd (true≢false isnt)
+idle rules caller request books isnt = refl
 
 command_known : (caller : Caller) (request : Request) → is_command caller request ≡ true → is_nobody caller ≡ false
 command_known (Counter b) request is = refl
@@ -239,14 +173,17 @@ acts_once rules look event books =
     let caller = caller_in event books in
     let request = event.request caller in
     let next = after rules event books in
-    elim (once rules look caller request books) [
-      | inl same ↦ unmoved rules look event books same
-      | inr (text, is, reply, again) ↦
-          let who : caller_in event next ≡ caller = caller_after rules caller request event.token caller books (command_known caller request is) refl in
-          let says : reply_in rules look event next ≡ reply_for rules look caller request next = rw who refl in
-          let does : after rules event next ≡ after_for rules caller request next = rw who refl in
-          let kept = again_told rules look text next caller request is again in
-          record { reply = says ∙ kept.0 ∙ sym reply; books = does ∙ kept.1 }
+    elim (cases_Bool (is_command caller request)) [
+      | inr isnt ↦ unmoved rules look event books (idle rules caller request books isnt)
+      | inl is ↦ elim (told_as rules look books caller request is) [
+        | inl (refusal, reply, same) ↦ unmoved rules look event books same
+        | inr (text, reply, again) ↦
+            let who : caller_in event next ≡ caller = caller_after rules caller request event.token caller books (command_known caller request is) refl in
+            let says : reply_in rules look event next ≡ reply_for rules look caller request next = rw who refl in
+            let does : after rules event next ≡ after_for rules caller request next = rw who refl in
+            let kept = again_told rules look text next caller request is again in
+            record { reply = says ∙ kept.0 ∙ sym reply; books = does ∙ kept.1 }
+      ]
     ]
 
 pub resent_first : ResentFirst
@@ -267,15 +204,12 @@ resent_first rules look life next event more answer others old new (mid, ran, (e
     let same_end : end ≡ last_books rules (counted_in next.events next.answers) mid =
     later.books ∙ ap (λ es. last_books rules es start) count ∙ ap (last_books rules (counted_in more others)) once ∙ ap (λ es. last_books rules es mid) (sym count) in
     record {
-      reply = head_of _ _ _ _ first_told ∙ ap answer_of reply ∙ ap (λ b. answer_of (reply_in rules look event b)) ran.books;
+      reply = same_head _ _ _ _ first_told ∙ ap answer_of reply ∙ ap (λ b. answer_of (reply_in rules look event b)) ran.books;
       books = last ∙ ap (last_books rules (in_flight next)) same_end
           ∙ sym (last_append rules (counted_in next.events next.answers) (in_flight next) mid)
           ∙ ap (last_books rules (acted_in next)) ran.books
           ∙ sym (last_append rules history (acted_in next) old);
     }
-  where
-    head_of : (x y : Answer) (xs ys : List Answer) → x ∷ xs ≡ y ∷ ys → x ≡ y
-    head_of x y xs ys e = cc
 
 -- ---- one after another
 

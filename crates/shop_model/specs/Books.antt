@@ -3,12 +3,12 @@ use Rattle.std.specs.Prelude.{ℕ, ◌+◌, ◌==◌, ◌&&◌, Bool, true, fals
 use Rattle.std.specs.Str.{bytes_eq}
 use Rattle.shop_model.specs.Rows.{arrived, lacks, Row, Owned, of, owned_by, is_row, put_all, set_rows, update_where, numbered, mem}
 use Rattle.shop_model.specs.Calendar.{Moment}
-use Rattle.shop_model.specs.Values.{Text, Branch, Customer, CopyState, Here, Sent, Scrapped, Copy, Rental, Terms, Payment, Arrival, Parcel, Act, AddCustomer, SetActive, Rent, TakeBack, Pay, Import, Dispatch, Receive, Scrap, Command, OfficeAsk, Rules}
+use Rattle.shop_model.specs.Values.{Text, Branch, Customer, new_customer, CopyState, Here, Sent, Scrapped, Copy, Rental, Terms, Payment, Arrival, Parcel, Act, AddCustomer, SetActive, Rent, TakeBack, Pay, Import, Dispatch, Receive, Scrap, Command, OfficeAsk, Rules}
 use Rattle.shop_model.specs.Refusals.{NoCounter, NoRoute}
 use Rattle.shop_model.specs.Shop.{Kept, Catalogue, Shop}
 use Rattle.shop_model.specs.Stock.{terms_now}
 use Rattle.shop_model.specs.Verdict.{verdict, office_verdict}
-use Rattle.shop_model.specs.Machine.{films_in, films_at, reply_text, office_text, Request, Unread, Do, Look, Office, OfficeLook, Reply, Sorry, reply_by, reply_to, if_accepted, catalogue_after, Input, FromOffice, Arrive, Own, State}
+use Rattle.shop_model.specs.Machine.{films_in, films_at, reply_text, office_text, Request, Unread, Do, Office, OfficeLook, Reply, Sorry, reply_by, reply_to, if_accepted, catalogue_after, Input, FromOffice, Arrive, Own, State}
 
 -- where a copy was imported, and its number there: it moves with the copy, and no reply to a branch depends on it
 pub record Mark : Type 0 where
@@ -146,42 +146,33 @@ RowOf Rentals = Rental
 RowOf TermRows = Terms
 RowOf Payments = Payment
 
-abbrev pub rows_of : (t : Table) → Books → List (Row (RowOf t))
-rows_of Customers books = books.customers
-rows_of CopyRows books = books.copies
-rows_of Rentals books = books.rentals
-rows_of TermRows books = books.terms
-rows_of Payments books = books.payments
+abbrev pub RowsOf : Table → Type 0
+RowsOf t = List (Row (RowOf t))
 
--- of each table: the new list, where it is of this table, and else the old one
-abbrev pub customers_with : (t : Table) → List (Row (RowOf t)) → List (Row Customer) → List (Row Customer)
-customers_with Customers new old = new
-customers_with t new old = old
+abbrev pub rows_of : Books → (t : Table) → RowsOf t
+rows_of books Customers = books.customers
+rows_of books CopyRows = books.copies
+rows_of books Rentals = books.rentals
+rows_of books TermRows = books.terms
+rows_of books Payments = books.payments
 
-abbrev pub copies_with : (t : Table) → List (Row (RowOf t)) → List (Row BookCopy) → List (Row BookCopy)
-copies_with CopyRows new old = new
-copies_with t new old = old
-
-abbrev pub rentals_with : (t : Table) → List (Row (RowOf t)) → List (Row Rental) → List (Row Rental)
-rentals_with Rentals new old = new
-rentals_with t new old = old
-
-abbrev pub terms_with : (t : Table) → List (Row (RowOf t)) → List (Row Terms) → List (Row Terms)
-terms_with TermRows new old = new
-terms_with t new old = old
-
-abbrev pub payments_with : (t : Table) → List (Row (RowOf t)) → List (Row Payment) → List (Row Payment)
-payments_with Payments new old = new
-payments_with t new old = old
+-- what is told of the first table, where the two are the same one, and else what is told of the second
+abbrev pub if_same : (F : Table → Type 0) (t u : Table) → F t → F u → F u
+if_same F Customers Customers x y = x
+if_same F CopyRows CopyRows x y = x
+if_same F Rentals Rentals x y = x
+if_same F TermRows TermRows x y = x
+if_same F Payments Payments x y = x
+if_same F t u x y = y
 
 -- the books with another list in one table; what is no table stays, whichever the table is
-abbrev pub with_rows : (t : Table) → List (Row (RowOf t)) → Books → Books
+abbrev pub with_rows : (t : Table) → RowsOf t → Books → Books
 with_rows t new books = record books {
-  customers = customers_with t new books.customers;
-  copies = copies_with t new books.copies;
-  rentals = rentals_with t new books.rentals;
-  terms = terms_with t new books.terms;
-  payments = payments_with t new books.payments;
+  customers = if_same RowsOf t Customers new books.customers;
+  copies = if_same RowsOf t CopyRows new books.copies;
+  rentals = if_same RowsOf t Rentals new books.rentals;
+  terms = if_same RowsOf t TermRows new books.terms;
+  payments = if_same RowsOf t Payments new books.payments;
 }
 
 -- a branch's new rows, each with the next number, and changed rows, by their numbers; a lot; and of the consignments a new one, and a change
@@ -193,8 +184,8 @@ pub data Edit : Type 0 where
   Update : (Consignment → Bool) → (Consignment → Consignment) → Edit
 
 abbrev pub edited : ℕ → Edit → Books → Books
-edited b (Put t makes) books = with_rows t (put_all b makes (rows_of t books)) books
-edited b (Set t ns f) books = with_rows t (set_rows b ns f (rows_of t books)) books
+edited b (Put t makes) books = with_rows t (put_all b makes (rows_of books t)) books
+edited b (Set t ns f) books = with_rows t (set_rows b ns f (rows_of books t)) books
 edited b (PutLot lot) books = record books { lots = books.lots ++ record { owner = b; it = lot } ∷ [] }
 edited b (Append it) books = record books { consignments = books.consignments ++ it ∷ [] }
 edited b (Update test f) books = record books { consignments = update_where test f books.consignments }
@@ -205,7 +196,7 @@ all_edited b (edit ∷ edits) books = all_edited b edits (edited b edit books)
 
 -- by the books as they were: the same changes as in the branch's own machine, as edits of rows that have branch, number, mark and place
 abbrev pub edits_of : Rules → ℕ → Command → Act → Books → List Edit
-edits_of rules b command (AddCustomer person) books = Put Customers ((λ _. record { person = person; active = true; created = command.moment }) ∷ []) ∷ []
+edits_of rules b command (AddCustomer it) books = Put Customers ((λ _. new_customer command.moment it) ∷ []) ∷ []
 edits_of rules b command (SetActive c active) books = Set Customers (c ∷ []) (λ it. record it { active = active }) ∷ []
 edits_of rules b command (Rent c x) books =
     Put Rentals ((λ _. record { rented = command.moment; copy = x; customer = c; returned = None; staff = command.staff }) ∷ [])
@@ -258,8 +249,7 @@ caller_of (Some token) catalogue = if bytes_eq token catalogue.office_token then
 -- a caller who says that it is a branch is nobody where there is no such branch
 abbrev pub known_caller : Catalogue → Caller → Caller
 known_caller catalogue (Counter b) = if lacks catalogue.branches b then Nobody else Counter b
-known_caller catalogue HeadOffice = HeadOffice
-known_caller catalogue Nobody = Nobody
+known_caller catalogue caller = caller
 
 abbrev pub caller_in : Event → Books → Caller
 caller_in event books = caller_of event.token books.catalogue
@@ -275,10 +265,9 @@ office_after rules request books = books
 -- head office's readings are over all books
 abbrev pub office_reply : Rules → (OfficeAsk → Books → Reply) → Request → Books → Reply
 office_reply rules look (Unread refusal) books = Sorry refusal
-office_reply rules look (Do command) books = Sorry NoRoute
-office_reply rules look (Look ask) books = Sorry NoRoute
 office_reply rules look (Office command) books = reply_by (office_verdict rules books.catalogue command) (office_text command books.catalogue)
 office_reply rules look (OfficeLook ask) books = look ask books
+office_reply rules look request books = Sorry NoRoute
 
 abbrev pub reply_for : Rules → (OfficeAsk → Books → Reply) → Caller → Request → Books → Reply
 reply_for rules look (Counter b) request books = reply_to rules b books.catalogue (shop_of b books) request
@@ -324,8 +313,7 @@ counted (it ∷ rest) = counted_one it.0 it.1 (counted rest)
 
 abbrev pub is_counter : ℕ → Caller → Bool
 is_counter b (Counter c) = c == b
-is_counter b HeadOffice = false
-is_counter b Nobody = false
+is_counter b caller = false
 
 abbrev pub replies_to : ℕ → List (Caller × Reply) → List Reply
 replies_to b answers = map (λ (a : Caller × Reply). a.1) (filter (λ (a : Caller × Reply). is_counter b a.0) answers)

@@ -1,17 +1,17 @@
 -- What holds of each branch's shop: of its rentals, its moments and its sizes.
-use Rattle.std.specs.Prelude.{◌≡◌, ◌≤◌, ◌==◌, ◌&&◌, Bool, true, false, not, List, [], ◌∷◌, length, map, Option, Some, None}
-use Rattle.std.specs.List.{list_any, list_all}
+use Rattle.std.specs.Prelude.{◌≡◌, ◌≤◌, ◌==◌, ◌&&◌, Bool, true, false, List, [], ◌∷◌, length, map, Option, Some, None}
+use Rattle.std.specs.List.{list_all}
 use Rattle.shop_model.specs.Calendar.{Moment, is_by, same_moment}
 use Rattle.shop_model.specs.Values.{Customer, Rental, Payment, Rules}
 use Rattle.shop_model.specs.Shop.{Shop}
+use Rattle.shop_model.specs.Links.{are_different}
 
 abbrev pub same_rental : Rental → Rental → Bool
 same_rental r s = same_moment s.rented r.rented && s.copy == r.copy && s.customer == r.customer
 
 -- no two share moment, copy and customer: a unique key of the manual's script
 abbrev pub are_apart : List Rental → Bool
-are_apart [] = true
-are_apart (r ∷ rs) = not (list_any (same_rental r) rs) && are_apart rs
+are_apart rentals = are_different same_rental rentals
 
 -- not after the last moment, and where there is none, not at all
 abbrev pub is_within : Option Moment → Moment → Bool

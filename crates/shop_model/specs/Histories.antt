@@ -23,9 +23,8 @@ outcome_of answer = if is_decided answer then Decided else (if is_store_failure 
 
 -- each event with how it was answered
 abbrev pub with_outcomes : List Event → List Answer → List (Event × Outcome)
-with_outcomes [] answers = []
-with_outcomes (event ∷ events) [] = []
 with_outcomes (event ∷ events) (answer ∷ answers) = (event, outcome_of answer) ∷ with_outcomes events answers
+with_outcomes events answers = []
 
 -- the counted history of these events and answers
 abbrev pub counted_in : List Event → List Answer → List Event

@@ -1,7 +1,7 @@
 -- The machine of one branch: a catalogue and a shop, to which only arrivals come from other branches.
 use Rattle.std.specs.Prelude.{ℕ, ◌+◌, ◌==◌, nat_lt, ℤ, Bool, true, false, if◌then◌else◌, List, [], ◌∷◌, ◌++◌, length, map, filter, flat_map, codes, decimal, Some, None}
 use Rattle.shop_model.specs.Rows.{at, set_at, set_all, set_among, arrived}
-use Rattle.shop_model.specs.Values.{Text, Film, Customer, CopyState, Here, Sent, Scrapped, Copy, Arrival, Parcel, Rule, ByCode, ByComment, Act, AddCustomer, SetActive, Rent, TakeBack, Pay, Import, Dispatch, Receive, Scrap, Command, OfficeAct, AddCountry, AddCity, AddLanguage, AddCategory, AddActor, AddFilm, PriceFilm, WithdrawFilm, AddCast, AddBranch, AddStaff, StaffLeaves, SetManager, ChooseRule, OfficeCommand, OfficeAsk, View, CustomerList, StaffList, FilmList, ActorInfo, SalesByStore, SalesByCategory, Ask, OneCustomer, OneFilm, InStock, HeldBy, FilmInStock, FilmNotInStock, Balance, Overdue, Rewards, Arrivals, SentOff, OneView, Stock, Copies, BadLine, Rules}
+use Rattle.shop_model.specs.Values.{Text, Film, Customer, new_customer, CopyState, Here, Sent, Scrapped, Copy, Arrival, Parcel, Rule, ByCode, ByComment, Act, AddCustomer, SetActive, Rent, TakeBack, Pay, Import, Dispatch, Receive, Scrap, Command, OfficeAct, AddCountry, AddCity, AddLanguage, AddCategory, AddActor, AddFilm, PriceFilm, WithdrawFilm, AddCast, AddBranch, AddStaff, StaffLeaves, SetManager, ChooseRule, OfficeCommand, OfficeAsk, View, CustomerList, StaffList, FilmList, ActorInfo, SalesByStore, SalesByCategory, Ask, OneCustomer, OneFilm, InStock, HeldBy, FilmInStock, FilmNotInStock, Balance, Overdue, Rewards, Arrivals, SentOff, OneView, Stock, Copies, BadLine, Rules}
 use Rattle.shop_model.specs.Refusals.{Refusal, NoRoute, NoCustomer, NoCopy, NoFilm, BadThreshold}
 use Rattle.shop_model.specs.Json.{quoted, flag_text, numbers_text, object}
 use Rattle.shop_model.specs.Shop.{Catalogue, Shop}
@@ -32,8 +32,7 @@ incoming missing arrivals = flat_map (λ (it : Arrival). arrived missing it.film
 -- what an accepted command changes: rows go last, so that their number is the next; a rental's terms are those of its film now; films of a consignment
 -- stand in the order of the command
 abbrev pub acted : Rules → Catalogue → Command → Act → Shop → Shop
-acted rules catalogue command (AddCustomer person) shop =
-    record shop { customers = shop.customers ++ record { person = person; active = true; created = command.moment } ∷ [] }
+acted rules catalogue command (AddCustomer it) shop = record shop { customers = shop.customers ++ new_customer command.moment it ∷ [] }
 acted rules catalogue command (SetActive c active) shop =
     record shop { customers = set_at c (λ it. record it { active = active }) shop.customers }
 acted rules catalogue command (Rent c x) shop =
@@ -212,8 +211,7 @@ abbrev pub reply_to : Rules → ℕ → Catalogue → Shop → Request → Reply
 reply_to rules b catalogue shop (Unread refusal) = Sorry refusal
 reply_to rules b catalogue shop (Do command) = reply_by (verdict rules b catalogue shop command) (reply_text rules command shop)
 reply_to rules b catalogue shop (Look ask) = look b catalogue shop ask
-reply_to rules b catalogue shop (Office command) = Sorry NoRoute
-reply_to rules b catalogue shop (OfficeLook ask) = Sorry NoRoute
+reply_to rules b catalogue shop request = Sorry NoRoute
 
 -- ---- the machine
 
@@ -246,9 +244,8 @@ moved rules b (Arrive source films) s = record s { shop = record s.shop { arriva
 moved rules b (Own request) s = record s { shop = shop_after rules b s.catalogue s.shop request }
 
 abbrev pub answers : Rules → ℕ → Input → State → List Reply
-answers rules b (FromOffice command) s = []
-answers rules b (Arrive source films) s = []
 answers rules b (Own request) s = reply_to rules b s.catalogue s.shop request ∷ []
+answers rules b input s = []
 
 abbrev pub replies : Rules → ℕ → List Input → State → List Reply
 replies rules b [] s = []

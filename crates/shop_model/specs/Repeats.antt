@@ -1,14 +1,13 @@
 -- Commands that come again in a history: which they are, and the history without them.
 use Rattle.std.specs.Prelude.{Bool, true, false, not, if◌then◌else◌, List, [], ◌∷◌}
 use Rattle.shop_model.specs.Values.{Rules}
-use Rattle.shop_model.specs.Verdict.{Verdict, Again, Refused, Accepted, verdict, office_verdict}
+use Rattle.shop_model.specs.Verdict.{Verdict, Again, verdict, office_verdict}
 use Rattle.shop_model.specs.Machine.{Request, Do, Office}
 use Rattle.shop_model.specs.Books.{Books, Event, Caller, Counter, HeadOffice, shop_of, caller_in, after}
 
 abbrev pub is_again : Verdict → Bool
 is_again (Again text) = true
-is_again (Refused refusal) = false
-is_again Accepted = false
+is_again v = false
 
 -- a command that its caller gave before, equal and under the same key
 abbrev pub repeats : Rules → Caller → Request → Books → Bool

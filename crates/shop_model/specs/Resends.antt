@@ -19,9 +19,8 @@ books_next rules event answer books = if is_decided answer then after rules even
 -- the books as the event of that place finds them; places count from 0
 abbrev pub books_at : Rules → List Event → List Answer → Books → ℕ → Books
 books_at rules events answers books zero = books
-books_at rules [] answers books (suc n) = books
-books_at rules (event ∷ events) [] books (suc n) = books
 books_at rules (event ∷ events) (answer ∷ answers) books (suc n) = books_at rules events answers (books_next rules event answer books) n
+books_at rules events answers books n = books
 
 -- they are those that the counted history before that place leaves
 abbrev pub FindsCounted : Rules → List Event → List Answer → Books → Type 0
@@ -74,9 +73,8 @@ GetsKeptReply rules events answers books =
     → slice_get answers j ≡ Some again → is_decided again ≡ true → IsRepeat rules events answers books j again (answer_of (Done text))
 
 abbrev pub is_nobody : Caller → Bool
-is_nobody (Counter b) = false
-is_nobody HeadOffice = false
 is_nobody Nobody = true
+is_nobody caller = false
 
 -- who is found by a token at one place is found by it at each later one
 abbrev pub KeepsCallers : Rules → List Event → List Answer → Books → Type 0

@@ -66,7 +66,7 @@ abbrev pub same_person : Person → Person → Bool
 same_person a b = bytes_eq a.first b.first && bytes_eq a.last b.last && bytes_eq a.address b.address && bytes_eq a.postal b.postal && bytes_eq a.phone b.phone && a.city == b.city
 
 abbrev pub same_act : Act → Act → Bool
-same_act (AddCustomer p) (AddCustomer p') = same_person p p'
+same_act (AddCustomer n) (AddCustomer n') = same_person n.person n'.person
 same_act (SetActive c active) (SetActive c' active') = c == c' && same_flag active active'
 same_act (Rent c x) (Rent c' x') = c == c' && x == x'
 same_act (TakeBack r) (TakeBack r') = r == r'

@@ -3,22 +3,22 @@ use Rattle.std.specs.Prelude.{◌≡◌, ℕ, map, ◌+◌, ◌≤◌, ◌==◌,
 use Rattle.std.specs.List.{list_any, list_all}
 use Rattle.shop_model.specs.Rows.{Row, Owned, at, is_of, IsCounted, AreNumbered, total}
 use Rattle.shop_model.specs.Calendar.{Moment}
-use Rattle.shop_model.specs.Values.{Text, Branch, Customer, Rental, Terms, Payment, CopyState, Here, Sent, Scrapped, Rules}
+use Rattle.shop_model.specs.Values.{Text, Branch, CopyState, Here, Sent, Scrapped, Rules}
 use Rattle.shop_model.specs.Shop.{Kept, Shop, Catalogue}
 use Rattle.shop_model.specs.Stock.{is_here, in_stock, keeps_out}
 use Rattle.shop_model.specs.GoodShop.{IsGoodShop}
 use Rattle.shop_model.specs.Links.{has_row, are_different, IsLinkedShop, IsGoodCatalogue}
-use Rattle.shop_model.specs.Books.{Books, BookCopy, Mark, Line, LineState, UnderWay, Arrived, Missing, Consignment, shop_of}
+use Rattle.shop_model.specs.Books.{Books, BookCopy, Mark, Line, LineState, UnderWay, Arrived, Missing, Consignment, Table, RowOf, RowsOf, rows_of, shop_of}
 
 -- ---- numbers
 
--- each branch's rows of a kind are numbered from 1 in the order in which they were added, and so are the consignments of a sender and addressee
+-- each branch's rows of a table are numbered from 1
+abbrev pub AreRowsNumbered : (t : Table) → RowsOf t → Type 0
+AreRowsNumbered t rows = (b : ℕ) → AreNumbered (is_of b) (λ (row : Row (RowOf t)). row.number) rows
+
+-- rows are numbered from 1 in the order in which they were added, and so are the consignments of a sender and addressee
 pub record HasNumbers (books : Books) : Type 0 where
-  pub customers : (b : ℕ) → AreNumbered (is_of b) (λ row. row.number) books.customers
-  pub copies : (b : ℕ) → AreNumbered (is_of b) (λ row. row.number) books.copies
-  pub rentals : (b : ℕ) → AreNumbered (is_of b) (λ row. row.number) books.rentals
-  pub terms : (b : ℕ) → AreNumbered (is_of b) (λ row. row.number) books.terms
-  pub payments : (b : ℕ) → AreNumbered (is_of b) (λ row. row.number) books.payments
+  pub rows : (t : Table) → AreRowsNumbered t (rows_of books t)
   pub consignments : (source addressee : ℕ) → AreNumbered (λ (it : Consignment). it.source == source && it.addressee == addressee) (λ it. it.number) books.consignments
 
 -- ---- where copies are
@@ -116,13 +116,13 @@ pub record HasOneHolder (shop : Shop) : Type 0 where
 
 -- ---- branch columns
 
+-- the branches of a table's rows are there
+abbrev pub AreRowsOwned : List Branch → (t : Table) → RowsOf t → Type 0
+AreRowsOwned branches t rows = list_all (λ (row : Row (RowOf t)). has_row branches row.branch) rows ≡ true
+
 -- the branch that a row has in its column is there, as are the sender and the addressee of a consignment
 pub record HasOwners (branches : List Branch) (books : Books) : Type 0 where
-  pub customers : list_all (λ (row : Row Customer). has_row branches row.branch) books.customers ≡ true
-  pub copies : list_all (λ (row : Row BookCopy). has_row branches row.branch) books.copies ≡ true
-  pub rentals : list_all (λ (row : Row Rental). has_row branches row.branch) books.rentals ≡ true
-  pub terms : list_all (λ (row : Row Terms). has_row branches row.branch) books.terms ≡ true
-  pub payments : list_all (λ (row : Row Payment). has_row branches row.branch) books.payments ≡ true
+  pub rows : (t : Table) → AreRowsOwned branches t (rows_of books t)
   pub lots : list_all (λ (row : Owned Text). has_row branches row.owner) books.lots ≡ true
   pub kept : list_all (λ (row : Owned Kept). has_row branches row.owner) books.kept ≡ true
   pub lasts : list_all (λ (row : Owned Moment). has_row branches row.owner) books.lasts ≡ true

@@ -17,9 +17,8 @@ use Rattle.shop_model.specs.Laws.{IsAlone, InOnePlace, IsWithoutRepeats}
 
 -- the event at which the store failed first
 abbrev pub failing : List Event → List Answer → Option Event
-failing [] answers = None
-failing (event ∷ events) [] = None
 failing (event ∷ events) (answer ∷ answers) = if is_store_failure answer then Some event else failing events answers
+failing events answers = None
 
 -- What became of a chain from its opening on until it was closed or stopped: what was asked, how it was answered, and whether the request at which the store
 -- failed had acted all the same.

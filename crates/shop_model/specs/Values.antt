@@ -1,6 +1,6 @@
 -- What is kept, asked and answered. Texts are bytes and money is in whole cents. The rows and their columns are those of the Sakila sample database,
 -- as far as this shop has them; states of a copy, consignments, keys and lots are our own.
-use Rattle.std.specs.Prelude.{ℕ, Bool, List, Option}
+use Rattle.std.specs.Prelude.{ℕ, Bool, true, List, Option}
 use Rattle.shop_model.specs.Calendar.{Moment}
 
 abbrev pub Text : Type 0
@@ -61,11 +61,19 @@ pub record Staff : Type 0 where
 
 -- ---- rows of a branch, numbered there from 1 (our own: the sample database numbers them over all stores)
 
+-- what is told of a customer who is added
+pub record NewCustomer : Type 0 where
+  pub person : Person
+
 -- a customer belongs to one branch for good (the last is our own)
 pub record Customer : Type 0 where
   pub person : Person
   pub active : Bool
   pub created : Moment
+
+-- as added, at that moment
+abbrev pub new_customer : Moment → NewCustomer → Customer
+new_customer moment it = record { person = it.person; active = true; created = moment }
 
 -- our own: the sample database has no state of a copy beside its rentals
 pub data CopyState : Type 0 where
@@ -114,7 +122,7 @@ pub record Parcel : Type 0 where
 -- ---- requests: commands change books and carry a key, readings change nothing and carry none (our own)
 
 pub data Act : Type 0 where
-  AddCustomer : Person → Act
+  AddCustomer : NewCustomer → Act
   SetActive : ℕ → Bool → Act  -- customer
   Rent : ℕ → ℕ → Act  -- customer, copy
   TakeBack : ℕ → Act  -- rental

@@ -73,8 +73,8 @@ import_refusals catalogue shop lot (BadLine line) = (LotIn, list_any (bytes_eq l
 
 -- what each command is refused for, beside what all commands are; where copies are listed, a test holds where it holds of one of them
 abbrev pub act_refusals : Rules → ℕ → Catalogue → Shop → Moment → Act → List (Refusal × Bool)
-act_refusals rules b catalogue shop moment (AddCustomer person) =
-    (NoSharedRow, lacks catalogue.cities person.city)
+act_refusals rules b catalogue shop moment (AddCustomer it) =
+    (NoSharedRow, lacks catalogue.cities it.person.city)
     ∷ []
 act_refusals rules b catalogue shop moment (SetActive c active) =
     (NoCustomer, lacks shop.customers c)
@@ -132,9 +132,12 @@ refusals rules b catalogue shop command =
     ∷ act_refusals rules b catalogue shop command.moment command.act
 
 -- a key that is kept: with an equal command it is answered as before, and before any other test; with another it is refused
+abbrev pub resent_by : {A : Type 0} → (A → Bool) → (A → Text) → List A → Verdict → Verdict
+resent_by same reply [] fresh = fresh
+resent_by same reply (k ∷ _) fresh = if same k then Again (reply k) else Refused KeyUsed
+
 abbrev pub resent : Command → List Kept → Verdict → Verdict
-resent command [] fresh = fresh
-resent command (k ∷ _) fresh = if same_command k.command command then Again k.reply else Refused KeyUsed
+resent command = resent_by (λ (k : Kept). same_command k.command command) (λ k. k.reply)
 
 -- the keys are those of the same branch: other callers' keys have nothing to do with them
 abbrev pub verdict : Rules → ℕ → Catalogue → Shop → Command → Verdict
@@ -170,8 +173,7 @@ office_refusals catalogue (SetManager b s) =
 office_refusals catalogue (ChooseRule rule) = (Already, same_rule catalogue.rule rule) ∷ []
 
 abbrev pub office_resent : OfficeCommand → List OfficeKept → Verdict → Verdict
-office_resent command [] fresh = fresh
-office_resent command (k ∷ _) fresh = if same_office k.command command then Again k.reply else Refused KeyUsed
+office_resent command = resent_by (λ (k : OfficeKept). same_office k.command command) (λ k. k.reply)
 
 abbrev pub office_verdict : Rules → Catalogue → OfficeCommand → Verdict
 office_verdict rules catalogue command =

@@ -66,7 +66,6 @@ pub fn sound_books_are_in_custody()
 {}
 
 /// The books of a chain in which no branch has asked anything are sound, where its shared rows are.
-#[tactic(auto, using(crate::proofs::Soundness::opening_sound))]
 pub fn opening_is_sound()
     ensures { OpeningIsSound }
 {}
@@ -78,7 +77,7 @@ pub fn empty_is_sound()
 {}
 
 /// A command that was accepted and comes again gets its first reply.
-#[tactic(auto, using(crate::proofs::Resent::resent_again))]
+#[tactic(auto, using(crate::proofs::Resends::resent_again))]
 pub fn resent_is_again()
     ensures { ResentIsAgain }
 {}
@@ -96,7 +95,7 @@ pub fn known_callers()
 {}
 
 /// A command of head office that was accepted and comes again gets its first reply.
-#[tactic(auto, using(crate::proofs::OfficeResent::office_resent_again))]
+#[tactic(auto, using(crate::proofs::Resends::office_resent_again))]
 pub fn office_resent_is_again()
     ensures { OfficeResentIsAgain }
 {}

@@ -7,6 +7,7 @@ use Rattle.shop_model.specs.Refusals as named
 use Rattle.shop_types.specs.declared.audit.Audit.{Audit}
 use Rattle.shop_types.specs.declared.person.Person.{Person}
 use Rattle.shop_types.specs.declared.person.Customer.{Customer}
+use Rattle.shop_types.specs.declared.person.NewCustomer.{NewCustomer}
 use Rattle.shop_types.specs.declared.rental.Rental.{Rental}
 use Rattle.shop_types.specs.declared.rental.Terms.{Terms}
 use Rattle.shop_types.specs.declared.payment.Payment.{Payment}
@@ -55,6 +56,9 @@ seen_person person = record {
   city = person.city;
 }
 
+abbrev pub seen_new_customer : NewCustomer → model.NewCustomer
+seen_new_customer it = record { person = seen_person it.person }
+
 abbrev pub seen_customer : Customer → model.Customer
 seen_customer customer = record {
   person = seen_person customer.person;
@@ -86,7 +90,7 @@ seen_payment payment = record {
 -- ---- a branch's requests
 
 abbrev pub seen_act : Act → model.Act
-seen_act (act.Customer person) = model.AddCustomer (seen_person person)
+seen_act (act.Customer it) = model.AddCustomer (seen_new_customer it)
 seen_act (act.Active customer active) = model.SetActive customer active
 seen_act (act.Rent customer copy) = model.Rent customer copy
 seen_act (act.TakeBack rental) = model.TakeBack rental

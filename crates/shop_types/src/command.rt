@@ -1,4 +1,4 @@
-use crate::{CopyNos, LineNos, Person, StockFile};
+use crate::{CopyNos, LineNos, NewCustomer, StockFile};
 use shop_values::{
     Amount, BranchNo, ConsignmentNo, CopyNo, CustomerNo, Key, LotName, Moment, RentalNo, StaffNo,
 };
@@ -7,7 +7,7 @@ use shop_values::{
 #[derive(Drop)]
 pub enum Act {
     /// Adds a customer to the branch, who is active.
-    Customer(Person),
+    Customer(NewCustomer),
     /// Sets whether a customer may rent.
     Active {
         customer: CustomerNo,

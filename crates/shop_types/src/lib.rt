@@ -35,7 +35,7 @@ pub use numbers::{CopyNos, LineNos, Numbers};
 pub use office::{OfficeAct, OfficeCommand};
 pub use parcel::{ParcelLine, ParcelLines};
 pub use payment::Payment;
-pub use person::{Customer, Person};
+pub use person::{Customer, NewCustomer, Person};
 pub use refusal::{BadCsv, Refusal};
 pub use rental::{Rental, Terms};
 pub use reply::{Body, Reply};

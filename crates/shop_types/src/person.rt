@@ -13,6 +13,12 @@ pub struct Person {
     pub city: CityNo,
 }
 
+/// What is told of a customer who is added.
+#[derive(Drop)]
+pub struct NewCustomer {
+    pub person: Person,
+}
+
 /// A customer of a branch. Its number is that of its row.
 #[derive(Drop)]
 pub struct Customer {
