@@ -1,12 +1,12 @@
 -- The rows of a dispatch and of a receipt make the books in which it acted, and what is replied of them is its reply.
-use Rattle.shop_types.proofs.Common.{◌≡◌, ◌∙◌, refl, sym, ap, inl, inr, ℕ, suc, ◌+◌, Bool, false, List, [], ◌∷◌, ◌++◌, map, filter, length, Some, codes, append-nil, cases_Bool, map-append, numbers_text, object, Row, arrived, at, is_row, next, of, put_all, set_rows, update_where, Text, Rules, Command, Arrival, Parcel, Here, Sent, arrival, numbers_from, incoming, HasNumbers, Books, BookCopy, Mark, Line, UnderWay, Consignment, as_arrival, as_parcel, between, book_acted, checked, is_consignment, put_state, rows_at, shop_of, under_way, unmarked, unpacked, map_at, map_map, length_map, row_at, arrival_of, arrived_map, seen_parcel_line}
+use Rattle.shop_types.proofs.Common.{◌≡◌, ◌∙◌, refl, sym, ap, ℕ, ◌+◌, Bool, false, List, [], ◌∷◌, ◌++◌, map, filter, length, Some, codes, append-nil, map-append, numbers_text, object, Row, arrived, at, is_row, next, of, put_all, set_rows, update_where, Rules, Command, Arrival, Parcel, Here, Sent, arrival, numbers_from, incoming, HasNumbers, Books, BookCopy, Mark, Line, UnderWay, Consignment, as_arrival, as_parcel, between, book_acted, checked, is_consignment, put_state, rows_at, shop_of, under_way, unmarked, unpacked, map_at, map_map, length_map, row_at, arrival_of, arrived_map, seen_parcel_line, CopyRows, arith}
 use Rattle.shop_types.specs.declared.parcel.ParcelLine.{ParcelLine}
 use Rattle.std.specs.Prelude.{◌==◌, flat_map}
-use Rattle.shop_model.specs.Values as model
 use Rattle.shop_model.specs.Machine.{told}
 use Rattle.branch_core.specs.declared.found.ArrivalFound.{ArrivalFound}
 use Rattle.branch_core.specs.Marked.{copy_parts, line_parts, parts_at, arrival_parts, consignment_parts, IsArrival}
 use Rattle.branch_core.specs.Consigned.{sent_line, with_dispatch, dispatch_text, come_copy, with_receipt, receipt_text}
+use Rattle.shop_model.specs.Values as model
 
 -- ---- a dispatch
 
@@ -19,7 +19,7 @@ lines_at b [] books numbers = refl
 lines_at b (x ∷ xs) books numbers =
     let copies = at x (of b books.copies) in
     let one : map way (map copy_parts copies) ≡ map (λ row. under_way row.it) (filter (is_row b x) books.copies) =
-    map_map way copy_parts copies ∙ map_at under_way x (of b books.copies) ∙ sym (row_at under_way b x books.copies (numbers.copies b)) in
+    map_map way copy_parts copies ∙ map_at under_way x (of b books.copies) ∙ sym (row_at under_way b x books.copies (numbers.rows CopyRows b)) in
     map-append way (map copy_parts copies) (parts_at b xs books)
     ∙ (λ i. one i ++ lines_at b xs books numbers i)
     ∙ sym (map-append (λ (row : Row BookCopy). under_way row.it) (filter (is_row b x) books.copies) (rows_at b xs books.copies))
@@ -48,13 +48,7 @@ dispatch_acted rules b command to xs lines books numbers are =
 -- a branch's consignments to an addressee
 as_many : (b to : ℕ) (cs : List Consignment) → length (between b to cs) ≡ length (filter (λ (it : Parcel). it.addressee == to) (map as_parcel (filter (λ (it : Consignment). it.source == b) cs)))
 as_many b to [] = refl
-as_many b to (c ∷ cs) = elim (cases_Bool (c.source == b)) [
-  | inl own ↦ elim (cases_Bool (c.addressee == to)) [
-    | inl there ↦ rw (own, there) (ap (λ (n : ℕ). suc n) (as_many b to cs))
-    | inr elsewhere ↦ rw (own, elsewhere) (as_many b to cs)
-  ]
-  | inr other ↦ rw other (as_many b to cs)
-]
+as_many b to (c ∷ cs) = let more = as_many b to cs in grind (arith, more)
 
 pub dispatch_told : (rules : Rules) (b to : ℕ) (xs : List ℕ) (books : Books) → dispatch_text (length (between b to books.consignments) + 1) to ≡ object (told rules (model.Dispatch to xs) (shop_of b books))
 dispatch_told rules b to xs books = ap (λ (n : ℕ). dispatch_text (n + 1) to) (as_many b to books.consignments)

@@ -1,5 +1,5 @@
 -- The copies of a film that are listed, of copies as the program has them.
-use Rattle.shop_types.proofs.Common.{append-nil, ◌≡◌, refl, ap, ◌∙◌, inl, inr, ℕ, Bool, true, false, not, List, [], ◌∷◌, ◌++◌, map, filter, cases_Bool, map-append, filter-append, numbered, Copy, Shop, same_flag, is_here, in_stock, film_in_stock, film_not_in_stock}
+use Rattle.shop_types.proofs.Common.{arith, ◌≡◌, refl, ap, ◌∙◌, ℕ, Bool, true, false, not, List, [], ◌∷◌, map, filter, numbered, Copy, Shop, same_flag, is_here, in_stock, film_in_stock, film_not_in_stock}
 use Rattle.std.specs.Prelude.{◌==◌, ◌&&◌}
 use Rattle.branch_core.specs.declared.film_copies.FilmCopy.{FilmCopy}
 use Rattle.branch_core.specs.Agreed.{seen_film_copy, AreOfFilm, is_listed}
@@ -10,24 +10,6 @@ numbers_in is_in seen = map (λ (it : ℕ × Bool × Bool). it.0) (filter (is_li
 
 abbrev pub numbers_of : Bool → List FilmCopy → List ℕ
 numbers_of is_in copies = numbers_in is_in (map seen_film_copy copies)
-
--- ---- one copy more
-
-more : (is_in : Bool) (copies : List FilmCopy) (copy : FilmCopy) → numbers_of is_in (copies ++ copy ∷ []) ≡ numbers_of is_in copies ++ numbers_of is_in (copy ∷ [])
-more is_in copies copy =
-    ap (numbers_in is_in) (map-append seen_film_copy copies (copy ∷ []))
-    ∙ ap (map (λ (it : ℕ × Bool × Bool). it.0)) (filter-append (is_listed is_in) (map seen_film_copy copies) (seen_film_copy copy ∷ []))
-    ∙ map-append (λ (it : ℕ × Bool × Bool). it.0) (filter (is_listed is_in) (map seen_film_copy copies)) (filter (is_listed is_in) (seen_film_copy copy ∷ []))
-
-pub more_listed : (is_in : Bool) (copies : List FilmCopy) (copy : FilmCopy) → is_listed is_in (seen_film_copy copy) ≡ true → numbers_of is_in (copies ++ copy ∷ []) ≡ numbers_of is_in copies ++ copy.number ∷ []
-more_listed is_in copies copy is =
-    let one : numbers_of is_in (copy ∷ []) ≡ copy.number ∷ [] = rw is refl in
-    more is_in copies copy ∙ ap (λ (ns : List ℕ). numbers_of is_in copies ++ ns) one
-
-pub more_unlisted : (is_in : Bool) (copies : List FilmCopy) (copy : FilmCopy) → is_listed is_in (seen_film_copy copy) ≡ false → numbers_of is_in (copies ++ copy ∷ []) ≡ numbers_of is_in copies
-more_unlisted is_in copies copy isnt =
-    let none : numbers_of is_in (copy ∷ []) ≡ [] = rw isnt refl in
-    more is_in copies copy ∙ ap (λ (ns : List ℕ). numbers_of is_in copies ++ ns) none ∙ append-nil (numbers_of is_in copies)
 
 -- ---- all copies of a film
 
@@ -41,17 +23,9 @@ module _ (film : ℕ) (shop : Shop) where
       ≡ map (λ (it : ℕ × Copy). it.0) (filter (λ (it : ℕ × Copy). it.1.film == film && is_here it.1 && kept (in_stock it.0 shop.rentals)) its)
   told_listed is_in kept same [] = refl
   told_listed is_in kept same (it ∷ its) =
-      let stock : same_flag (in_stock it.0 shop.rentals) is_in ≡ kept (in_stock it.0 shop.rentals) = same (in_stock it.0 shop.rentals) in
-      elim (cases_Bool (it.1.film == film)) [
-        | inl of_film ↦ elim (cases_Bool (is_here it.1)) [
-          | inl here ↦ elim (cases_Bool (kept (in_stock it.0 shop.rentals))) [
-            | inl passes ↦ rw (of_film, here, stock, passes) (ap (λ (ns : List ℕ). it.0 ∷ ns) (told_listed is_in kept same its))
-            | inr fails ↦ rw (of_film, here, stock, fails) (told_listed is_in kept same its)
-          ]
-          | inr away ↦ rw (of_film, away) (told_listed is_in kept same its)
-        ]
-        | inr other ↦ rw other (told_listed is_in kept same its)
-      ]
+      let stock = same (in_stock it.0 shop.rentals) in
+      let more = told_listed is_in kept same its in
+      grind (arith, stock, more)
 
   pub listed_in_stock : (copies : List FilmCopy) → AreOfFilm film shop copies → numbers_of true copies ≡ film_in_stock film shop
   listed_in_stock copies are = ap (numbers_in true) are ∙ told_listed true (λ b. b) (λ b. elim b as (λ v. same_flag v true ≡ v) [ true ↦ refl | false ↦ refl ]) (numbered shop.copies)

@@ -1,7 +1,5 @@
 pub mod StockLemmas
-pub mod Verdicts
 pub mod RentalLemmas
-pub mod ActLemmas
 pub mod FilmLemmas
 pub mod ConsignmentLemmas
 pub mod ReceiptLemmas

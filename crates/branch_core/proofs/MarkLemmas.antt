@@ -1,7 +1,7 @@
 -- What was found of copies and of a consignment in the books is what the branch's shop has of them.
 use Rattle.std.proofs.Common.{option_map}
 use Rattle.std.specs.Prelude.{◌||◌, option_to_list}
-use Rattle.shop_types.proofs.Common.{◌≡◌, ◌∙◌, refl, sym, ap, ℕ, Bool, false, not, List, [], ◌∷◌, ◌++◌, map, filter, Option, Some, None, append-nil, is_none, list_any, or-false, list_any-append, flat_map-append, at, lacks, is_empty, of, Arrival, Copy, is_here, in_stock, is_away, HasNumbers, Books, BookCopy, Mark, Consignment, as_arrival, head, is_consignment, shop_of, unmarked, map_map, map_at, arrival_of, seen_parcel_line}
+use Rattle.shop_types.proofs.Common.{arith, Copy, ◌≡◌, ◌∙◌, refl, sym, ap, ℕ, Bool, false, not, List, [], ◌∷◌, ◌++◌, map, filter, Option, Some, None, append-nil, is_none, list_any, or-false, list_any-append, flat_map-append, at, lacks, of, Arrival, is_here, in_stock, is_away, HasNumbers, Books, BookCopy, Mark, Consignment, as_arrival, head, is_consignment, shop_of, unmarked, map_map, map_at, arrival_of, seen_parcel_line}
 use Rattle.branch_core.specs.declared.found.ArrivalFound.{ArrivalFound}
 use Rattle.branch_core.specs.declared.found.ListedFound.{ListedFound}
 use Rattle.branch_core.specs.Agreed.{ListedAgrees, seen_arrival, arrival_at}
@@ -38,7 +38,7 @@ module _ (b : ℕ) (books : Books) where
     there = sym (map_at unmarked x (of b books.copies)) ∙ ap (map unmarked) (sym read)
 
     unknown_is : lacks (shop_of b books).copies x ≡ is_none copy
-    unknown_is = ap is_empty there ∙ elim copy as (λ it. is_empty (map unmarked (option_to_list it)) ≡ is_none it) [ None ↦ refl | Some it ↦ refl ]
+    unknown_is = let rows = there in grind (arith, rows)
 
     away_is : is_away (shop_of b books).copies x ≡ is_gone copy
     away_is =
@@ -64,10 +64,6 @@ module _ (b : ℕ) (books : Books) where
 -- its films alone
 abbrev films_of : Bool × List (ℕ × Mark) → Bool × List ℕ
 films_of p = (p.0, map (λ (part : ℕ × Mark). part.0) p.1)
-
-first_of : {A : Type 0} (o : Option A) → head (option_to_list o) ≡ o
-first_of None = refl
-first_of (Some x) = refl
 
 seen_of : (found : Option ArrivalFound) → option_map seen_arrival found ≡ head (map films_of (option_to_list (option_map arrival_parts found)))
 seen_of None = refl

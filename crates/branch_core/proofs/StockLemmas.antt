@@ -23,19 +23,19 @@ any_film catalogue p q same (row ∷ rows) agree =
     ∙ sym (list_any-append p (replicate row.copies row.film) (films_of rows))
 
 pub any_withdrawn : (catalogue : Catalogue) (rows : List StockFound) → All (RowAgrees catalogue) rows
-    → list_any (λ (row : StockFound). row.is_withdrawn) rows ≡ list_any (is_film_withdrawn catalogue) (films_of rows)
+    → list_any (is_film_withdrawn catalogue) (films_of rows) ≡ list_any (λ (row : StockFound). row.is_withdrawn) rows
 any_withdrawn catalogue rows agree =
-    any_film catalogue (is_film_withdrawn catalogue) (λ (row : StockFound). row.is_withdrawn) (λ row at. at.withdrawn) rows (recursion_from_All (RowAgrees catalogue) rows agree)
+    sym (any_film catalogue (is_film_withdrawn catalogue) (λ (row : StockFound). row.is_withdrawn) (λ row at. at.withdrawn) rows (recursion_from_All (RowAgrees catalogue) rows agree))
 
 not_not : (b c : Bool) → b ≡ not c → not b ≡ c
 not_not b true is = ap not is
 not_not b false is = ap not is
 
 pub any_unknown : (catalogue : Catalogue) (rows : List StockFound) → All (RowAgrees catalogue) rows
-    → list_any (λ (row : StockFound). not row.is_there) rows ≡ list_any (lacks catalogue.films) (films_of rows)
-any_unknown catalogue rows agree =
+    → list_any (lacks catalogue.films) (films_of rows) ≡ list_any (λ (row : StockFound). not row.is_there) rows
+any_unknown catalogue rows agree = sym (
     any_film catalogue (lacks catalogue.films) (λ (row : StockFound). not row.is_there) (λ row at. not_not row.is_there (lacks catalogue.films row.film) at.there) rows
-    (recursion_from_All (RowAgrees catalogue) rows agree)
+    (recursion_from_All (RowAgrees catalogue) rows agree))
 
 pub length_films : (rows : List StockFound) → length (films_of rows) ≡ copies_of rows
 length_films [] = refl

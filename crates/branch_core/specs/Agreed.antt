@@ -113,7 +113,7 @@ pub record ReceiveAgrees (shop : Shop) (source number : ℕ) (it : RowsFound) : 
 
 -- what was found of the kinds of rows that an act names is what the catalogue and the shop have
 abbrev pub ActAgrees : Rules → Catalogue → Shop → Moment → Act → RowsFound → Type 0
-ActAgrees rules catalogue shop moment (model.AddCustomer person) it = it.has_city ≡ not (lacks catalogue.cities person.city)
+ActAgrees rules catalogue shop moment (model.AddCustomer who) it = it.has_city ≡ not (lacks catalogue.cities who.person.city)
 ActAgrees rules catalogue shop moment (model.SetActive c active) it = it.customer ≡ active_at c shop
 ActAgrees rules catalogue shop moment (model.Rent c x) it = RentAgrees catalogue shop moment c x it
 ActAgrees rules catalogue shop moment (model.TakeBack r) it = option_map seen_rental it.rental ≡ rental_at shop r

@@ -1,9 +1,15 @@
--- What a decision looks at.
-use Rattle.std.specs.Prelude.{true, not, Bool, List, [], ◌∷◌, Option, Some, None}
-use Rattle.shop_model.specs.Refusals.{Refusal, NoCopy, CopyNotHere, CopyOut, FilmWithdrawn, SameMoment}
-use Rattle.branch_core.specs.declared.found.CopyFound.{CopyFound}
+-- What a decision on an act says.
+use Rattle.std.specs.Prelude.{◌≡◌, ℕ, Option, Some}
+use Rattle.shop_model.specs.Calendar.{Moment}
+use Rattle.shop_model.specs.Values.{Act, Rules}
+use Rattle.shop_model.specs.Shop.{Catalogue, Shop}
+use Rattle.shop_model.specs.Verdict.{first, act_refusals}
+use Rattle.shop_types.specs.declared.refusal.Refusal.{Refusal}
+use Rattle.shop_types.specs.Verdicts.{verdict_by}
+use Rattle.branch_core.specs.declared.found.RowsFound.{RowsFound}
+use Rattle.branch_core.specs.Agreed.{ActAgrees}
 
--- the tests on a copy that is to be rented, by what was found of it
-abbrev pub rent_tests : Option CopyFound → Bool → List (Refusal × Bool)
-rent_tests None same = (NoCopy, true) ∷ []
-rent_tests (Some copy) same = (CopyNotHere, not copy.is_here) ∷ (CopyOut, copy.is_out) ∷ (FilmWithdrawn, copy.is_withdrawn) ∷ (SameMoment, same) ∷ []
+-- it is the branch's first refusal of the act, or none is, whatever catalogue and shop have what was found
+pub record IsRefusal (b : ℕ) (act : Act) (rows : RowsFound) (result : Option Refusal) : Type 0 where
+  pub is : (rules : Rules) (catalogue : Catalogue) (shop : Shop) (moment : Moment) → ActAgrees rules catalogue shop moment act rows
+      → verdict_by result ≡ Some (first (act_refusals rules b catalogue shop moment act))

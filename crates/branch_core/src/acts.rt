@@ -1,27 +1,19 @@
 //! The first refusal of a command by what it does, where its key is new, by what was found of the customer, the copy
 //! or the rental that it names.
+#![tactic(auto, using(shop_model::proofs::FoundLemmas::at_one))]
 
-ghost use Rattle.std.specs.Prelude.{◌≡◌, ℕ, not, Some, IfSome, option_map};
-ghost use Rattle.shop_model.specs.Calendar as calendar;
-ghost use Rattle.shop_model.specs.Rows.{lacks};
+ghost use Rattle.std.specs.Prelude.{◌≡◌, ℕ, true, Some};
 ghost use Rattle.shop_model.specs.Values as model;
-ghost use Rattle.shop_model.specs.Shop.{Catalogue, Shop};
-ghost use Rattle.shop_model.specs.Verdict.{first, act_refusals};
-ghost use Rattle.shop_types.specs.Verdicts.{verdict_by};
-ghost use Rattle.branch_core.specs.Agreed.{active_at, copy_at, rental_at, seen_copy, seen_rental, has_rental};
-ghost use Rattle.branch_core.specs.Decided.{rent_tests};
+ghost use Rattle.branch_core.specs.Decided.{IsRefusal};
 
-use crate::{CopyFound, RentalFound};
+use crate::RowsFound;
 use shop_types::{CustomerNo, Refusal, RentalNo};
 
 /// Of a new customer in a city that may not be there.
-pub fn city_refusal(has_city: bool) -> Option<Refusal>
-    ensures { (rules : model.Rules) (b : ℕ) (catalogue : Catalogue) (shop : Shop) (moment : calendar.Moment)
-        (person : model.Person)
-        → has_city ≡ not (lacks catalogue.cities person.city)
-        → verdict_by result ≡ Some (first (act_refusals rules b catalogue shop moment (model.AddCustomer person))) }
+pub fn city_refusal(rows: &RowsFound) -> Option<Refusal>
+    ensures { (b : ℕ) (it : model.NewCustomer) → IsRefusal b (model.AddCustomer it) rows.now result }
 {
-    if has_city {
+    if rows.has_city {
         None
     } else {
         Some(Refusal::NoSharedRow)
@@ -29,12 +21,10 @@ pub fn city_refusal(has_city: bool) -> Option<Refusal>
 }
 
 /// Of setting whether a customer may rent.
-pub fn active_refusal(is_active: Option<bool>, active: bool) -> Option<Refusal>
-    ensures { (rules : model.Rules) (b : ℕ) (catalogue : Catalogue) (shop : Shop) (moment : calendar.Moment) (c : ℕ)
-        → is_active ≡ active_at c shop
-        → verdict_by result ≡ Some (first (act_refusals rules b catalogue shop moment (model.SetActive c active))) }
+pub fn active_refusal(active: bool, rows: &RowsFound) -> Option<Refusal>
+    ensures { (b c : ℕ) → IsRefusal b (model.SetActive c active) rows.now result }
 {
-    match is_active {
+    match rows.customer {
         None => Some(Refusal::NoCustomer),
         Some(was) => {
             if was == active {
@@ -47,28 +37,21 @@ pub fn active_refusal(is_active: Option<bool>, active: bool) -> Option<Refusal>
 }
 
 /// Of a rental of a copy to a customer.
-pub fn rent_refusal(
-    is_active: Option<bool>,
-    copy: Option<CopyFound>,
-    has_same: bool,
-) -> Option<Refusal>
-    ensures { (rules : model.Rules) (b : ℕ) (catalogue : Catalogue) (shop : Shop) (moment : calendar.Moment) (c x : ℕ)
-        → is_active ≡ active_at c shop → option_map seen_copy copy ≡ copy_at catalogue shop x
-        → has_same ≡ has_rental moment c x shop
-        → verdict_by result ≡ Some (first (act_refusals rules b catalogue shop moment (model.Rent c x))) }
+pub fn rent_refusal(rows: &RowsFound) -> Option<Refusal>
+    ensures { (b c x : ℕ) → IsRefusal b (model.Rent c x) rows.now result }
 {
-    match is_active {
+    match rows.customer {
         None => Some(Refusal::NoCustomer),
         Some(false) => Some(Refusal::CustomerInactive),
-        Some(true) => copy_refusal(copy, has_same),
+        Some(true) => copy_refusal(rows),
     }
 }
 
 /// The same of a customer who may rent.
-fn copy_refusal(copy: Option<CopyFound>, has_same: bool) -> Option<Refusal>
-    ensures { verdict_by result ≡ Some (first (rent_tests copy has_same)) }
+fn copy_refusal(rows: &RowsFound) -> Option<Refusal>
+    ensures { (b c x : ℕ) → rows.now.customer ≡ Some true → IsRefusal b (model.Rent c x) rows.now result }
 {
-    let Some(copy) = copy else {
+    let Some(copy) = rows.copy else {
         return Some(Refusal::NoCopy);
     };
     if !copy.is_here {
@@ -77,7 +60,7 @@ fn copy_refusal(copy: Option<CopyFound>, has_same: bool) -> Option<Refusal>
         Some(Refusal::CopyOut)
     } else if copy.is_withdrawn {
         Some(Refusal::FilmWithdrawn)
-    } else if has_same {
+    } else if rows.has_same {
         Some(Refusal::SameMoment)
     } else {
         None
@@ -85,12 +68,10 @@ fn copy_refusal(copy: Option<CopyFound>, has_same: bool) -> Option<Refusal>
 }
 
 /// Of taking a rental's copy back.
-pub fn return_refusal(rental: Option<RentalFound>) -> Option<Refusal>
-    ensures { (rules : model.Rules) (b : ℕ) (catalogue : Catalogue) (shop : Shop) (moment : calendar.Moment) (r : ℕ)
-        → option_map seen_rental rental ≡ rental_at shop r
-        → verdict_by result ≡ Some (first (act_refusals rules b catalogue shop moment (model.TakeBack r))) }
+pub fn return_refusal(rows: &RowsFound) -> Option<Refusal>
+    ensures { (b r : ℕ) → IsRefusal b (model.TakeBack r) rows.now result }
 {
-    match rental {
+    match rows.rental {
         None => Some(Refusal::NoRental),
         Some(rental) => {
             if rental.is_returned {
@@ -106,21 +87,16 @@ pub fn return_refusal(rental: Option<RentalFound>) -> Option<Refusal>
 pub fn payment_refusal(
     customer: CustomerNo,
     named: Option<RentalNo>,
-    is_active: Option<bool>,
-    rental: Option<RentalFound>,
+    rows: &RowsFound,
 ) -> Option<Refusal>
-    ensures { (rules : model.Rules) (b : ℕ) (catalogue : Catalogue) (shop : Shop) (moment : calendar.Moment)
-        (amount : ℕ)
-        → is_active ≡ active_at customer shop → IfSome named (λ r. option_map seen_rental rental ≡ rental_at shop r)
-        → verdict_by result ≡ Some
-        (first (act_refusals rules b catalogue shop moment (model.Pay customer named amount))) }
+    ensures { (b amount : ℕ) → IsRefusal b (model.Pay customer named amount) rows.now result }
 {
-    if is_active.is_none() {
+    if rows.customer.is_none() {
         return Some(Refusal::NoCustomer);
     }
     match named {
         None => None,
-        Some(_) => match rental {
+        Some(_) => match rows.rental {
             None => Some(Refusal::NoRental),
             Some(rental) => {
                 if rental.customer == customer {
@@ -134,12 +110,10 @@ pub fn payment_refusal(
 }
 
 /// Of scrapping a copy.
-pub fn scrap_refusal(copy: Option<CopyFound>) -> Option<Refusal>
-    ensures { (rules : model.Rules) (b : ℕ) (catalogue : Catalogue) (shop : Shop) (moment : calendar.Moment) (x : ℕ)
-        → option_map seen_copy copy ≡ copy_at catalogue shop x
-        → verdict_by result ≡ Some (first (act_refusals rules b catalogue shop moment (model.Scrap x))) }
+pub fn scrap_refusal(rows: &RowsFound) -> Option<Refusal>
+    ensures { (b x : ℕ) → IsRefusal b (model.Scrap x) rows.now result }
 {
-    let Some(copy) = copy else {
+    let Some(copy) = rows.copy else {
         return Some(Refusal::NoCopy);
     };
     if !copy.is_here {

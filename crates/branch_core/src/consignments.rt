@@ -1,17 +1,16 @@
 //! The first refusal of a command that sends copies to another branch, or receives what one sent, by what was found
 //! of the copies or of the consignment.
 
-ghost use Rattle.std.specs.Prelude.{◌≡◌, ◌≤◌, ℕ, ◌==◌, ◌||◌, nat_lt, not, Some, length, option_map};
+ghost use Rattle.std.specs.Prelude.{◌≡◌, ◌≤◌, ℕ, ◌==◌, ◌||◌, nat_lt, Some, length, option_map};
 ghost use Rattle.std.specs.List.{list_any};
-ghost use Rattle.shop_model.specs.Calendar as calendar;
-ghost use Rattle.shop_model.specs.Rows.{lacks, is_empty, mem, has_double};
+ghost use Rattle.shop_model.specs.Rows.{lacks, is_empty, has_double, total};
 ghost use Rattle.shop_model.specs.Values as model;
-ghost use Rattle.shop_model.specs.Shop.{Catalogue, Shop};
-ghost use Rattle.shop_model.specs.Verdict.{first, act_refusals, new_copies, are_lines};
-ghost use Rattle.shop_types.specs.Verdicts.{verdict_by};
-ghost use Rattle.branch_core.specs.Agreed.{ListedAgrees, seen_arrival, arrival_at};
+ghost use Rattle.shop_model.specs.Shop.{Shop};
+ghost use Rattle.shop_model.specs.Verdict.{arrival, are_lines, new_from};
+ghost use Rattle.branch_core.specs.Agreed.{seen_arrival, arrival_at};
+ghost use Rattle.branch_core.specs.Decided.{IsRefusal};
 
-use crate::{ArrivalFound, ListedFound};
+use crate::{ArrivalFound, RowsFound};
 use shop_types::{BranchNo, CopyNo, LineNo, Refusal};
 
 /// Of sending the copies to that branch.
@@ -19,21 +18,18 @@ pub fn dispatch_refusal(
     branch: BranchNo,
     to: BranchNo,
     copies: &[CopyNo],
-    has_branch: bool,
-    listed: &ListedFound,
+    rows: &RowsFound,
 ) -> Option<Refusal>
-    ensures { (rules : model.Rules) (catalogue : Catalogue) (shop : Shop) (moment : calendar.Moment)
-        → has_branch ≡ not (lacks catalogue.branches to) → ListedAgrees shop copies.now listed.now
-        → verdict_by result ≡ Some
-        (first (act_refusals rules branch catalogue shop moment (model.Dispatch to copies.now))) }
+    ensures { IsRefusal branch (model.Dispatch to copies.now) rows.now result }
 {
+    let listed = &rows.listed;
     if listed.has_unknown {
         Some(Refusal::NoCopy)
     } else if listed.has_away {
         Some(Refusal::CopyNotHere)
     } else if listed.has_out {
         Some(Refusal::CopyOut)
-    } else if !has_branch {
+    } else if !rows.has_branch {
         Some(Refusal::NoBranch)
     } else if to == branch {
         Some(Refusal::OwnBranch)
@@ -85,14 +81,11 @@ pub fn has_unknown_copy(copies: &[CopyNo], count: u32) -> bool
 }
 
 /// Of receiving the consignment without the missing lines.
-pub fn receive_refusal(arrival: &Option<ArrivalFound>, missing: &[LineNo]) -> Option<Refusal>
-    ensures { (rules : model.Rules) (b : ℕ) (catalogue : Catalogue) (shop : Shop) (moment : calendar.Moment)
-        (source number : ℕ)
-        → option_map seen_arrival arrival.now ≡ arrival_at source number shop
-        → verdict_by result ≡ Some
-        (first (act_refusals rules b catalogue shop moment (model.Receive source number missing.now))) }
+#[tactic(auto, using(crate::proofs::ReceiptLemmas::one_arrival))]
+pub fn receive_refusal(missing: &[LineNo], rows: &RowsFound) -> Option<Refusal>
+    ensures { (b source number : ℕ) → IsRefusal b (model.Receive source number missing.now) rows.now result }
 {
-    match arrival {
+    match &rows.arrival {
         None => Some(Refusal::NoArrival),
         Some(it) => {
             if it.is_received {
@@ -122,23 +115,25 @@ fn are_lines(numbers: &[LineNo], lines: usize) -> bool
 }
 
 /// How many copies come with the consignment: none where there is none, it is received, or the missing lines are bad.
-pub fn new_from(arrival: &Option<ArrivalFound>, missing: &[LineNo]) -> u32
-    ensures value { (rules : model.Rules) (shop : Shop) (source number : ℕ)
-        → option_map seen_arrival arrival.now ≡ arrival_at source number shop
-        → result ≡ new_copies rules shop (model.Receive source number missing.now) }
+#[tactic(auto, using(crate::proofs::ReceiptLemmas::one_arrival))]
+pub fn new_from(found: &Option<ArrivalFound>, missing: &[LineNo]) -> u32
+    ensures value { (shop : Shop) (source number : ℕ)
+        → option_map seen_arrival found.now ≡ arrival_at source number shop
+        → result ≡ total (new_from missing.now) (arrival source number shop) }
     ensures bound { result ≤ 100 }
 {
-    match arrival {
+    match found {
         None => 0,
         Some(it) => coming(it, missing),
     }
 }
 
 /// The same of one that is there.
+#[tactic(auto, using(crate::proofs::ReceiptLemmas::one_arrival))]
 fn coming(it: &ArrivalFound, missing: &[LineNo]) -> u32
-    ensures value { (rules : model.Rules) (shop : Shop) (source number : ℕ)
+    ensures value { (shop : Shop) (source number : ℕ)
         → Some (seen_arrival it.now) ≡ arrival_at source number shop
-        → result ≡ new_copies rules shop (model.Receive source number missing.now) }
+        → result ≡ total (new_from missing.now) (arrival source number shop) }
     ensures bound { result ≤ 100 }
 {
     let lines = it.lines.as_slice();

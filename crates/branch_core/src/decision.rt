@@ -6,12 +6,13 @@ ghost use Rattle.shop_model.specs.Calendar as calendar;
 ghost use Rattle.shop_model.specs.Rows.{at};
 ghost use Rattle.shop_model.specs.Values as model;
 ghost use Rattle.shop_model.specs.Shop.{Catalogue, Shop};
-ghost use Rattle.shop_model.specs.Verdict.{first, verdict, refusals, act_refusals, is_before, is_full, new_copies, staff_is};
+ghost use Rattle.shop_model.specs.Verdict.{first, verdict, refusals, is_before, is_full, new_copies, staff_is};
 ghost use Rattle.shop_model.specs.Books.{head};
 ghost use Rattle.shop_types.specs.Seen.{seen_act, seen_command};
 ghost use Rattle.shop_types.specs.Verdicts.{seen_post, post_of, verdict_by};
 ghost use Rattle.shop_types.specs.Decisions.{IsVerdict};
 ghost use Rattle.branch_core.specs.Agreed.{Agrees, ActAgrees};
+ghost use Rattle.branch_core.specs.Decided.{IsRefusal};
 
 use crate::acts::{
     active_refusal, city_refusal, payment_refusal, rent_refusal, return_refusal, scrap_refusal,
@@ -113,6 +114,7 @@ fn is_before(moment: Moment, last: Option<Moment>) -> bool
 }
 
 /// Whether there is such a member of staff, who works at the branch and hasn't left.
+#[tactic(auto, using(shop_model::proofs::FoundLemmas::at_one))]
 fn works_at(staff: Option<StaffFound>, branch: BranchNo) -> bool
     ensures { (rows : List model.Staff) (n : ℕ) → option_map seen_post staff ≡ head (map post_of (at n rows))
         → result ≡ list_any (staff_is branch) (at n rows) }
@@ -125,31 +127,21 @@ fn works_at(staff: Option<StaffFound>, branch: BranchNo) -> bool
 
 /// The first refusal that goes by what the command does.
 fn act_refusal(branch: BranchNo, act: &Act, rows: &RowsFound) -> Option<Refusal>
-    ensures { (rules : model.Rules) (catalogue : Catalogue) (shop : Shop) (moment : calendar.Moment)
-        → ActAgrees rules catalogue shop moment (seen_act act.now) rows.now
-        → verdict_by result ≡ Some (first (act_refusals rules branch catalogue shop moment (seen_act act.now))) }
+    ensures { IsRefusal branch (seen_act act.now) rows.now result }
 {
     match act {
-        Act::Customer(_) => city_refusal(rows.has_city),
-        Act::Active { active, .. } => active_refusal(rows.customer, *active),
-        Act::Rent { .. } => rent_refusal(rows.customer, rows.copy, rows.has_same),
-        Act::TakeBack(_) => return_refusal(rows.rental),
+        Act::Customer(_) => city_refusal(rows),
+        Act::Active { active, .. } => active_refusal(*active, rows),
+        Act::Rent { .. } => rent_refusal(rows),
+        Act::TakeBack(_) => return_refusal(rows),
         Act::Pay {
             customer,
             rental,
             ..
-        } => payment_refusal(*customer, *rental, rows.customer, rows.rental),
+        } => payment_refusal(*customer, *rental, rows),
         Act::Import { .. } => stock_refusal(&rows.stock, rows.has_lot),
-        Act::Dispatch { to, copies } => {
-            dispatch_refusal(
-                branch,
-                *to,
-                copies.as_slice(),
-                rows.has_branch,
-                &rows.listed,
-            )
-        }
-        Act::Receive { missing, .. } => receive_refusal(&rows.arrival, missing.as_slice()),
-        Act::Scrap(_) => scrap_refusal(rows.copy),
+        Act::Dispatch { to, copies } => dispatch_refusal(branch, *to, copies.as_slice(), rows),
+        Act::Receive { missing, .. } => receive_refusal(missing.as_slice(), rows),
+        Act::Scrap(_) => scrap_refusal(rows),
     }
 }

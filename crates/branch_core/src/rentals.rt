@@ -25,6 +25,7 @@ fn has_open(rentals: &[Rental], copy: CopyNo) -> bool
 }
 
 /// Whether no rental of the copy is open: the manual's `inventory_in_stock`.
+#[tactic(auto, using(crate::proofs::RentalLemmas::any_map))]
 pub fn in_stock(rentals: &[Rental], copy: CopyNo) -> bool
     ensures { result ≡ in_stock copy (map seen_rental rentals.now) }
 {

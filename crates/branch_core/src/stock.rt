@@ -125,6 +125,7 @@ pub fn stock_refusal(stock: &Result<StockRows, BadCsv>, has_lot: bool) -> Option
 }
 
 /// Of an import of the rows.
+#[tactic(auto, using(crate::proofs::StockLemmas::any_withdrawn, crate::proofs::StockLemmas::any_unknown))]
 fn rows_refusal(rows: &[StockFound], has_lot: bool) -> Option<Refusal>
     ensures { (catalogue : Catalogue) (shop : Shop) (lot : Text) → All (RowAgrees catalogue) rows.now
         → has_lot ≡ list_any (bytes_eq lot) shop.lots

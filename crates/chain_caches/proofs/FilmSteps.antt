@@ -1,8 +1,8 @@
 -- KnownFilms that are their films' rows are so after a request.
-use Rattle.shop_types.proofs.Common.{◌≡◌, ℕ, ◌-◌, true, false, List, [], ◌∷◌, ◌++◌, map, Some, None, inl, inr, sym, subst, refl, cases_Bool, at, set_at, lacks, Film, OfficeAct, AddFilm, PriceFilm, WithdrawFilm, OfficeCommand, Rules, Catalogue, Verdict, Again, Refused, Accepted, verdict, office_verdict, Request, Unread, Do, Look, Office, OfficeLook, office_acted, office_done, if_accepted, Books, Counter, HeadOffice, head, shop_of, book_done, branch_after, known_caller, after_for}
+use Rattle.shop_types.proofs.Common.{◌≡◌, ℕ, ◌-◌, List, [], ◌∷◌, ◌++◌, map, Some, inl, inr, sym, subst, refl, cases_Bool, at, lacks, Film, OfficeCommand, Rules, Catalogue, Verdict, Again, Refused, Accepted, verdict, office_verdict, Request, Unread, Do, Look, Office, OfficeLook, office_acted, office_done, if_accepted, Books, Counter, HeadOffice, head, shop_of, book_done, branch_after, known_caller, after_for}
 use Rattle.std.specs.Prelude.{◌==◌}
 use Rattle.shop_model.proofs.Isolation.{catalogue_stays}
-use Rattle.chain_caches.specs.Films.{AreRows, KnownFilms, film_changed, known_of, seen_known}
+use Rattle.chain_caches.specs.Films.{AreRows, KnownFilms, known_of, seen_known}
 
 -- a row that is there stays where another goes last
 at_longer : {A B : Type 0} (g : A → B) (x : B) (n : ℕ) (xs ys : List A) → Some x ≡ head (map g (at n xs)) → Some x ≡ head (map g (at n (xs ++ ys)))
@@ -12,27 +12,8 @@ at_longer g x n (y ∷ xs) ys is = elim (cases_Bool (n == 1)) [
   | inr other ↦ rw other (at_longer g x (n - 1) xs ys (rw other at is))
 ]
 
-longer_rows : (entries : KnownFilms) (films more : List Film) → AreRows entries films → AreRows entries (films ++ more)
+pub longer_rows : (entries : KnownFilms) (films more : List Film) → AreRows entries films → AreRows entries (films ++ more)
 longer_rows entries films more rows = record { row = λ number film there. at_longer known_of (seen_known film) number films more (rows.row number film there) }
-
-module _ (entries : KnownFilms) (catalogue : Catalogue) where
-  -- an act that changes no film's row
-  pub no_film_changed : (act : OfficeAct) → None ≡ film_changed act → AreRows entries catalogue.films → AreRows entries (office_acted act catalogue).films
-  no_film_changed (AddFilm film) is rows = longer_rows entries catalogue.films (record film { withdrawn = false } ∷ []) rows
-  no_film_changed (PriceFilm film rate) is rows = cc
-  no_film_changed (WithdrawFilm film) is rows = cc
-  no_film_changed act is rows = rows
-
-  -- one that does, once nothing is known of that film
-  pub one_film_changed : (act : OfficeAct) (number : ℕ) → Some number ≡ film_changed act → ((change : Film → Film) → AreRows entries (set_at number change catalogue.films))
-      → AreRows entries (office_acted act catalogue).films
-  one_film_changed (PriceFilm film rate) number is free =
-      let same : number ≡ film = cc in
-      subst (λ (n : ℕ). AreRows entries (set_at n (λ f. record f { rate = rate }) catalogue.films)) same (free (λ f. record f { rate = rate }))
-  one_film_changed (WithdrawFilm film) number is free =
-      let same : number ≡ film = cc in
-      subst (λ (n : ℕ). AreRows entries (set_at n (λ f. record f { withdrawn = true }) catalogue.films)) same (free (λ f. record f { withdrawn = true }))
-  one_film_changed act number is free = cc
 
 -- a branch's request leaves the catalogue
 branch_catalogue : (rules : Rules) (b : ℕ) (request : Request) (books : Books) → (branch_after rules b request books).catalogue ≡ books.catalogue

@@ -121,6 +121,7 @@ impl FilmCache {
 
     /// Takes out the film whose row an act of head office changes, where it changes one. What is left stays true
     /// whether or not the act is done.
+    #[tactic(auto, using(crate::proofs::FilmSteps::longer_rows))]
     pub fn take_out_changed(&mut self, act: &OfficeAct)
         ensures kept { (films : List model.Film) → AreRows self.old films → AreRows self.new films }
         ensures done { (catalogue : Catalogue) → AreRows self.old catalogue.films

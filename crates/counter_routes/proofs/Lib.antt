@@ -4,5 +4,4 @@ pub mod MomentLemmas
 pub mod PartLemmas
 pub mod WordLemmas
 pub mod FoundLemmas
-pub mod PersonLemmas
 pub mod SizeLemmas

@@ -1,5 +1,5 @@
 -- The reading of a moment, as a function of its text.
-use Rattle.shop_types.proofs.Common.{◌≡◌, ◌∙◌, ℕ, ◌<◌, ◌/◌, ◌%◌, List, [], ◌∷◌, true, ◌&&◌, cond, refl, sym, ap, subst, arith, Option, Some, None, and_parts, le-leb, leb-true, false_from_ne_true, cond-false, bytes_eq-Decides, digit_value_digit, IfNone, digit_value, bytes_eq, digits_value, Moment, IsMoment, moment_text, digit}
+use Rattle.shop_types.proofs.Common.{◌≡◌, ◌∙◌, ℕ, ◌<◌, ◌/◌, ◌%◌, List, [], ◌∷◌, true, ◌&&◌, cond, refl, sym, ap, subst, arith, Option, Some, None, and_parts, nat_tests, leb-true, false_from_ne_true, cond-false, bytes_eq-Decides, digit_value_digit, IfNone, digit_value, bytes_eq, digits_value, Moment, IsMoment, moment_text, digit}
 use Rattle.std.specs.Prelude.{IfSome}
 use Rattle.shop_model.proofs.NumberLemmas.{few_days}
 use Rattle.counter_routes.specs.Moments.{moment_parts, is_moment, moment_of}
@@ -24,19 +24,7 @@ parts_of_text m h =
     λ i. record { year = year i; month = month i; day = day i; hour = hour i; minute = minute i; second = second i }
 
 is_moment-true : (m : Moment) → IsMoment m → is_moment m ≡ true
-is_moment-true m h =
-    rw (
-      le-leb _ _ h.year_low,
-      le-leb _ _ h.year_high,
-      le-leb _ _ h.month_low,
-      le-leb _ _ h.month_high,
-      le-leb _ _ h.day_low,
-      le-leb _ _ h.day_high,
-      le-leb _ _ h.hour,
-      le-leb _ _ h.minute,
-      le-leb _ _ h.second,
-    )
-    refl
+is_moment-true m h = grind (arith, nat_tests)
 
 is_moment-is : (m : Moment) → is_moment m ≡ true → IsMoment m
 is_moment-is m e =

@@ -7,7 +7,7 @@ use Rattle.matchit.specs.Router.{InsertsRead, RouteOf}
 use Rattle.matchit.specs.declared.error.InsertError.{InsertError}
 use Rattle.matchit.specs.declared.error.InsertError.TheVariants.{OutOfMemory, Conflict, InvalidParam, InvalidParamSegment, InvalidCatchAll}
 use Rattle.counter_routes.specs.declared.paths.Route.{Route}
-use Rattle.counter_routes.specs.Routes.{Rows, is_new, with_route, table, entries_of, begins_with_slash, has_question_mark, route_of}
+use Rattle.counter_routes.specs.Routes.{Rows, is_new, table, entries_of, begins_with_slash, has_question_mark, route_of}
 
 -- with a text that reads and conflicts with nothing only memory can be lacking
 pub only_memory : (x : Result Scan InsertError) (route : Route) (old new : Rows) (r : Result (Unit {0}) InsertError) (e : InsertError)
@@ -21,11 +21,6 @@ only_memory (Ok s) route old new (Err (Conflict with)) e (same, (n, found, text)
 only_memory (Ok s) route old new (Err InvalidParam) e h is fresh = absurd h.1
 only_memory (Ok s) route old new (Err InvalidParamSegment) e h is fresh = absurd h.1
 only_memory (Ok s) route old new (Err InvalidCatchAll) e h is fresh = absurd h.1
-
--- what a router holds after a route that it took
-pub inserted : (x : Result Scan InsertError) (route : Route) (old new : Rows) (u : Unit {0}) → InsertsRead x route old new (Ok u) → new ≡ with_route x route old
-inserted (Ok s) route old new u h = h.1
-inserted (Err e) route old new u h = h.0
 
 pub is_utf8-false : (bytes : List ℕ) → ¬ (IsUtf8 bytes) → is_utf8 bytes ≡ false
 is_utf8-false bytes h = false_from_ne_true _ (λ e. h (IsUtf8-from_is_utf8 bytes e))

@@ -15,21 +15,9 @@ use Rattle.counter_routes.specs.Bodies.{body_of, row_number_in, numbers_in, list
 
 byte_few : (m : Mode) (c : Class) (x : ℕ) (xs : List ℕ) (k : Mode → List Lexeme) (n : ℕ) → ((next : Mode) → length (k next) ≤ n) → length (lex_byte m c x xs k) ≤ suc n
 byte_few Mode.between Class.quote x xs k n h = omega (arith, h Mode.in_string)
-byte_few Mode.between Class.backslash x xs k n h = omega (arith, h Mode.in_word)
-byte_few Mode.between Class.operator x xs k n h = omega (arith, h Mode.between)
-byte_few Mode.between Class.space x xs k n h = omega (arith, h Mode.between)
-byte_few Mode.between Class.other x xs k n h = omega (arith, h Mode.in_word)
 byte_few Mode.in_word Class.quote x xs k n h = omega (arith, h Mode.in_word)
-byte_few Mode.in_word Class.backslash x xs k n h = omega (arith, h Mode.in_word)
-byte_few Mode.in_word Class.operator x xs k n h = omega (arith, h Mode.between)
-byte_few Mode.in_word Class.space x xs k n h = omega (arith, h Mode.between)
-byte_few Mode.in_word Class.other x xs k n h = omega (arith, h Mode.in_word)
 byte_few Mode.in_string Class.quote x xs k n h = omega (arith, h Mode.between)
-byte_few Mode.in_string Class.backslash x xs k n h = omega (arith, h Mode.in_escape)
-byte_few Mode.in_string Class.operator x xs k n h = omega (arith, h Mode.in_string)
-byte_few Mode.in_string Class.space x xs k n h = omega (arith, h Mode.in_string)
-byte_few Mode.in_string Class.other x xs k n h = omega (arith, h Mode.in_string)
-byte_few Mode.in_escape c x xs k n h = omega (arith, h Mode.in_string)
+byte_few m c x xs k n h = omega (arith, h Mode.between, h Mode.in_word, h Mode.in_string, h Mode.in_escape)
 
 lex_few : (m : Mode) (xs : List ℕ) → length (lex m xs) ≤ length xs
 unfolding lex
@@ -42,36 +30,20 @@ allowed_few false t k next n h = omega arith
 
 place_few : (p : Place) (t : Token) (b : Bool) (k : Place → List Token) (n : ℕ) → ((q : Place) → length (k q) ≤ n) → length (place_token p t b k) ≤ suc n
 place_few p Token.begin_object b k n h = allowed_few _ Token.begin_object k Place.fresh n h
-place_few p Token.end_object b k n h = allowed_few _ Token.end_object k Place.after_value n h
 place_few p Token.begin_array b k n h = allowed_few _ Token.begin_array k Place.fresh n h
-place_few p Token.end_array b k n h = allowed_few _ Token.end_array k Place.after_value n h
 place_few p (Token.key s) b k n h = omega arith
 place_few p (Token.string s) true k n h = allowed_few _ (Token.key s) k Place.after_key n h
-place_few p (Token.string s) false k n h = allowed_few _ (Token.string s) k Place.after_value n h
-place_few p (Token.number s) b k n h = allowed_few _ (Token.number s) k Place.after_value n h
-place_few p (Token.boolean v) b k n h = allowed_few _ (Token.boolean v) k Place.after_value n h
-place_few p Token.null b k n h = allowed_few _ Token.null k Place.after_value n h
 place_few p Token.bad b k n h = omega arith
+place_few p t b k n h = allowed_few _ t k Place.after_value n h
 
 -- one more stands where a text breaks off
 placed_few : (p : Place) (ls : List Lexeme) → length (punctuate p ls) ≤ suc (length ls)
 unfolding punctuate
-placed_few Place.fresh [] = omega arith
-placed_few Place.after_value [] = omega arith
-placed_few Place.after_comma [] = omega arith
-placed_few Place.after_key [] = omega arith
 placed_few Place.fresh (Lexeme.token t ∷ ls) = place_few Place.fresh t (begins_colon ls) (λ next. punctuate next ls) (suc (length ls)) (λ q. placed_few q ls)
-placed_few Place.after_value (Lexeme.token t ∷ ls) = place_few Place.after_value t (begins_colon ls) (λ next. punctuate next ls) (suc (length ls)) (λ q. placed_few q ls)
-placed_few Place.after_comma (Lexeme.token t ∷ ls) = place_few Place.after_comma t (begins_colon ls) (λ next. punctuate next ls) (suc (length ls)) (λ q. placed_few q ls)
-placed_few Place.after_key (Lexeme.token t ∷ ls) = place_few Place.after_key t (begins_colon ls) (λ next. punctuate next ls) (suc (length ls)) (λ q. placed_few q ls)
-placed_few Place.fresh (Lexeme.comma ∷ ls) = omega arith
+placed_few p (Lexeme.token t ∷ ls) = place_few p t (begins_colon ls) (λ next. punctuate next ls) (suc (length ls)) (λ q. placed_few q ls)
 placed_few Place.after_value (Lexeme.comma ∷ ls) = omega (arith, placed_few Place.after_comma ls)
-placed_few Place.after_comma (Lexeme.comma ∷ ls) = omega arith
-placed_few Place.after_key (Lexeme.comma ∷ ls) = omega arith
-placed_few Place.fresh (Lexeme.colon ∷ ls) = omega arith
-placed_few Place.after_value (Lexeme.colon ∷ ls) = omega arith
-placed_few Place.after_comma (Lexeme.colon ∷ ls) = omega arith
 placed_few Place.after_key (Lexeme.colon ∷ ls) = omega (arith, placed_few Place.fresh ls)
+placed_few p ls = omega arith
 
 few_tokens : (text : List ℕ) → length (tokens text) ≤ suc (length text)
 few_tokens text = omega (arith, placed_few Place.fresh (lex Mode.between text), lex_few Mode.between text)
@@ -127,30 +99,13 @@ KeyRest n None = ⊤
 KeyRest n (Some q) = length q.1 ≤ n
 
 array_ends : (ts : List Token) → Rest (length ts) (json.after_end_array ts)
-array_ends [] = tt
-array_ends (Token.begin_object ∷ ts) = tt
-array_ends (Token.end_object ∷ ts) = tt
-array_ends (Token.begin_array ∷ ts) = tt
 array_ends (Token.end_array ∷ ts) = omega arith
-array_ends (Token.key s ∷ ts) = tt
-array_ends (Token.string s ∷ ts) = tt
-array_ends (Token.number s ∷ ts) = tt
-array_ends (Token.boolean b ∷ ts) = tt
-array_ends (Token.null ∷ ts) = tt
-array_ends (Token.bad ∷ ts) = tt
+array_ends ts = tt
 
 key_reads : (ts : List Token) → KeyRest (length ts) (json.read_key ts)
-key_reads [] = tt
-key_reads (Token.begin_object ∷ ts) = tt
 key_reads (Token.end_object ∷ ts) = omega arith
-key_reads (Token.begin_array ∷ ts) = tt
-key_reads (Token.end_array ∷ ts) = tt
 key_reads (Token.key s ∷ ts) = omega arith
-key_reads (Token.string s ∷ ts) = tt
-key_reads (Token.number s ∷ ts) = tt
-key_reads (Token.boolean b ∷ ts) = tt
-key_reads (Token.null ∷ ts) = tt
-key_reads (Token.bad ∷ ts) = tt
+key_reads ts = tt
 
 fewer : {A : Type 0} (f : A → ℕ) (m n : ℕ) (o : Option (A × List Token)) → m ≤ n → Left f m o → Left f n o
 fewer f m n None less x = tt
@@ -177,17 +132,13 @@ module _ (p : json.Parse json.Json) (within : Fits tree_size p) where
   members_fit (suc n) ts = member_turn (json.members p n) (members_fit n) (length ts) (json.read_key ts) (key_reads ts)
 
 one_level : (a : json.Parse json.Items) (o : json.Parse json.Members) → Fits tree_items a → Fits tree_members o → Fits tree_size (json.value_with a o)
-one_level a o p q [] = tt
 one_level a o p q (Token.begin_object ∷ ts) = around tree_members tree_size (length ts) json.object (λ ms. refl) (o ts) (q ts)
-one_level a o p q (Token.end_object ∷ ts) = tt
 one_level a o p q (Token.begin_array ∷ ts) = around tree_items tree_size (length ts) json.array (λ js. refl) (a ts) (p ts)
-one_level a o p q (Token.end_array ∷ ts) = tt
-one_level a o p q (Token.key s ∷ ts) = tt
 one_level a o p q (Token.string s ∷ ts) = omega arith
 one_level a o p q (Token.number s ∷ ts) = omega arith
 one_level a o p q (Token.boolean b ∷ ts) = omega arith
 one_level a o p q (Token.null ∷ ts) = omega arith
-one_level a o p q (Token.bad ∷ ts) = tt
+one_level a o p q ts = tt
 
 value_fits : (d : ℕ) → Fits tree_size (json.value d)
 unfolding json.value
@@ -281,11 +232,7 @@ body_size body d is = elim (cases_Bool (is_utf8 body)) [
 
 some_size : (d : Data) → 1 ≤ size d
 some_size null = omega arith
-some_size (boolean b) = omega arith
-some_size (number n) = omega arith
-some_size (string s) = omega arith
-some_size (array ds) = omega arith
-some_size (object ms) = omega arith
+some_size d = omega arith
 
 one_found : (o : Ordering) (a b : Option Data) (e d : Data) (m n : ℕ) → (a ≡ Some d → size d ≤ n) → (b ≡ Some d → size d ≤ n) → size e ≤ n → match_ordering o a (Some e) b ≡ Some d → size d ≤ n
 one_found Less a b e d m n p q r is = p is
@@ -299,12 +246,8 @@ member_size k (member l e ms) d is =
     (λ h. omega (arith, member_size k ms d h)) (λ h. omega (arith, member_size k ms d h)) (omega arith) is
 
 got_size : (k : List ℕ) (d e : Data) → get k d ≡ Some e → suc (size e) ≤ size d
-got_size k null e is = absurd (let none = is in cc)
-got_size k (boolean b) e is = absurd (let none = is in cc)
-got_size k (number n) e is = absurd (let none = is in cc)
-got_size k (string s) e is = absurd (let none = is in cc)
-got_size k (array ds) e is = absurd (let none = is in cc)
 got_size k (object ms) e is = omega (arith, member_size k ms e is)
+got_size k d e is = absurd (let none = is in cc)
 
 step : (o : Option ℕ) (p : Option (List ℕ)) (ns : List ℕ) → option_and_then (λ n. option_and_then (λ more. Some (n ∷ more)) p) o ≡ Some ns → (n : ℕ) × (more : List ℕ) × (p ≡ Some more) × (n ∷ more ≡ ns)
 step None p ns is = absurd (let none = is in cc)
@@ -319,12 +262,8 @@ as_many_items (item d ds) ns is =
     subst (λ ms. length ms ≤ size d + items_size ds) parts.3 (omega (arith, more, some_size d))
 
 listed_size : (d : Data) (ns : List ℕ) → list_of_numbers d ≡ Some ns → suc (length ns) ≤ size d
-listed_size null ns is = absurd (let none = is in cc)
-listed_size (boolean b) ns is = absurd (let none = is in cc)
-listed_size (number n) ns is = absurd (let none = is in cc)
-listed_size (string s) ns is = absurd (let none = is in cc)
 listed_size (array ds) ns is = omega (arith, as_many_items ds ns is)
-listed_size (object ms) ns is = absurd (let none = is in cc)
+listed_size d ns is = absurd (let none = is in cc)
 
 pub few_listed : (k : List ℕ) (d e : Data) (ns : List ℕ) → get k d ≡ Some e → list_of_numbers e ≡ Some ns → size d ≤ 65_537 → length ns ≤ 65_536
 few_listed k d e ns found are small = omega (arith, got_size k d e found, listed_size e ns are, small)

@@ -101,13 +101,10 @@ contact_at d = do
 -- who a person is, by six of the members
 abbrev pub person_at : Data → Option Person
 person_at d = do
-  first ← text_at 1 45 (codes "first") d
-  last ← text_at 1 45 (codes "last") d
-  address ← text_at 1 128 (codes "address") d
-  postal ← text_at 0 45 (codes "postal") d
-  phone ← text_at 0 45 (codes "phone") d
   city ← number_at (codes "city") d
-  Some (record { first = first; last = last; address = address; postal = postal; phone = phone; city = city })
+  names ← names_at d
+  contact ← contact_at d
+  Some (record { first = names.0; last = names.1; address = contact.0; postal = contact.1; phone = contact.2; city = city })
 
 -- how many members the body of a command has
 abbrev pub member_count : CommandForm → ℕ
@@ -122,7 +119,9 @@ member_count form.Scrap = 4
 
 -- what a command does, by the members that say it
 abbrev pub act_at : CommandForm → Data → Option Act
-act_at form.NewCustomer d = option_map model.AddCustomer (person_at d)
+act_at form.NewCustomer d = do
+  person ← person_at d
+  Some (model.AddCustomer (record { person = person }))
 act_at form.Active d = do
   customer ← number_at (codes "customer") d
   active ← bool_at (codes "active") d

@@ -7,12 +7,12 @@ ghost use Rattle.counter_routes.specs.Bodies.{string_at, text_at, key_at, moment
 ghost use Rattle.counter_routes.specs.Readings.{written_in};
 ghost use Rattle.counter_routes.specs.Sizes.{size};
 ghost use Rattle.counter_routes.specs.declared.bodies.Fault.TheVariants.{BadBody, NoMemory as OutOfMemory};
-ghost use Rattle.counter_routes.specs.declared.bodies.CommandForm.TheVariants.{NewCustomer, Dispatch, Receive};
+ghost use Rattle.counter_routes.specs.declared.bodies.CommandForm.TheVariants as kind;
 
 use serde_json::Value;
 use shop_types::{
-    Act, Amount, Command, Key, L45, Moment, Numbers, Person, RentalNo, RowNumber, StaffNo, T45,
-    T128, Text,
+    Act, Amount, Command, Key, L45, Moment, NewCustomer, Numbers, Person, RentalNo, RowNumber,
+    StaffNo, T45, T128, Text,
 };
 use std::alloc::{AllocError, Global};
 
@@ -205,7 +205,7 @@ fn member_count(form: CommandForm) -> usize
 
 /// What a command does whose parts are numbers and flags, one of each: it adds no customer, and lists nothing.
 fn plain_act(form: CommandForm, value: &Value) -> Option<Act>
-    ensures { ¬ (form ≡ NewCustomer) → ¬ (form ≡ Dispatch) → ¬ (form ≡ Receive)
+    ensures { ¬ (form ≡ kind.NewCustomer) → ¬ (form ≡ kind.Dispatch) → ¬ (form ≡ kind.Receive)
         → option_map seen_act result ≡ act_at form (view value.now) }
 {
     match form {
@@ -230,8 +230,8 @@ fn plain_act(form: CommandForm, value: &Value) -> Option<Act>
 
 fn dispatch(alloc: Global, value: &Value) -> Result<Act, Fault>
     requires { size (view value.now) ≤ 65_537 }
-    ensures ok { IfOk result (λ act. act_at Dispatch (view value.now) ≡ Some (seen_act act)) }
-    ensures bad { IfErr result (λ fault. fault ≡ BadBody → act_at Dispatch (view value.now) ≡ None) }
+    ensures ok { IfOk result (λ act. act_at kind.Dispatch (view value.now) ≡ Some (seen_act act)) }
+    ensures bad { IfErr result (λ fault. fault ≡ BadBody → act_at kind.Dispatch (view value.now) ≡ None) }
 {
     let to = number(value, "to").ok_or(Fault::BadBody)?;
     let copies = numbers(alloc, value, "copies")?;
@@ -240,8 +240,8 @@ fn dispatch(alloc: Global, value: &Value) -> Result<Act, Fault>
 
 fn receipt(alloc: Global, value: &Value) -> Result<Act, Fault>
     requires { size (view value.now) ≤ 65_537 }
-    ensures ok { IfOk result (λ act. act_at Receive (view value.now) ≡ Some (seen_act act)) }
-    ensures bad { IfErr result (λ fault. fault ≡ BadBody → act_at Receive (view value.now) ≡ None) }
+    ensures ok { IfOk result (λ act. act_at kind.Receive (view value.now) ≡ Some (seen_act act)) }
+    ensures bad { IfErr result (λ fault. fault ≡ BadBody → act_at kind.Receive (view value.now) ≡ None) }
 {
     let from = number(value, "from").ok_or(Fault::BadBody)?;
     let number = number(value, "number").ok_or(Fault::BadBody)?;
@@ -260,7 +260,9 @@ fn act(alloc: Global, form: CommandForm, value: &Value) -> Result<Act, Fault>
     ensures bad { IfErr result (λ fault. fault ≡ BadBody → act_at form (view value.now) ≡ None) }
 {
     match form {
-        CommandForm::NewCustomer => Ok(Act::Customer(person(alloc, value)?)),
+        CommandForm::NewCustomer => Ok(Act::Customer(NewCustomer {
+            person: person(alloc, value)?,
+        })),
         CommandForm::Dispatch => dispatch(alloc, value),
         CommandForm::Receive => receipt(alloc, value),
         _ => plain_act(form, value).ok_or(Fault::BadBody),

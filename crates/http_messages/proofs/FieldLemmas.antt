@@ -1,11 +1,10 @@
 -- The values of the fields of a name, one field more.
-use Rattle.std.proofs.Common.{◌≡◌, ℕ, ◌+◌, ◌<◌, ◌*◌, ◌^◌, ◌≤◌, List, [], ◌∷◌, ◌++◌, take, map, length, get_or, refl, ap, arith, true, false, cond, Bool, sym, lit<, add-one, ◌||◌}
+use Rattle.std.proofs.Common.{◌≡◌, ℕ, ◌+◌, ◌<◌, ◌*◌, ◌^◌, ◌≤◌, List, [], ◌∷◌, ◌++◌, take, map, length, get_or, refl, ap, arith, true, false, cond, Bool, sym, lit<, add-one}
 use Rattle.std.proofs.lemmas.List.{take_more, map-append}
 use Rattle.std.proofs.Math.Nat.{pow-le-pow_right}
 use Rattle.std.specs.Char.{digit_value}
 use Rattle.std.proofs.lemmas.Str.{digit_value_digit}
 use Rattle.std.proofs.lemmas.Str.Parse.{digit_from_value}
-use Rattle.std.specs.List.{list_any}
 use Rattle.http_messages.specs.Message.{Pair, values_of, same_name}
 
 pub values_of-snoc : (name : List ℕ) (ps : List Pair) (p : Pair)
@@ -38,13 +37,3 @@ fits_19 n i p q =
 
 pub digit_is : (c : ℕ) → digit_value c < 10 → digit_value c + 48 ≡ c
 digit_is c h = digit_value_digit c (digit_from_value c h)
-
-pub list_any-push : {X : Type 0} (p : X → Bool) (xs : List X) (x : X) → list_any p (xs ++ x ∷ []) ≡ (list_any p xs || p x)
-list_any-push p [] x = or_false (p x) where
-  or_false : (b : Bool) → (b || false) ≡ b
-  or_false true = refl
-  or_false false = refl
-list_any-push p (y ∷ xs) x = elim (p y) as (λ b. (b || list_any p (xs ++ x ∷ [])) ≡ ((b || list_any p xs) || p x)) [
-  | true ↦ refl
-  | false ↦ list_any-push p xs x
-]

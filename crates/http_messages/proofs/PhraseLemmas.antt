@@ -1,28 +1,9 @@
--- The phrases: the six that the service sends, how long each is, and that a number that is no status
--- code has none.
-use Rattle.std.proofs.Common.{◌≡◌, ℕ, zero, suc, ◌<◌, ◌≤◌, Bool, true, ◌&&◌, List, [], nat_le, nat_lt, length, refl, ap, codes, unwrap_or, IsTrue, Option, Some, None, ◌==◌, if◌then◌else◌, leb-true, ltb-true, arith}
+-- The phrases: how long each is, and that a number that is no status code has none.
+use Rattle.std.proofs.Common.{◌≡◌, ℕ, zero, suc, ◌<◌, ◌≤◌, Bool, true, ◌&&◌, List, [], nat_le, nat_lt, length, refl, ap, unwrap_or, IsTrue, Option, Some, None, ◌==◌, if◌then◌else◌, leb-true, ltb-true, arith}
 use Rattle.std.proofs.lemmas.Bool.{ne_eqb}
 use Rattle.std.proofs.lemmas.Bool.Decides.{Decides-below_and}
 use Rattle.http.specs.StatusCode.{IsStatusCode, reason_phrase}
 use Rattle.http_messages.specs.Text.{phrase}
-
-pub phrase_200 : phrase 200 ≡ codes "OK"
-phrase_200 = refl
-
-pub phrase_400 : phrase 400 ≡ codes "Bad Request"
-phrase_400 = refl
-
-pub phrase_403 : phrase 403 ≡ codes "Forbidden"
-phrase_403 = refl
-
-pub phrase_404 : phrase 404 ≡ codes "Not Found"
-phrase_404 = refl
-
-pub phrase_409 : phrase 409 ≡ codes "Conflict"
-phrase_409 = refl
-
-pub phrase_503 : phrase 503 ≡ codes "Service Unavailable"
-phrase_503 = refl
 
 abbrev is_short : ℕ → Bool
 is_short status = nat_le (length (phrase status)) 31

@@ -9,6 +9,7 @@ use http::StatusCode;
 /// The room for a reply's head, which has at most 120 bytes.
 pub const REPLY_HEAD_ROOM: usize = 128;
 
+#[tactic(auto, using(crate::proofs::PhraseLemmas::phrase_outside))]
 fn phrase_of(status: u16) -> &'static str
     ensures value { result.now ≡ phrase status }
     ensures short { length result.now ≤ 31 }

@@ -1,11 +1,13 @@
 -- What clap reads of a number is the number that its text writes.
-use Rattle.shop_types.proofs.Common.{◌≡◌, ◌^◌, ◌&&◌, refl, sym, ap, ℕ, Bool, true, false, List, [], ◌∷◌, length, Option, Some, None, Ok, Err, nat_lt, lt-ltb, option_and_then, list_all, result_ok, digit_value, AllDigits, ParsesUnsigned, digits_value, without_leading_plus}
-use Rattle.std.proofs.Common.{Result, ltb-true}
+use Rattle.shop_types.proofs.Common.{◌≡◌, ◌^◌, ◌&&◌, refl, sym, ap, ℕ, Bool, true, false, List, [], ◌∷◌, length, Option, Some, None, Ok, Err, nat_lt, lt-ltb, option_and_then, list_all, result_ok, digit_value, AllDigits, ParsesUnsigned, ExplainsUnsignedError, HasUnsignedDigitsIfOk, digits_value, without_leading_plus}
+use Rattle.std.proofs.Common.{◌∙◌, Result, ltb-true}
+use Rattle.std.specs.declared.num.ParseIntError.{ParseIntError}
 use Rattle.clap.specs.Matches.{ReadsOne}
 use Rattle.clap.specs.ValueTests.{is_numeral}
-use Rattle.clap.specs.Words.{Text}
-use Rattle.clap.proofs.WalkLemmas.{both}
-use Rattle.office_words.specs.Given.{number_of}
+use Rattle.clap.specs.Words.{Text, found_of, one_text}
+use Rattle.clap.specs.declared.parser.matches.ArgMatches.{ArgMatches}
+use Rattle.clap.proofs.WalkLemmas.{both, one_text-rows}
+use Rattle.office_words.specs.Given.{values_of, number_of, number_given}
 
 digits_pass : (ds : List ℕ) → AllDigits 10 ds → list_all (λ d. nat_lt (digit_value d) 10) ds ≡ true
 digits_pass [] h = refl
@@ -35,11 +37,14 @@ parsed bits text (Err e) h = go (is_number bits (without_leading_plus text)) ref
         absurd (h ((ltb-true _ _ inner.0, digits_from (without_leading_plus text) inner.1), ltb-true _ _ outer.1))
 
 -- what a getter of numbers gives
-pub got_number : {E : Type 0} (bits : ℕ) (gives : Text → Result ℕ E → Type 0) (o : Option Text) (r : Option ℕ)
-    → ((t : Text) (x : Result ℕ E) → gives t x → ParsesUnsigned bits 10 t x)
-    → (o ≡ None → r ≡ None) → ((t : Text) → o ≡ Some t → ReadsOne gives t r) → r ≡ option_and_then (number_of bits) o
-got_number {E} bits gives None r parses none value = none refl
-got_number {E} bits gives (Some t) (Some n) parses none value = sym (parsed {E = E} bits t (Ok n) (parses t (Ok n) (value t refl)))
-got_number {E} bits gives (Some t) None parses none value =
-    let failed = value t refl in
-    sym (parsed {E = E} bits t (Err failed.0) (parses t (Err failed.0) failed.1))
+abbrev Gives : ℕ → Text → Result ℕ ParseIntError → Type 0
+Gives bits text r = ParsesUnsigned bits 10 text r × ExplainsUnsignedError 10 text r × HasUnsignedDigitsIfOk text r
+
+pub got_number : (bits : ℕ) (given : ArgMatches) (id : Text) (r : Option ℕ) → (one_text (found_of given) id ≡ None → r ≡ None)
+    → ((t : Text) → one_text (found_of given) id ≡ Some t → ReadsOne (Gives bits) t r) → r ≡ number_given bits id (values_of given)
+got_number bits given id r none value = got (one_text (found_of given) id) r none value ∙ ap (option_and_then (number_of bits)) (one_text-rows (found_of given) id)
+  where
+    got : (o : Option Text) (r : Option ℕ) → (o ≡ None → r ≡ None) → ((t : Text) → o ≡ Some t → ReadsOne (Gives bits) t r) → r ≡ option_and_then (number_of bits) o
+    got None r none value = none refl
+    got (Some t) (Some n) none value = sym (parsed {E = ParseIntError} bits t (Ok n) (value t refl).0)
+    got (Some t) None none value = let failed = value t refl in sym (parsed {E = ParseIntError} bits t (Err failed.0) failed.1.0)

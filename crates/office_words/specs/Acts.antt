@@ -58,28 +58,21 @@ facts_of rows =
 
 abbrev pub film_of : List Row → Option Film
 film_of rows =
+    with_value (facts_of rows) (λ facts.
     with_value (text_given 1 128 (codes "title") rows) (λ title.
     with_value (text_given 0 500 (codes "description") rows) (λ description.
-    with_value (row_given (codes "language") rows) (λ language.
-    with_value (row_given (codes "category") rows) (λ category.
-    with_value (period_given rows) (λ period.
-    with_value (rate_given rows) (λ rate.
-    with_value (replacement_given rows) (λ replacement.
-    with_value (minutes_given rows) (λ minutes.
-    with_value (rating_given rows) (λ rating.
-    with_value (features_given rows) (λ features.
     Some (record {
       title = title;
       description = description;
-      language = language;
-      category = category;
-      period = period;
-      rate = rate;
-      replacement = replacement;
-      minutes = minutes;
-      rating = rating;
-      features = features;
-    })))))))))))
+      language = facts.language;
+      category = facts.category;
+      period = facts.period;
+      rate = facts.rate;
+      replacement = facts.replacement;
+      minutes = facts.minutes;
+      rating = facts.rating;
+      features = facts.features;
+    }))))
 
 abbrev pub price_of : List Row → Option OfficeAct
 price_of rows =
@@ -104,21 +97,16 @@ contact_of rows =
 abbrev pub branch_of : List Row → Option Branch
 branch_of rows =
     with_value (token_given rows) (λ token.
-    with_value (text_given 1 128 (codes "address") rows) (λ address.
-    with_value (text_given 0 45 (codes "postal") rows) (λ postal.
-    with_value (text_given 0 45 (codes "phone") rows) (λ phone.
     with_value (row_given (codes "city") rows) (λ city.
-    Some (record { token = token; address = address; postal = postal; phone = phone; city = city }))))))
+    with_value (contact_of rows) (λ c.
+    Some (record { token = token; address = c.address; postal = c.postal; phone = c.phone; city = city }))))
 
 abbrev pub person_of : List Row → Option Person
 person_of rows =
-    with_value (text_given 1 45 (codes "first") rows) (λ first.
-    with_value (text_given 1 45 (codes "last") rows) (λ last.
-    with_value (text_given 1 128 (codes "address") rows) (λ address.
-    with_value (text_given 0 45 (codes "postal") rows) (λ postal.
-    with_value (text_given 0 45 (codes "phone") rows) (λ phone.
     with_value (row_given (codes "city") rows) (λ city.
-    Some (record { first = first; last = last; address = address; postal = postal; phone = phone; city = city })))))))
+    with_value (actor_of rows) (λ names.
+    with_value (contact_of rows) (λ c.
+    Some (record { first = names.first; last = names.last; address = c.address; postal = c.postal; phone = c.phone; city = city }))))
 
 abbrev pub staff_of : List Row → Option Staff
 staff_of rows =

@@ -1,6 +1,6 @@
 -- The rows of every file that is read are within the limits.
 use Rattle.std.proofs.Common.{IfOk, All}
-use Rattle.shop_types.proofs.Common.{◌≡◌, ◌==◌, ◌<◌, ◌≤◌, ◌+◌, ◌^◌, refl, arith, ℕ, List, [], ◌∷◌, length, Option, Some, None, Ok, Err, nat_le, nat_lt, IfSome, replicate, and_parts, cond_both, eqb-false, leb-true, ltb-true, ltb-false, or_parts, length-replicate, All-nil, All-cons, IfOk-at_ok, digits_value, is_plain_number, is_row_number, row_number_of}
+use Rattle.shop_types.proofs.Common.{nat_tests, ◌≡◌, ◌==◌, ◌<◌, ◌≤◌, ◌+◌, ◌^◌, refl, arith, ℕ, List, [], ◌∷◌, length, Option, Some, None, Ok, Err, nat_lt, IfSome, replicate, cond_both, eqb-false, ltb-false, or_parts, length-replicate, All-nil, All-cons, IfOk-at_ok, row_number_of}
 use Rattle.std.proofs.lemmas.List.{length-append}
 use Rattle.csv.specs.Reading.{default_config, records_from, strip_bom}
 use Rattle.csv.specs.declared.parser.State.TheVariants as st
@@ -12,18 +12,10 @@ use Rattle.stock_csv.proofs.CopiesLemmas.{plain_is_some}
 -- ---- each row
 
 film_good : (field : Text) → IfSome (row_number_of field) (λ n. (1 ≤ n) × (n < 2 ^ 32))
-film_good field = cond_both _ _ _ (λ o. IfSome o (λ n. (1 ≤ n) × (n < 2 ^ 32)))
-    (λ both.
-    let range = and_parts (nat_le 1 (digits_value 10 field)) (nat_lt (digits_value 10 field) (2 ^ 32)) (and_parts (is_plain_number field) (is_row_number (digits_value 10 field)) both).1 in
-    (leb-true 1 (digits_value 10 field) range.0, ltb-true (digits_value 10 field) (2 ^ 32) range.1))
-    (λ other. tt)
+film_good field = grind (arith, nat_tests)
 
 copies_good : (field : Text) → IfSome (copies_of field) (λ n. (1 ≤ n) × (n ≤ 99))
-copies_good field = cond_both _ _ _ (λ o. IfSome o (λ n. (1 ≤ n) × (n ≤ 99)))
-    (λ both.
-    let parts = and_parts (is_plain_number field) (nat_le (digits_value 10 field) 99) both in
-    (plain_is_some field parts.0, leb-true (digits_value 10 field) 99 parts.1))
-    (λ other. tt)
+copies_good field = grind (arith, nat_tests, plain_is_some)
 
 from_good : (film copies : Option ℕ) → IfSome film (λ n. (1 ≤ n) × (n < 2 ^ 32)) → IfSome copies (λ n. (1 ≤ n) × (n ≤ 99)) → IfSome (row_from film copies) IsStockRow
 from_good None copies f c = tt
@@ -31,10 +23,8 @@ from_good (Some film) None f c = tt
 from_good (Some film) (Some copies) f c = record { film_low = f.0; film_high = f.1; copies_low = c.0; copies_high = c.1 }
 
 row_good : (fields : List Text) → IfSome (row_of fields) IsStockRow
-row_good [] = tt
-row_good (a ∷ []) = tt
 row_good (a ∷ b ∷ []) = from_good (row_number_of a) (copies_of b) (film_good a) (copies_good b)
-row_good (a ∷ b ∷ c ∷ more) = tt
+row_good fields = tt
 
 -- ---- the rows from a line on
 

@@ -34,6 +34,7 @@ pub enum StockFault {
     Memory,
 }
 
+#[tactic(auto, using(crate::proofs::CopiesLemmas::long_is_none))]
 fn copies_in(field: &[u8]) -> Option<u16>
     ensures { result ≡ copies_of field.now }
 {
@@ -47,6 +48,7 @@ fn copies_in(field: &[u8]) -> Option<u16>
 }
 
 /// The fields of a record that has two.
+#[tactic(auto, using(crate::proofs::RowLemmas::two_some, crate::proofs::RowLemmas::two_missing))]
 fn two(fields: &ByteRecord) -> Option<(&[u8], &[u8])>
     ensures { option_map (λ pair. (pair.0.now, pair.1.now)) result ≡ two_of (fields_of fields.now) }
 {

@@ -1,9 +1,10 @@
-use Rattle.shop_types.proofs.Common.{◌≡◌, ◌+◌, take, arrived}
+use Rattle.shop_types.proofs.Common.{◌≡◌, ◌+◌, ◌++◌, drop, arrived}
+use Rattle.branch_core.proofs.ConsignmentLemmas.{arrived_from}
 use Rattle.branch_core.proofs.arrived.arrived_lines.Given as goal
 
--- those of the lines so far that aren't missing
+-- with those of the lines behind that aren't missing they are all
 abbrev pub invariant-loop-line : goal.invariant-loop-line
 invariant-loop-line l = record {
   place : l.place ≡ 1 + l.line-index;
-  come : l.come.items ≡ arrived l.missing (take l.line-index l.lines);
+  come : l.come.items ++ arrived_from l.missing l.place (drop l.line-index l.lines) ≡ arrived l.missing l.lines;
 }

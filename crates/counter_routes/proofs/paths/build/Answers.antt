@@ -1,23 +1,11 @@
-use Rattle.shop_types.proofs.Common.{◌+◌, ◌∙◌, ap, drop, refl, drop_all, drop_more, and_parts}
-use Rattle.counter_routes.specs.Routes.{Rows, table, is_table, with_routes, are_new, entries}
-use Rattle.counter_routes.proofs.RouteLemmas.{inserted, only_memory}
+use Rattle.shop_types.proofs.Common.{refl, drop_all, drop_more, and_parts}
+use Rattle.counter_routes.specs.Routes.{table, is_table}
+use Rattle.counter_routes.proofs.RouteLemmas.{only_memory}
 use Rattle.counter_routes.proofs.paths.build.Goals as goal
 
 pub loop-pattern-init : goal.loop-pattern-init
 unfolding is_table
 loop-pattern-init c = record { rest = rw c.new-router.ensures refl; fits = rw c.new-router.ensures c.requires }
-
-pub loop-pattern-preserved : goal.loop-pattern-preserved
-loop-pattern-preserved c =
-    let at = c.loop-pattern in
-    let e = drop_more c.args.patterns.now at.pattern-index _ c.loop-pattern-test.true in
-    let new = inserted _ _ _ _ _ c.in_default.ensures in
-    let rest = rw e at at.invariant.rest in
-    let fits = rw e at at.invariant.fits in
-    record {
-      rest = ap (λ (rows : Rows). with_routes rows (entries (drop (at.pattern-index + 1) c.args.patterns.now))) new ∙ rest;
-      fits = ap (λ (rows : Rows). are_new rows (entries (drop (at.pattern-index + 1) c.args.patterns.now))) new ∙ (and_parts _ _ fits).1;
-    }
 
 pub unreachable-requires : goal.unreachable-requires
 unreachable-requires c =

@@ -11,11 +11,3 @@ returns-in-Command-clause-reading c =
 pub returns-in-Import-clause-reading : goal.returns-in-Import-clause-reading
 returns-in-Import-clause-reading c =
     rw (← c.in-Some.ensures, c.in-Import.is) (c.read_command-in-Import.ensures.reading _ c.import_command.ensures.ok c.import_command.ensures.bad)
-
-pub returns-in-Look-clause-reading : goal.returns-in-Look-clause-reading
-returns-in-Look-clause-reading c =
-    rw (← c.in-Some.ensures, c.in-Look.is) (c.read_look.ensures _ c.look_asked.ensures)
-
-pub returns-in-View-clause-reading : goal.returns-in-View-clause-reading
-returns-in-View-clause-reading c =
-    rw (← c.in-Some.ensures, c.in-View.is) (c.read_view.ensures _ c.view_asked.ensures)
