@@ -1,6 +1,6 @@
 -- What the statements do by which the tables of version 1 become those of version 2.
 use Rattle.std.proofs.Common.{map-id}
-use Rattle.shop_schema.proofs.Common.{◌≡◌, ◌≢◌, ℕ, pos, List, [], ◌∷◌, ◌++◌, map, filter, length, drop, take, codes, true, Ok, refl, sym, ap, ap₂, subst, subst₂, ◌∙◌, arith, append-nil, inl, inr, IsPermutation, ⊤, ◌⊎◌, flat_map, AllByRecursion, IsPermutation-refl, IsPermutation-sym, IsPermutation-trans, IsPermutation-map, Null, Int, column, Binary, Trees, IsShaped, Term, lit, col, Join, left, inner, end, IsAnswer, Output, overlay, Values, Insert, Update, State, ExecutesInside, Table, Schema, map-append, map-map, flat_map-map, all-append, Changes, Means, HasRows, SameBut, number_value, all_typed, joined_query, are_equal, or_blank, shown_of, few_list, left_pair, joined_bag, plain_query, HasPut, has_put, sets_row, Row, at, is_row, Text, Film, Copy, Rental, Terms, ByCode, Rules, film_of, film_terms, terms_now, HasNumbers, Books, BookCopy, shop_of, unmarked, IsSoundWithoutTerms, row_terms, migrated, row_at, length_map, at_one, all_rows_have_one, shop_schema, version_1_schema, later_tables, this_version, first_version, versioned_columns, film_columns, copy_columns, rental_columns, terms_columns, rule_columns, counts_of, IsShop, IsFirstShop, StandsAs, AreTermed, HoldsVersion1, Holds, term_rows, rule_rows, IsKeyed, IsFirstKeyed}
+use Rattle.shop_schema.proofs.Common.{◌≡◌, ◌≢◌, ℕ, pos, List, [], ◌∷◌, ◌++◌, map, filter, length, drop, take, codes, true, Ok, refl, sym, ap, ap₂, subst, subst₂, ◌∙◌, arith, append-nil, inl, inr, IsPermutation, ⊤, ◌⊎◌, flat_map, AllByRecursion, IsPermutation-refl, IsPermutation-sym, IsPermutation-trans, IsPermutation-map, Null, Int, column, Binary, Trees, IsShaped, Term, lit, col, Join, left, inner, end, IsAnswer, Output, overlay, Values, Insert, Update, State, ExecutesInside, Table, Schema, map-append, map-map, flat_map-map, all-append, Changes, Means, HasRows, SameBut, number_value, all_typed, joined_query, are_equal, or_blank, shown_of, few_list, left_pair, joined_bag, plain_query, HasPut, has_put, sets_row, Row, at, is_row, Text, Film, Copy, Rental, Terms, ByCode, Rules, film_of, film_terms, terms_now, HasNumbers, Books, BookCopy, shop_of, unmarked, IsSoundWithoutTerms, row_terms, migrated, row_at, length_map, at_one, all_rows_have_one, shop_schema, version_1_schema, later_tables, this_version, first_version, versioned_columns, film_columns, copy_columns, rental_columns, terms_columns, rule_columns, counts_of, IsShop, IsFirstShop, StandsAs, AreTermed, HoldsVersion1, Holds, term_rows, rule_rows, IsKeyed, IsFirstKeyed, CopyRows}
 use Rattle.sqlite_value.specs.Order as sql
 use Rattle.sqlite_trees.specs.declared.store.Shape.TheVariants.{Table as TableShape}
 use Rattle.sqlite_sql.specs.Query.{Query as Asked}
@@ -179,7 +179,7 @@ module _ (db : Trees) (books : Books) (s : StandsAs first_version (λ _. []) (λ
   -- the films of a rental, by the rows of its copy
   films_found : film_of books.catalogue (shop_of x.branch books) x.it ≡ flat_map (λ (copy : Row BookCopy). at copy.it.film films) copies_found
   films_found =
-      ap (flat_map (λ (copy : Copy). at copy.film films)) (sym (row_at unmarked x.branch x.it.copy books.copies (held.copies x.branch)))
+      ap (flat_map (λ (copy : Copy). at copy.film films)) (sym (row_at unmarked x.branch x.it.copy books.copies (held.rows CopyRows x.branch)))
       ∙ flat_map-map (λ (copy : Copy). at copy.film films) (λ (row : Row BookCopy). unmarked row.it) copies_found
 
   abbrev after_rental : sql.Row → List Output
@@ -190,7 +190,7 @@ module _ (db : Trees) (books : Books) (s : StandsAs first_version (λ _. []) (λ
 
   rental_brings : length (film_of books.catalogue (shop_of x.branch books) x.it) ≡ 1 → after_rental its ≡ outputs (film_of books.catalogue (shop_of x.branch books) x.it)
   rental_brings one =
-      let few = picks_row x.branch books.copies (held.copies x.branch) x.it.copy in
+      let few = picks_row x.branch books.copies (held.rows CopyRows x.branch) x.it.copy in
       left_pair 6 copy_columns (db 25) books.copies s.copies after_copy (λ r. refl) (λ it. it.branch) (λ it. it.number) (λ it. refl) (λ it. refl) (λ r. refl) (λ r. refl) x.branch x.it.copy few
       ∙ by_copy copies_found (few_list copies_found few) films_found
     where

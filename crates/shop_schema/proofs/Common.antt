@@ -68,7 +68,7 @@ pub use Rattle.sqlite_value.specs.Order.{column, value_cmp}
 pub use Rattle.sqlite_value.specs.declared.keys.Collation.TheVariants.{Binary}
 pub use Rattle.sqlite_value.specs.declared.keys.Key.{Key}
 pub use Rattle.shop_model.proofs.CustodyLemmas.{apart_weight, low_none, made_once, total-append}
-pub use Rattle.shop_model.proofs.EditLemmas.{AskedOfEach, by_table, each_keeps, grown, rows_edited}
+pub use Rattle.shop_model.proofs.EditLemmas.{AskedOfEach, by_none, by_table, each_keeps, grown, rows_edited}
 pub use Rattle.shop_model.proofs.FoundLemmas.{at_one, found_none, found_some}
 pub use Rattle.shop_model.proofs.GoodShops.{edits_small, length_set}
 pub use Rattle.shop_model.proofs.Histories.{decided_failure, decided_is, failed_failure, failed_more, last_append, memory_failure, run_append, run_more, run_none, size_failure}
@@ -79,7 +79,7 @@ pub use Rattle.shop_model.proofs.Resent.{bytes_same, command_same, flag_same, mo
 pub use Rattle.shop_model.proofs.RowLemmas.{differ_if, differ_test, equal_test, filter_filter, filter_map, length_map, map_at, map_map, more_no, more_yes, numbered_push, one_more, put_all_own, put_own, row_at, same_if, same_test, set_rows_counted}
 pub use Rattle.shop_model.proofs.Soundness.{after_sound, empty_sound, opening_books_sound}
 pub use Rattle.shop_model.specs.Answers.{Answer, accepted_answer, answer_of, arrivals_text, holder_text, problem_answer, problem_text, sent_text, shown_text, transit_text}
-pub use Rattle.shop_model.specs.Books.{Append, Arrived, BookCopy, Books, Caller, Consignment, CopyRows, Counter, Customers, Edit, Event, HeadOffice, Line, LineState, Mark, Missing, Nobody, Payments, Put, PutLot, Rentals, RowOf, Set, TermRows, UnderWay, after, after_for, all_edited, as_arrival, as_parcel, between, book_acted, book_done, branch_after, branch_with, caller_in, caller_of, checked, checked_line, come, edited, edits_of, head, imported, is_consignment, is_counter, known_caller, last_books, new_consignment, office_after, put_state, replies_to, reply_for, rows_at, rows_of, run, set_last, shop_of, state_of, under_way, unmarked, unpacked, with_rows}
+pub use Rattle.shop_model.specs.Books.{Append, Arrived, BookCopy, Books, Caller, Consignment, CopyRows, Counter, Customers, Edit, Event, HeadOffice, Line, LineState, Mark, Missing, Nobody, Payments, Put, PutLot, Rentals, RowOf, RowsOf, Set, TermRows, UnderWay, after, after_for, all_edited, as_arrival, as_parcel, between, book_acted, book_done, branch_after, branch_with, caller_in, caller_of, checked, checked_line, come, edited, edits_of, head, imported, is_consignment, is_counter, known_caller, last_books, new_consignment, office_after, put_state, replies_to, reply_for, rows_at, rows_of, run, set_last, shop_of, state_of, under_way, unmarked, unpacked, with_rows}
 pub use Rattle.shop_model.specs.Calendar.{IsMoment, Moment, days_in_month, days_in_year, digit, is_by, is_earlier, is_leap_year, moment_text, month_before, month_days, same_moment}
 pub use Rattle.shop_model.specs.Histories.{IsRun, IsStep, counted_in, fails_for_good, has_failed, is_answer, is_decided, is_store_failure}
 pub use Rattle.shop_model.specs.Json.{array, comma_if, flag_text, items_text, numbers_text, object}
@@ -148,7 +148,7 @@ pub use Rattle.shop_schema.specs.First.{TellsFirst}
 pub use Rattle.shop_schema.specs.Forms.{FormsAreOneToOne, OfficeFormsAreOneToOne, act_form, branch_form, command_form, film_form, flag_form, joined, number_form, numbers_form, office_command_form, office_form, option_form, person_form, rule_form, text_form}
 pub use Rattle.shop_schema.specs.Held.{HasFewShared, IsHeld}
 pub use Rattle.shop_schema.specs.Kinds.{FitEach, Fits, Kind, value_of}
-pub use Rattle.shop_schema.specs.RowValues.{AreBytes, AreCatalogueValues, AreNumbers, AreShared, AreValues, IsAct, IsActor, IsBranch, IsCast, IsCity, IsCommand, IsConsignment, IsCopy, IsCustomer, IsFeatures, IsFilm, IsKept, IsKey, IsLast, IsLine, IsLot, IsName, IsNumber, IsNumberList, IsOfficeAct, IsOfficeKept, IsPayment, IsRating, IsRental, IsRow, IsShared, IsStaff, IsTerms, IsText, IsToken}
+pub use Rattle.shop_schema.specs.RowValues.{AreBytes, AreCatalogueValues, AreNumbers, AreRowValues, AreShared, AreValues, IsAct, IsActor, IsBranch, IsCast, IsCity, IsCommand, IsConsignment, IsCopy, IsCustomer, IsFeatures, IsFilm, IsKept, IsKey, IsLast, IsLine, IsLot, IsName, IsNumber, IsNumberList, IsOfficeAct, IsOfficeKept, IsPayment, IsRating, IsRental, IsRow, IsRowOf, IsShared, IsStaff, IsTerms, IsText, IsToken}
 pub use Rattle.shop_schema.specs.Shop.{AreTermed, HasVersion, HaveNoFirstRows, HaveNoRows, Holds, HoldsVersion1, HoldsWith, IsFirstKeyed, IsFirstShop, IsKeyed, IsNewFirst, IsNewShop, IsShop, LeavesNew, LeavesNewFirst, MoreRows, Reads, StandsAs, StandsBy, StandsFor, StandsForVersion1, StandsWith, Tallies, TermedRows, Writes, begins_so, first_books, rule_rows, term_rows}
 pub use Rattle.shop_schema.specs.Steps.{FilmsFit, FitsTables}
 pub use Rattle.shop_schema.specs.TableOf.{TableOf, person_kinds}

@@ -1,6 +1,6 @@
 -- The rows with which a chain begins are such as the program can hold.
 use Rattle.std.proofs.Common.{IfSome}
-use Rattle.shop_schema.proofs.Common.{◌≡◌, ℕ, [], true, false, Option, Some, None, refl, arith, codes, nat_lt, list_all, IsUtf8-from_ascii, is_text, Text, token_of, river_dawn, north_light, opening_branch, opening_staff, opening_books, first_books, IsNumber, IsText, IsName, IsToken, IsFilm, IsBranch, IsStaff, AreValues}
+use Rattle.shop_schema.proofs.Common.{◌≡◌, ℕ, [], true, false, Option, Some, None, refl, arith, codes, nat_lt, list_all, IsUtf8-from_ascii, is_text, Text, token_of, river_dawn, north_light, opening_branch, opening_staff, opening_books, first_books, IsNumber, IsText, IsName, IsToken, IsFilm, IsBranch, IsStaff, AreValues, by_none, AreRowValues}
 use Rattle.shop_schema.proofs.Values.{ascii_bytes}
 
 pub first_values : (token : Text) → IsToken token → AreValues (first_books token)
@@ -18,11 +18,7 @@ first_values token is = record {
     branches = (omega arith, tt);
     staff = (omega arith, tt);
   };
-  customers = tt;
-  copies = tt;
-  rentals = tt;
-  terms = tt;
-  payments = tt;
+  rows = by_none AreRowValues (first_books token).catalogue (λ t. tt);
   lots = tt;
   consignments = tt;
   kept = tt;
@@ -129,11 +125,7 @@ opening_values = record {
       ),
     );
   };
-  customers = tt;
-  copies = tt;
-  rentals = tt;
-  terms = tt;
-  payments = tt;
+  rows = by_none AreRowValues opening_books.catalogue (λ t. tt);
   lots = tt;
   consignments = tt;
   kept = tt;

@@ -1,5 +1,5 @@
 -- A form shows where it ends: what two forms begin with is one part, and what follows is one too.
-use Rattle.shop_schema.proofs.Common.{◌≡◌, ℕ, ◌%◌, ◌/◌, List, [], ◌∷◌, ◌++◌, length, Bool, true, false, Option, Some, None, refl, arith, option_to_list, Moment, moment_text, Text, Person, number_form, text_form, numbers_form, option_form, flag_form, person_form}
+use Rattle.shop_schema.proofs.Common.{◌≡◌, ℕ, ◌%◌, ◌/◌, List, [], ◌∷◌, ◌++◌, length, Bool, true, false, Option, Some, None, refl, arith, option_to_list, Moment, moment_text, Text, number_form, text_form, numbers_form, option_form, flag_form}
 use Rattle.std.specs.Prelude.{flat_map}
 
 same_number : (a b : ℕ) → a % 256 ≡ b % 256 → a / 256 % 256 ≡ b / 256 % 256 → a / 65_536 % 256 ≡ b / 65_536 % 256 → a / 16_777_216 ≡ b / 16_777_216 → a ≡ b
@@ -13,9 +13,6 @@ number_ends a b r s h =
     let fourth : a / 16_777_216 ≡ b / 16_777_216 = cc in
     let rest : r ≡ s = cc in
     (same_number a b first second third fourth, rest)
-
-pub number_is : (a b : ℕ) → number_form a ≡ number_form b → a ≡ b
-number_is a b h = (number_ends a b [] [] h).0
 
 same_length : (t u r s : List ℕ) → length t ≡ length u → t ++ r ≡ u ++ s → (t ≡ u) × (r ≡ s)
 same_length [] [] r s n h = (refl, h)
@@ -62,13 +59,3 @@ flag_ends false true r s h = cc
 
 pub moment_ends : (a b : Moment) (r s : List ℕ) → moment_text a ++ r ≡ moment_text b ++ s → (moment_text a ≡ moment_text b) × (r ≡ s)
 moment_ends a b r s h = same_length (moment_text a) (moment_text b) r s refl h
-
-pub person_is : (p q : Person) → person_form p ≡ person_form q → p ≡ q
-person_is p q h =
-    let first = text_ends p.first q.first _ _ h in
-    let last = text_ends p.last q.last _ _ first.1 in
-    let address = text_ends p.address q.address _ _ last.1 in
-    let postal = text_ends p.postal q.postal _ _ address.1 in
-    let phone = text_ends p.phone q.phone _ _ postal.1 in
-    let city = number_ends p.city q.city [] [] phone.1 in
-    (λ i. record { first = first.0 i; last = last.0 i; address = address.0 i; postal = postal.0 i; phone = phone.0 i; city = city.0 i })

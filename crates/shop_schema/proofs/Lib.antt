@@ -6,6 +6,7 @@ pub mod Listed
 pub mod SharedTables
 pub mod Versions
 pub mod FormLemmas
+pub mod FormValues
 pub mod OneToOne
 pub mod OfficeOneToOne
 pub mod SameRows

@@ -1,6 +1,11 @@
 -- The lists of the books when a row is put last, and a branch's rows in the order of their numbers.
 use Rattle.shop_schema.proofs.Common.{◌≡◌, ◌≤◌, ◌<◌, ◌+◌, ◌==◌, ◌&&◌, ℕ, List, [], ◌∷◌, ◌++◌, map, filter, length, Bool, true, false, cond, refl, sym, ap, subst, ◌∙◌, arith, AllByRecursion, flat_map, nat_tests, PicksOne, Row, is_of, is_row, IsCounted, AreNumbered}
 
+-- facts, one after another
+infixr 3 ◌also◌
+abbrev pub ◌also◌ : {A B : Type 0} → A → B → A × B
+a also b = (a, b)
+
 pub flat_map_push : {A B : Type 0} (f : A → List B) (xs : List A) (x : A) → flat_map f (xs ++ x ∷ []) ≡ flat_map f xs ++ f x
 flat_map_push f [] x = append_none (f x)
   where

@@ -199,11 +199,7 @@ office_values_done command books is key values few =
         branches = v.branches;
         staff = v.staff;
       };
-      customers = values.customers;
-      copies = values.copies;
-      rentals = values.rentals;
-      terms = values.terms;
-      payments = values.payments;
+      rows = values.rows;
       lots = values.lots;
       consignments = values.consignments;
       kept = values.kept;

@@ -6,7 +6,7 @@ use Rattle.shop_types.specs.declared.rule.Rule.TheVariants as rule
 use Rattle.shop_types.specs.declared.custody.CopyState as states
 use Rattle.shop_types.specs.declared.custody.CopyState.TheVariants as state
 use Rattle.shop_schema.specs.Kinds as kind
-use Rattle.shop_schema.proofs.OneToOne.{text_equal}
+use Rattle.shop_schema.proofs.FormValues.{text_equal}
 
 -- ---- what has one text or number a word
 

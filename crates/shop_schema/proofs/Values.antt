@@ -1,5 +1,5 @@
 -- The rows of the books stay such as the program can hold.
-use Rattle.shop_schema.proofs.Common.{◌≡◌, ◌≤◌, ◌<◌, ◌+◌, ◌^◌, ◌==◌, ℕ, suc, get_or, List, [], ◌∷◌, ◌++◌, map, not, length, Bool, true, false, refl, sym, ap, subst, ◌∙◌, arith, inl, inr, append-nil, ◌-◌, codes, decimal, IsUtf8, IsAscii, length-append, ⊤, ◌⊎◌, nat_lt, if◌then◌else◌, AllByRecursion, list_all, and_parts, ltb-true, nat_tests, IsAscii-decimal, IsUtf8-from_ascii, IsAscii-append, IsAscii-nil, IsAscii-cons, All-push, IsMoment, flag_text, object, Row, Owned, at, of, is_row, next, put_all, set_row, set_rows, Text, Film, Copy, Rental, Terms, Act, Command, Rules, film_terms, terms_now, films_in, reply_text, Shop, Catalogue, IsGoodCatalogue, Books, Consignment, Customers, CopyRows, Rentals, TermRows, Payments, RowOf, rows_of, with_rows, Edit, Put, Set, PutLot, Append, edited, all_edited, edits_of, book_acted, book_done, imported, unmarked, shop_of, by_table, AskedOfEach, each_keeps, IsSound, row_terms, migrated, without_terms, put_own, length_map, at_one, all-append, all-filter, HasFewShared, IsHeld, IsConsignment, IsKey, IsNumber, IsFilm, IsRow, IsCustomer, IsCopy, IsRental, IsTerms, IsPayment, IsLot, IsKept, IsLast, AreBytes, IsAct, IsCommand, AreValues, FilmsFit, FitsTables}
+use Rattle.shop_schema.proofs.Common.{◌≡◌, ◌≤◌, ◌<◌, ◌+◌, ◌^◌, ◌==◌, ℕ, suc, get_or, List, [], ◌∷◌, ◌++◌, map, not, length, Bool, true, false, refl, sym, ap, subst, ◌∙◌, arith, inl, inr, append-nil, ◌-◌, codes, decimal, IsUtf8, IsAscii, length-append, ⊤, ◌⊎◌, nat_lt, if◌then◌else◌, AllByRecursion, list_all, and_parts, ltb-true, nat_tests, IsAscii-decimal, IsUtf8-from_ascii, IsAscii-append, IsAscii-nil, IsAscii-cons, All-push, IsMoment, flag_text, object, Row, Owned, at, of, is_row, next, put_all, set_row, set_rows, Text, Film, Copy, Rental, Terms, Act, Command, Rules, film_terms, terms_now, films_in, reply_text, Shop, Catalogue, IsGoodCatalogue, Books, Consignment, CopyRows, Rentals, TermRows, RowOf, rows_of, with_rows, Edit, Put, Set, PutLot, Append, edited, all_edited, edits_of, book_acted, book_done, imported, unmarked, shop_of, by_table, AskedOfEach, each_keeps, IsSound, row_terms, migrated, without_terms, put_own, length_map, at_one, all-append, all-filter, HasFewShared, IsHeld, IsConsignment, IsKey, IsNumber, IsFilm, IsRow, IsRental, IsTerms, IsLot, IsKept, IsLast, AreBytes, IsAct, IsCommand, AreValues, FilmsFit, FitsTables, AreRowValues, IsRowOf, RowsOf}
 use Rattle.std.specs.Prelude.{flat_map}
 use Rattle.shop_model.specs.Json.{escape_byte}
 use Rattle.shop_model.specs.Rows.{put, update_where}
@@ -113,33 +113,15 @@ all_migrated books films (row ∷ rows) all =
     (row_values row.branch row.number (terms_now books.catalogue (shop_of row.branch books) row.it.copy) all.0.0 all.0.1 (film_terms_values (flat_map (λ (copy : Copy). at copy.film books.catalogue.films) (at row.it.copy (shop_of row.branch books).copies)) found))
     (all_migrated books films rows all.1)
 
+-- other terms
+with_terms : (its : List (Row Terms)) (books : Books) → AllByRecursion (IsRow IsTerms) its → AreValues books → AreValues (record books { terms = its })
+with_terms its books are v = record { catalogue = v.catalogue; rows = by_table AreRowValues TermRows its books are v.rows; lots = v.lots; consignments = v.consignments; kept = v.kept; lasts = v.lasts }
+
 pub migrated_values : (books : Books) → AreValues books → AreValues (migrated books)
-migrated_values books v = record {
-  catalogue = v.catalogue;
-  customers = v.customers;
-  copies = v.copies;
-  rentals = v.rentals;
-  terms = all_migrated books v.catalogue.films.1 books.rentals v.rentals;
-  payments = v.payments;
-  lots = v.lots;
-  consignments = v.consignments;
-  kept = v.kept;
-  lasts = v.lasts;
-}
+migrated_values books v = with_terms _ books (all_migrated books v.catalogue.films.1 books.rentals (v.rows Rentals)) v
 
 pub values_without : (books : Books) → AreValues books → AreValues (without_terms books)
-values_without books v = record {
-  catalogue = v.catalogue;
-  customers = v.customers;
-  copies = v.copies;
-  rentals = v.rentals;
-  terms = tt;
-  payments = v.payments;
-  lots = v.lots;
-  consignments = v.consignments;
-  kept = v.kept;
-  lasts = v.lasts;
-}
+values_without books v = with_terms [] books tt v
 
 -- ---- kept replies
 
@@ -219,58 +201,37 @@ acts_fit rules files act = tt
 
 -- ---- a step
 
--- what the program can hold, by table
-abbrev IsRowOf : (t : Table) → RowOf t → Type 0
-IsRowOf Customers it = IsCustomer it
-IsRowOf CopyRows it = IsCopy it
-IsRowOf Rentals it = IsRental it
-IsRowOf TermRows it = IsTerms it
-IsRowOf Payments it = IsPayment it
-
-abbrev AreRowsOf : (t : Table) → List (Row (RowOf t)) → Type 0
-AreRowsOf t its = AllByRecursion (IsRow (IsRowOf t)) its
-
-tables_values : (books : Books) → AreValues books → (t : Table) → AreRowsOf t (rows_of t books)
-tables_values books v Customers = v.customers
-tables_values books v CopyRows = v.copies
-tables_values books v Rentals = v.rentals
-tables_values books v TermRows = v.terms
-tables_values books v Payments = v.payments
-
-with_values : (t : Table) (new : List (Row (RowOf t))) (books : Books) → AreRowsOf t new → AreValues books → AreValues (with_rows t new books)
-with_values t new books is v =
-    let all = by_table AreRowsOf t new books is (tables_values books v) in
-    record { catalogue = v.catalogue; customers = all Customers; copies = all CopyRows; rentals = all Rentals; terms = all TermRows; payments = all Payments; lots = v.lots; consignments = v.consignments; kept = v.kept; lasts = v.lasts }
+with_values : (t : Table) (new : RowsOf t) (books : Books) → AreRowValues t new → AreValues books → AreValues (with_rows t new books)
+with_values t new books is v = record { catalogue = v.catalogue; rows = by_table AreRowValues t new books is v.rows; lots = v.lots; consignments = v.consignments; kept = v.kept; lasts = v.lasts }
 
 with_others : (lots : List (Owned Text)) (cs : List Consignment) (books : Books) → AllByRecursion IsLot lots → AllByRecursion IsConsignment cs → AreValues books → AreValues (record books { lots = lots; consignments = cs })
-with_others lots cs books lots_are cs_are v =
-    record { catalogue = v.catalogue; customers = v.customers; copies = v.copies; rentals = v.rentals; terms = v.terms; payments = v.payments; lots = lots_are; consignments = cs_are; kept = v.kept; lasts = v.lasts }
+with_others lots cs books lots_are cs_are v = record { catalogue = v.catalogue; rows = v.rows; lots = lots_are; consignments = cs_are; kept = v.kept; lasts = v.lasts }
 
 -- what new rows are asked, whatever their numbers
 abbrev AreNew : (t : Table) → List (ℕ → RowOf t) → Type 0
 AreNew t makes = AllByRecursion (λ (make : ℕ → RowOf t). (n : ℕ) → IsNumber n → IsRowOf t (make n)) makes
 
-puts_values : (t : Table) (b : ℕ) (makes : List (ℕ → RowOf t)) (its : List (Row (RowOf t))) → IsNumber b → length (of b its) + length makes ≤ 1_001_000 → AreNew t makes → AreRowsOf t its → AreRowsOf t (put_all b makes its)
+puts_values : (t : Table) (b : ℕ) (makes : List (ℕ → RowOf t)) (its : List (Row (RowOf t))) → IsNumber b → length (of b its) + length makes ≤ 1_001_000 → AreNew t makes → AreRowValues t its → AreRowValues t (put_all b makes its)
 puts_values t b [] its branch few new all = all
 puts_values t b (make ∷ makes) its branch few new all =
     let own : length (of b (put b make its)) ≡ length (of b its) + 1 = ap length (put_own b make its) ∙ length-append (of b its) (make (next b its) ∷ []) in
     puts_values t b makes (put b make its) branch (omega arith) new.1 (put_values (IsRowOf t) b make its branch (omega arith) (new.0 (next b its) (next_fits b its (omega arith))) all)
 
-sets_values : (t : Table) (b : ℕ) (ns : List ℕ) (f : RowOf t → RowOf t) (its : List (Row (RowOf t))) → ((it : RowOf t) → IsRowOf t it → IsRowOf t (f it)) → AreRowsOf t its → AreRowsOf t (set_rows b ns f its)
+sets_values : (t : Table) (b : ℕ) (ns : List ℕ) (f : RowOf t → RowOf t) (its : List (Row (RowOf t))) → ((it : RowOf t) → IsRowOf t it → IsRowOf t (f it)) → AreRowValues t its → AreRowValues t (set_rows b ns f its)
 sets_values t b [] f its stays all = all
 sets_values t b (n ∷ ns) f its stays all = sets_values t b ns f (set_row b n f its) stays (set_values (IsRowOf t) b n f its stays all)
 
 -- what an edit is asked
 abbrev IsEditOfValues : ℕ → Books → Edit → Type 0
-IsEditOfValues b books (Put t makes) = (length (of b (rows_of t books)) + length makes ≤ 1_001_000) × AreNew t makes
+IsEditOfValues b books (Put t makes) = (length (of b (rows_of books t)) + length makes ≤ 1_001_000) × AreNew t makes
 IsEditOfValues b books (Set t ns f) = (it : RowOf t) → IsRowOf t it → IsRowOf t (f it)
 IsEditOfValues b books (PutLot lot) = IsKey lot
 IsEditOfValues b books (Append it) = IsConsignment it
 IsEditOfValues b books (Update test f) = AllByRecursion IsConsignment (update_where test f books.consignments)
 
 values_edited : (b : ℕ) → IsNumber b → (books : Books) (edit : Edit) → IsEditOfValues b books edit → AreValues books → AreValues (edited b edit books)
-values_edited b branch books (Put t makes) asked v = with_values t _ books (puts_values t b makes (rows_of t books) branch asked.0 asked.1 (tables_values books v t)) v
-values_edited b branch books (Set t ns f) asked v = with_values t _ books (sets_values t b ns f (rows_of t books) asked (tables_values books v t)) v
+values_edited b branch books (Put t makes) asked v = with_values t _ books (puts_values t b makes (rows_of books t) branch asked.0 asked.1 (v.rows t)) v
+values_edited b branch books (Set t ns f) asked v = with_values t _ books (sets_values t b ns f (rows_of books t) asked (v.rows t)) v
 values_edited b branch books (PutLot lot) asked v = with_others _ books.consignments books (All-push IsLot books.lots (record { owner = b; it = lot }) v.lots (branch, asked)) v.consignments v
 values_edited b branch books (Append it) asked v = with_others books.lots _ books v.lots (All-push IsConsignment books.consignments it v.consignments asked) v
 values_edited b branch books (Update test f) asked v = with_others books.lots _ books v.lots asked v
@@ -328,11 +289,7 @@ values_done rules b command books branch is held fits rows replies =
     let reply = reply_utf8 rules command.act (shop_of b books) (held.most_customers b) (held.most_rentals b) (held.most_payments b) (held.most_copies b) is.act fits replies in
     record {
       catalogue = v.catalogue;
-      customers = v.customers;
-      copies = v.copies;
-      rentals = v.rentals;
-      terms = v.terms;
-      payments = v.payments;
+      rows = v.rows;
       lots = v.lots;
       consignments = v.consignments;
       kept = All-push IsKept books.kept (record { owner = b; it = record { command = command; reply = reply_text rules command (shop_of b books) } }) held.values.kept (branch, is, reply);

@@ -32,7 +32,7 @@ abbrev pub person_form : Person → List ℕ
 person_form p = joined (text_form p.first ∷ text_form p.last ∷ text_form p.address ∷ text_form p.postal ∷ text_form p.phone ∷ number_form p.city ∷ [])
 
 abbrev pub act_form : Act → List ℕ
-act_form (model.AddCustomer person) = 1 ∷ person_form person
+act_form (model.AddCustomer it) = 1 ∷ person_form it.person
 act_form (model.SetActive customer active) = 2 ∷ joined (number_form customer ∷ flag_form active ∷ [])
 act_form (model.Rent customer copy) = 3 ∷ joined (number_form customer ∷ number_form copy ∷ [])
 act_form (model.TakeBack rental) = 4 ∷ number_form rental

@@ -9,7 +9,7 @@ use Rattle.shop_model.specs.Rows.{Row, Owned}
 use Rattle.shop_model.specs.Values.{Text, Person, City, Actor, Film, Cast, Branch, Staff, Customer, Rental, Terms, Payment, Act, Command, OfficeAct, AddCountry, AddCity, AddLanguage, AddCategory, AddActor, AddFilm, PriceFilm, WithdrawFilm, AddCast, AddBranch, AddStaff, StaffLeaves, SetManager, ChooseRule}
 use Rattle.shop_model.specs.Values as model
 use Rattle.shop_model.specs.Shop.{Kept, OfficeKept, Catalogue}
-use Rattle.shop_model.specs.Books.{Books, Mark, BookCopy, Line, Consignment}
+use Rattle.shop_model.specs.Books.{Books, Mark, BookCopy, Line, Consignment, Table, Customers, CopyRows, Rentals, TermRows, Payments, RowOf, RowsOf, rows_of}
 use Rattle.shop_types.specs.Films.{features_text}
 use Rattle.shop_types.specs.NumberLists.{is_number_list}
 use Rattle.shop_types.specs.StockFiles.{is_stock_file}
@@ -146,6 +146,17 @@ pub record IsConsignment (it : Consignment) : Type 0 where
 abbrev pub IsLast : Owned Moment → Type 0
 IsLast row = IsMoment row.it
 
+-- by table, what the program can hold of what a row says, and of a table's rows
+abbrev pub IsRowOf : (t : Table) → RowOf t → Type 0
+IsRowOf Customers it = IsCustomer it
+IsRowOf CopyRows it = IsCopy it
+IsRowOf Rentals it = IsRental it
+IsRowOf TermRows it = IsTerms it
+IsRowOf Payments it = IsPayment it
+
+abbrev pub AreRowValues : (t : Table) → RowsOf t → Type 0
+AreRowValues t rows = AllByRecursion (IsRow (IsRowOf t)) rows
+
 -- ---- kept commands
 
 abbrev pub AreNumbers : List ℕ → Type 0
@@ -164,7 +175,7 @@ IsStockFile file = (is_stock_file file ≡ true) × AreBytes file
 
 -- an act that somebody can ask of a branch
 abbrev pub IsAct : Act → Type 0
-IsAct (model.AddCustomer person) = IsPerson person
+IsAct (model.AddCustomer it) = IsPerson it.person
 IsAct (model.SetActive customer active) = IsNumber customer
 IsAct (model.Rent customer copy) = IsNumber customer × IsNumber copy
 IsAct (model.TakeBack rental) = IsNumber rental
@@ -225,11 +236,7 @@ pub record AreCatalogueValues (it : Catalogue) : Type 0 where
 -- Every row of the books is one that the program can hold. The columns of such rows are one to one.
 pub record AreValues (books : Books) : Type 0 where
   pub catalogue : AreCatalogueValues books.catalogue
-  pub customers : AllByRecursion (IsRow IsCustomer) books.customers
-  pub copies : AllByRecursion (IsRow IsCopy) books.copies
-  pub rentals : AllByRecursion (IsRow IsRental) books.rentals
-  pub terms : AllByRecursion (IsRow IsTerms) books.terms
-  pub payments : AllByRecursion (IsRow IsPayment) books.payments
+  pub rows : (t : Table) → AreRowValues t (rows_of books t)
   pub lots : AllByRecursion IsLot books.lots
   pub consignments : AllByRecursion IsConsignment books.consignments
   pub kept : AllByRecursion IsKept books.kept

@@ -123,9 +123,9 @@ fn add_act(form: &mut Vec<u8>, act: &Act) -> Result<(), NoMemory>
     ensures { OnOk result (form.new.items ≡ form.old.items ++ act_form (seen_act act.now)) }
 {
     match act {
-        Act::Customer(person) => {
+        Act::Customer(it) => {
             form.extend_from_slice(&[1])?;
-            add_person(form, person)
+            add_person(form, &it.person)
         }
         Act::Active { customer, active } => {
             add_one(form, 2, customer.get())?;

@@ -60,7 +60,7 @@ fn act_values(act: &Act)
     ensures { IsAct (seen_act act.now) }
 {
     match act {
-        Act::Customer(person) => person_values(person),
+        Act::Customer(it) => person_values(&it.person),
         Act::Active { customer, .. } => {
             let _customer = customer.get();
         }

@@ -1,15 +1,17 @@
--- What an UPDATE does, in any schema whose foreign keys have no action.
-use Rattle.sql_rows.proofs.Common.{◌≡◌, ◌&&◌, ◌≤◌, ◌==◌, ℕ, List, [], ◌∷◌, map, filter, drop, length, slice_get, true, false, Bool, Some, None, Ok, refl, sym, ap, subst, ◌∙◌, cond, arith, IsTrue, IsPermutation, if◌then◌else◌, flat_map, filter_map, list_all, length_permutation, and_parts, Value, Row, Trees, rowid, put_row, without_rowid, IsShaped, is_int, Term, eval_all, holds, Query, IsAnswer, Output, output, page, overlay, Schema, Table, Program, Enforced, Update, Given, edit_of, edited, Applies, taken_by, cast_row, ids_of, Database, Answers, Task, Written, Updates, Edited, Does, OnRows, State, mode_of, Shows, Executes, statement_of, runs_as, one_step, one_permutation, update_where}
+-- What an UPDATE or a DELETE of the rows that a query finds does, in any schema whose foreign keys have no action.
+use Rattle.sql_rows.proofs.Common.{◌≡◌, ◌&&◌, ◌≤◌, ◌==◌, ℕ, List, [], ◌∷◌, map, filter, drop, length, slice_get, true, false, Bool, Some, None, Ok, refl, sym, ap, subst, ◌∙◌, cond, arith, IsTrue, IsPermutation-refl, IsPermutation-sym, flat_map, filter_map, list_all, and_parts, Null, Row, Trees, rowid, put_row, without_rowid, IsShaped, is_int, Term, eval_all, holds, Query, IsAnswer, output, overlay, Schema, Table, Program, Enforced, Update, Delete, Given, Edit, edit_of, edited, taken_by, cast_row, ids_of, Answers, Task, Written, Edited, State, Executes, statement_of, runs_as, update_where, delete_where}
 use Rattle.sqlite_trees.specs.declared.store.Shape.TheVariants.{Table as TableShape}
 use Rattle.sqlite_schema.specs.declared.schema.Action.{Action}
 use Rattle.sqlite_schema.specs.declared.schema.Action.TheVariants.{NoAction, Restrict, Cascade, SetNull, SetDefault}
 use Rattle.sqlite_schema.specs.declared.schema.Reference.{Reference}
 use Rattle.sqlite_rules.specs.Action.{works, work_for, deed_for}
 use Rattle.sqlite.specs.Listing.{understood}
-use Rattle.sql_rows.proofs.Puts.{Means, went, same_value, concluded}
-use Rattle.sql_rows.proofs.Queries.{plain_query, kept_are}
-use Rattle.sql_rows.proofs.Appends.{id_of}
-use Rattle.sql_rows.proofs.Sets.{sets_one, unpicked}
+use Rattle.sqlite.specs.Rows.{Gives, Queried, Then}
+use Rattle.sql_rows.proofs.Puts.{Means, Changed, went, same_value, task_of, acts, changed}
+use Rattle.sql_rows.proofs.Queries.{plain_query, reads_bag}
+use Rattle.sql_rows.proofs.Appends.{id_of, ids_rise}
+use Rattle.sql_rows.proofs.Bags.{short_bag, length-map}
+use Rattle.sql_rows.proofs.Sets.{sets_one, unpicked, none_dropped, drop_one}
 
 -- ---- foreign keys with no action
 
@@ -50,93 +52,89 @@ idle_works schema depth tree olds news idle = go schema.tables idle
 
 -- ---- the statement
 
-pub record Moves (schema : Schema) (table : Table) (q : Query) (params : Row) (old new : State) : Type 0 where
-  pub schema_is : new.now.schema ≡ schema
+-- the rows that were found are taken out, and what was read of them is put in
+abbrev pub sets_of : Trees → Table → List Row → Edit
+sets_of db table rows = edit_of db table (ids_of rows) Given 1 rows
+
+-- they are taken out
+abbrev pub drops_of : Trees → Table → List Row → Edit
+drops_of db table rows = edit_of db table (ids_of rows) Given 0 []
+
+-- what the query found, and what was made of it
+pub record Moves (schema : Schema) (edit : List Row → Edit) (q : Query) (params : Row) (old new : State) : Type 0 where
   pub rows : List Row
   pub answer : IsAnswer q (overlay old.now.trees []) params rows
-  pub applies : Applies schema Enforced old.now.trees (edit_of old.now.trees table (ids_of rows) Given 1 rows) new.now.trees
-  pub shows : Shows old new new.now (if old.in_transaction then old.committed else new.now) old.in_transaction
+  pub done : Changed schema (edit rows) old new
 
-module _ (task : Task) (q : Program) (db : Trees) (w : Written) where
-  pub updated : Updates task q task.params db (Ok w) → (rows : List Row) × Answers (record { schema = task.schema; trees = db }) q task.params rows
-      × Edited task.schema task.keys db (edit_of db task.table (ids_of rows) Given 1 rows) (Ok w.trees)
-  updated h =
+module _ (task : Task) (q : Program) (given : Row) (db : Trees) (edit : List Row → Edit) (news : List Row → List Row) (w : Written) where
+  pub edits : Then (Queried task.limit (record { schema = task.schema; trees = db }) q given)
+      (λ rows. Then (Edited task.schema task.keys db (edit rows)) (λ next. Gives (record { trees = next; rows = news rows; last = None }))) (Ok w)
+      → (rows : List Row) × Answers (record { schema = task.schema; trees = db }) q given rows × Edited task.schema task.keys db (edit rows) (Ok w.trees) × (w.rows ≡ news rows)
+  edits h =
       let found = went h in
       let edited = went found.2 in
-      let trees : w.trees ≡ edited.0 = ap (λ (it : Written). it.trees) (same_value edited.2) in
-      (found.0, found.1, subst (λ (t : Trees). Edited task.schema task.keys db (edit_of db task.table (ids_of found.0) Given 1 found.0) (Ok t)) (sym trees) edited.1)
+      let is = same_value edited.2 in
+      (found.0, found.1, subst (λ (t : Trees). Edited task.schema task.keys db (edit found.0) (Ok t)) (sym (ap (λ (it : Written). it.trees) is)) edited.1, ap (λ (it : Written). it.rows) is)
 
-module _ (schema : Schema) (sql : List ℕ) (params : Row) (old new : State) (has : old.now.schema ≡ schema) (at : ℕ) (table : Table) (q : Query)
-    (means : Means schema sql (Update at (record { lets = []; body = q }))) (place : slice_get schema.tables at ≡ Some table) (idle : are_idle schema ≡ true) where
-  pub updates : (count : ℕ) → Executes sql params old new (Ok count) → Moves schema table q params old new
-  updates count h =
-      let command = Update at (record { lets = []; body = q }) in
-      let w = runs_as sql params old new schema has command means.is means.plain count h in
-      let text = statement_of sql (understood schema sql) in
-      let placed = subst (λ s. Does old.step_limit (mode_of old) params (record old.now { schema = s }) text None command (Ok (w.tally, new.now))) has w.changed in
-      let task : Task = record { limit = old.step_limit; keys = Enforced; schema = schema; table = table; params = params } in
-      let rows : OnRows task (mode_of old) None command old.now.trees (Ok (w.tally, new.now)) = rw place at placed in
-      let done = went rows in
-      let end = concluded task (mode_of old) done.0 w.tally new.now done.2 in
-      let found = updated task (record { lets = []; body = q }) old.now.trees done.0 done.1 in
-      let edit = edit_of old.now.trees table (ids_of found.0) Given 1 found.0 in
-      let applied = one_step schema Enforced old.now.trees done.0.trees edit (idle_works schema 0 table.tree (taken_by old.now.trees edit) edit.news idle) found.2 in
-      record {
-        schema_is = ap (λ (d : Database). d.schema) end;
-        rows = found.0;
-        answer = found.1.answer Rattle.sqlite.specs.declared.types.Value.TheVariants.Null;
-        applies = subst (λ t. Applies schema Enforced old.now.trees edit t) (sym (ap (λ (d : Database). d.trees) end)) applied;
-        shows = w.shown;
-      }
+module _ (schema : Schema) (sql : List ℕ) (params : Row) (old new : State) (has : old.now.schema ≡ schema) (at : ℕ) (table : Table) (q : Query) (place : slice_get schema.tables at ≡ Some table)
+    (idle : are_idle schema ≡ true) where
+  abbrev program : Program
+  program = record { lets = []; body = q }
 
-module _ (schema : Schema) (table : Table) (tests shown : List Term) (params : Row) (old new : State) (m : Moves schema table (plain_query table.tree tests shown []) params old new)
-    (low : overlay old.now.trees [] table.tree ≡ old.now.trees table.tree) (f : Row → Row) (keeps : (r : Row) → id_of (f r) ≡ id_of r) (ints_stay : (r : Row) → IsTrue (is_int (rowid (f r))))
-    (shaped : IsShaped TableShape (old.now.trees table.tree)) (id_shown : (r : Row) → id_of (eval_all shown (params ∷ r ∷ [])) ≡ id_of r) where
+  pub updates : Means schema sql (Update at program) → (count : ℕ) → Executes sql params old new (Ok count) → Moves schema (sets_of old.now.trees table) q params old new
+  updates means count h =
+      let w = runs_as sql params old new schema has (Update at program) means.is means.plain count h in
+      let made = acts schema params old new has table (Update at program) (statement_of sql (understood schema sql)) count w (λ text out on. rw place at on) in
+      let edit = sets_of old.now.trees table in
+      let it = edits (task_of schema params old table) program params old.now.trees edit (λ rows. (edit rows).news) made.0 made.1 in
+      record { rows = it.0; answer = it.1.answer Null; done = changed (edit it.0) made.0.trees (idle_works schema 0 table.tree _ _ idle) it.2 made.2 w.shown }
+
+  pub deletes : Means schema sql (Delete at program) → (count : ℕ) → Executes sql params old new (Ok count) → Moves schema (drops_of old.now.trees table) q params old new
+  deletes means count h =
+      let w = runs_as sql params old new schema has (Delete at program) means.is means.plain count h in
+      let made = acts schema params old new has table (Delete at program) (statement_of sql (understood schema sql)) count w (λ text out on. rw place at on) in
+      let edit = drops_of old.now.trees table in
+      let it = edits (task_of schema params old table) program params old.now.trees edit (λ rows. taken_by old.now.trees (edit rows)) made.0 made.1 in
+      record { rows = it.0; answer = it.1.answer Null; done = changed (edit it.0) made.0.trees (idle_works schema 0 table.tree (taken_by old.now.trees (edit it.0)) [] idle) it.2 made.2 w.shown }
+
+-- ---- the rows afterwards
+
+-- `p` picks the rows that the query finds
+module _ (schema : Schema) (table : Table) (tests shown : List Term) (params : Row) (old new : State) (low : overlay old.now.trees [] table.tree ≡ old.now.trees table.tree)
+    (id_shown : (r : Row) → id_of (eval_all shown (params ∷ r ∷ [])) ≡ id_of r) (p : Row → Bool)
+    (picks : filter (λ r. list_all (holds (params ∷ r ∷ [])) tests) (old.now.trees table.tree) ≡ filter p (old.now.trees table.tree)) where
   abbrev tree : List Row
   tree = old.now.trees table.tree
 
   abbrev q : Query
   q = plain_query table.tree tests shown []
 
-  abbrev pub picks : Row → Bool
-  picks r = list_all (holds (params ∷ r ∷ [])) tests
+  abbrev test : Row → Bool
+  test r = list_all (holds (params ∷ r ∷ [])) tests
 
-  abbrev row_shown : Row → Row
+  abbrev pub row_shown : Row → Row
   row_shown r = eval_all shown (params ∷ r ∷ [])
 
-  kept : m.answer.kept ≡ map (λ r. output q (params ∷ r ∷ [])) (filter picks tree)
-  kept = kept_are table.tree tests shown [] params old.now.trees (λ r. r) tree (λ r. r) refl low (λ r. cond (picks r) (output q (params ∷ r ∷ []) ∷ []) []) (λ r. refl) picks (λ r. output q (params ∷ r ∷ [])) (λ r. refl) m.rows m.answer
+  pub sources : (rows : List Row) → IsAnswer q (overlay old.now.trees []) params rows → length (filter p tree) ≤ 1 → rows ≡ map row_shown (filter p tree)
+  sources rows answer few =
+      let bag = reads_bag table.tree tests shown [] params old.now.trees (λ r. r) tree (λ r. r) (IsPermutation-refl _) low (λ r. cond (test r) (output q (params ∷ r ∷ []) ∷ []) []) (λ r. refl)
+      test (λ r. output q (params ∷ r ∷ [])) (λ r. refl) rows answer in
+      short_bag rows _ (IsPermutation-sym _ _ bag) (subst (λ (n : ℕ). n ≤ 1) (sym (length-map row_shown (filter test tree) ∙ ap length picks)) few) ∙ ap (map row_shown) picks
 
-  rows_are : (outs : List Output) → m.answer.ordered ≡ outs → m.rows ≡ map (λ (o : Output). o.1) outs
-  rows_are outs is = m.answer.shown ∙ ap (λ os. page q params (map (λ (o : Output). o.1) os)) is
+  module _ (f : Row → Row) (keeps : (r : Row) → id_of (f r) ≡ id_of r) (ints_stay : (r : Row) → IsTrue (is_int (rowid (f r)))) (shaped : IsShaped TableShape tree)
+      (m : Moves schema (sets_of old.now.trees table) q params old new) where
+    pub moved : length (filter p tree) ≤ 1 → ((x : Row) → filter p tree ≡ x ∷ [] → cast_row table (drop 1 (row_shown x)) ≡ f x) → new.now.trees table.tree ≡ update_where p f tree
+    moved few casts = m.done.applies.rows ∙ ap (λ (rows : List Row). edited old.now.trees (sets_of old.now.trees table rows)) (sources m.rows m.answer few) ∙ go (filter p tree) refl few
+      where
+        go : (found : List Row) → filter p tree ≡ found → length found ≤ 1 → edited old.now.trees (sets_of old.now.trees table (map row_shown found)) ≡ update_where p f tree
+        go [] is short = sym (unpicked p f keeps ints_stay tree is)
+        go (x ∷ []) is short = (λ i. put_row (casts x is i) (without_rowid (id_shown x i) tree)) ∙ sets_one p f keeps ints_stay tree x shaped is
+        go (x ∷ y ∷ more) is short = absurd (omega arith)
 
-  no_row : (outs : List Output) → IsPermutation {X = Output} [] outs → outs ≡ []
-  no_row [] h = refl
-  no_row (o ∷ outs) h = absurd (omega (arith, length_permutation _ _ h))
-
-  after : (rows : List Row) → m.rows ≡ rows → new.now.trees table.tree ≡ edited old.now.trees (edit_of old.now.trees table (ids_of rows) Given 1 rows)
-  after rows is = m.applies.rows ∙ ap (λ (rs : List Row). edited old.now.trees (edit_of old.now.trees table (ids_of rs) Given 1 rs)) is
-
-  pub moved : length (filter picks tree) ≤ 1 → ((x : Row) → filter picks tree ≡ x ∷ [] → cast_row table (drop 1 (row_shown x)) ≡ f x) → new.now.trees table.tree ≡ update_where picks f tree
-  moved few casts = go (filter picks tree) refl few
+  pub left : IsShaped TableShape tree → Moves schema (drops_of old.now.trees table) q params old new → length (filter p tree) ≤ 1 → new.now.trees table.tree ≡ delete_where p tree
+  left shaped m few = m.done.applies.rows ∙ ap (λ (rows : List Row). edited old.now.trees (drops_of old.now.trees table rows)) (sources m.rows m.answer few) ∙ go (filter p tree) refl few
     where
-      go : (found : List Row) → filter picks tree ≡ found → length found ≤ 1 → new.now.trees table.tree ≡ update_where picks f tree
-      go [] is short =
-          let none = no_row m.answer.ordered (subst (λ k. IsPermutation k m.answer.ordered) (kept ∙ ap (map (λ r. output q (params ∷ r ∷ []))) is) m.answer.same) in
-          after [] (rows_are [] none) ∙ sym (unpicked picks f keeps ints_stay tree is)
-      go (x ∷ []) is short =
-          let o : Output = output q (params ∷ x ∷ []) in
-          let one = one_permutation o m.answer.ordered (subst (λ k. IsPermutation k m.answer.ordered) (kept ∙ ap (map (λ r. output q (params ∷ r ∷ []))) is) m.answer.same) in
-          after (row_shown x ∷ []) (rows_are (o ∷ []) one) ∙ (λ i. put_row (casts x is i) (without_rowid (id_shown x i) tree)) ∙ sets_one picks f keeps ints_stay tree x shaped is
-      go (x ∷ y ∷ more) is short = absurd (omega arith)
-
-  -- what the query showed, and what was written
-  pub sources : length (filter picks tree) ≤ 1 → m.rows ≡ map row_shown (filter picks tree)
-  sources few = go (filter picks tree) refl few
-    where
-      go : (found : List Row) → filter picks tree ≡ found → length found ≤ 1 → m.rows ≡ map row_shown (filter picks tree)
-      go [] is short = rows_are [] (no_row m.answer.ordered (subst (λ k. IsPermutation k m.answer.ordered) (kept ∙ ap (map (λ r. output q (params ∷ r ∷ []))) is) m.answer.same)) ∙ sym (ap (map row_shown) is)
-      go (x ∷ []) is short =
-          let o : Output = output q (params ∷ x ∷ []) in
-          rows_are (o ∷ []) (one_permutation o m.answer.ordered (subst (λ k. IsPermutation k m.answer.ordered) (kept ∙ ap (map (λ r. output q (params ∷ r ∷ []))) is) m.answer.same)) ∙ sym (ap (map row_shown) is)
+      go : (found : List Row) → filter p tree ≡ found → length found ≤ 1 → edited old.now.trees (drops_of old.now.trees table (map row_shown found)) ≡ delete_where p tree
+      go [] is short = sym (none_dropped p tree is)
+      go (x ∷ []) is short = (λ i. without_rowid (id_shown x i) tree) ∙ drop_one p tree x shaped.1 (ids_rise tree shaped) is
       go (x ∷ y ∷ more) is short = absurd (omega arith)

@@ -5,6 +5,7 @@ use Rattle.sqlite_schema.specs.declared.schema.Kind.{Kind}
 use Rattle.sqlite_schema.specs.declared.schema.Kind.TheVariants as kind
 use Rattle.sqlite_schema.specs.declared.schema.Column.{Column}
 use Rattle.sqlite_sql.specs.Ops.{unary}
+use Rattle.sqlite_keyed.proofs.ListLemmas.{all_both}
 
 pub int_is : (v : Value) → IsTrue (is_int v) → v ≡ Int (id_in v)
 int_is Null h = cc
@@ -21,8 +22,7 @@ below_id a b p q h = lt_from_Less _ _ (sym (value_cmp-Int (id_of a) (id_of b)) �
 
 ids_above : (x : Row) (rows : List Row) → IsTrue (is_int (rowid x)) → AllByRecursion (λ r. IsTrue (is_int (rowid r))) rows → AllByRecursion (λ r. value_cmp (rowid x) (rowid r) ≡ Less) rows
     → AllByRecursion (λ r. id_of x <ℤ id_of r) rows
-ids_above x [] p all up = tt
-ids_above x (r ∷ rows) p all up = (below_id x r p all.0 up.0, ids_above x rows p all.1 up.1)
+ids_above x rows p = all_both (λ (r : Row). IsTrue (is_int (rowid r))) (λ r. value_cmp (rowid x) (rowid r) ≡ Less) (λ r. id_of x <ℤ id_of r) (λ r q. below_id x r p q) rows
 
 pub ids_rise : (rows : List Row) → IsShaped TableShape rows → IsKeyedBy id_of rows
 ids_rise [] h = tt

@@ -1,7 +1,8 @@
 -- Rows as a bag: what a filter, an update and a sort make of the values that they stand for.
-use Rattle.sql_rows.proofs.Common.{◌≡◌, ◌≢◌, ◌≤◌, ℕ, List, [], ◌∷◌, map, filter, length, true, false, Bool, cond, suc, refl, sym, ap, subst₂, ◌∙◌, arith, is_eq, IsPermutation, one_permutation, by, Differ, AllByRecursion, nat_tests, IsPermutation-sym, IsPermutation-map, length_permutation, Row, IsAscending, all-permutation, update_where, map-map, map_same, filter-map, filter_same, all-map, all_unmap, ascending_weaker, IsPermutation-filter}
+use Rattle.sql_rows.proofs.Common.{cases_Bool, inl, inr, ◌≡◌, ◌≢◌, ◌≤◌, ℕ, List, [], ◌∷◌, map, filter, length, false, Bool, cond, suc, refl, sym, ap, subst₂, ◌∙◌, arith, is_eq, IsPermutation, one_permutation, by, Differ, AllByRecursion, nat_tests, IsPermutation-sym, IsPermutation-map, length_permutation, Row, IsAscending, all-permutation, update_where, map-map, map_same, filter-map, filter_same, all-map, all_unmap, ascending_weaker, IsPermutation-filter}
 use Rattle.std.proofs.lemmas.Cmp.{nat_cmp_total, on_total}
 use Rattle.std.specs.Cmp.{IsTotalOrder}
+use Rattle.sqlite_keyed.proofs.ListLemmas.{all_map, all_weaker}
 
 pub length-map : {A B : Type 0} (f : A → B) (l : List A) → length (map f l) ≡ length l
 length-map f [] = refl
@@ -24,27 +25,30 @@ module _ {X : Type 0} (narrow : Row → Row) (columns : X → Row) (test : Row �
   pub as_many : (rows : List Row) (xs : List X) → IsPermutation (map narrow rows) (map columns xs) → length (filter test rows) ≡ length (filter p xs)
   as_many rows xs h = sym (length-map narrow (filter test rows)) ∙ sym (length_permutation _ _ (bag_filter rows xs h)) ∙ length-map columns (filter p xs)
 
-  module _ (f : Row → Row) (set : Row → Row) (g : X → X) (shows : (r : Row) → narrow (f r) ≡ set (narrow r)) (sets : (x : X) → set (columns x) ≡ columns (g x)) where
-    pub bag_update : (rows : List Row) (xs : List X) → IsPermutation (map narrow rows) (map columns xs) → IsPermutation (map narrow (update_where test f rows)) (map columns (update_where p g xs))
-    bag_update rows xs h =
+  module _ (f : Row → Row) (set : Row → Row) (g : X → X) (IsFit : X → Type 0) (shows : (r : Row) → narrow (f r) ≡ set (narrow r)) (sets : (x : X) → IsFit x → set (columns x) ≡ columns (g x)) where
+    -- an update of values is one of their columns
+    updated : (xs : List X) → AllByRecursion IsFit xs → update_where seen set (map columns xs) ≡ map columns (update_where p g xs)
+    updated [] all = refl
+    updated (x ∷ xs) all =
+        let more = updated xs all.1 in
+        elim (cases_Bool (p x)) [ inl hit ↦ rw (tests x, hit) (λ i. sets x all.0 i ∷ more i) | inr miss ↦ rw (tests x, miss) (ap (λ l. columns x ∷ l) more) ]
+
+    pub bag_update : (rows : List Row) (xs : List X) → AllByRecursion IsFit xs → IsPermutation (map narrow rows) (map columns xs)
+        → IsPermutation (map narrow (update_where test f rows)) (map columns (update_where p g xs))
+    bag_update rows xs all h =
         let u : Row → Row = λ vs. cond (seen vs) (set vs) vs in
         let left : map u (map narrow rows) ≡ map narrow (update_where test f rows) = map-map u narrow rows ∙ map_same _ _ one rows ∙ sym (map-map narrow (λ r. cond (test r) (f r) r) rows) in
-        let right : map u (map columns xs) ≡ map columns (update_where p g xs) = map-map u columns xs ∙ map_same _ _ other xs ∙ sym (map-map columns (λ x. cond (p x) (g x) x) xs) in
-        subst₂ IsPermutation left right (IsPermutation-map u _ _ h)
+        subst₂ IsPermutation left (updated xs all) (IsPermutation-map u _ _ h)
       where
         one : (r : Row) → cond (seen (narrow r)) (set (narrow r)) (narrow r) ≡ narrow (cond (test r) (f r) r)
-        one r = ap (λ b. cond b (set (narrow r)) (narrow r)) (sym (sees r)) ∙ go (test r)
-          where
-            go : (b : Bool) → cond b (set (narrow r)) (narrow r) ≡ narrow (cond b (f r) r)
-            go true = sym (shows r)
-            go false = refl
+        one r = elim (cases_Bool (test r)) [ inl hit ↦ rw (← sees r, hit) (sym (shows r)) | inr miss ↦ rw (← sees r, miss) refl ]
 
-        other : (x : X) → cond (seen (columns x)) (set (columns x)) (columns x) ≡ columns (cond (p x) (g x) x)
-        other x = ap (λ b. cond b (set (columns x)) (columns x)) (tests x) ∙ go (p x)
-          where
-            go : (b : Bool) → cond b (set (columns x)) (columns x) ≡ columns (cond b (g x) x)
-            go true = sets x
-            go false = refl
+-- each row stands for some value of which this is so
+pub all_fit : {X : Type 0} (IsFit : X → Type 0) (narrow : Row → Row) (columns : X → Row) (rows : List Row) (xs : List X) → AllByRecursion IsFit xs → IsPermutation (map narrow rows) (map columns xs)
+    → AllByRecursion (λ r. (x : X) × IsFit x × (narrow r ≡ columns x)) rows
+all_fit {X} IsFit narrow columns rows xs all h =
+    let Is : Row → Type 0 = λ vs. (x : X) × IsFit x × (vs ≡ columns x) in
+    all_unmap Is narrow rows (all-permutation Is _ _ (IsPermutation-sym _ _ h) (all_map Is columns xs (all_weaker IsFit (λ x. Is (columns x)) (λ x fit. (x, fit, refl)) xs all)))
 
 -- each row stands for some value
 pub all_typed : {X : Type 0} (narrow : Row → Row) (columns : X → Row) (rows : List Row) (xs : List X) → IsPermutation (map narrow rows) (map columns xs) → AllByRecursion (λ r. (x : X) × (narrow r ≡ columns x)) rows

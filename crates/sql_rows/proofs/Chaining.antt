@@ -1,16 +1,13 @@
 -- Calls inside a transaction, one after another.
-use Rattle.sql_rows.proofs.Common.{Ok, Err, Result, MutBor, ⊤, IfOk, Ghosts, Held, state, State, HasCleanDisk, StaysInside, StaysWithin, DoesInside, DoesWithin}
-use Rattle.sql_rows.proofs.Stays.{clean_within, within_as, within_of, within_then}
+use Rattle.std.specs.Prelude.{IsErr}
+use Rattle.sql_rows.proofs.Common.{Ok, Err, Result, MutBor, ⊤, IfOk, IfOk-weaker, refl, false≢true, Ghosts, Held, state, State, HasCleanDisk, StaysInside, StaysWithin, DoesInside, DoesWithin}
+use Rattle.sql_rows.proofs.Stays.{clean_within, inside_as, inside_err, inside_then, within_as, within_of, within_then}
 
 -- what calls that were well leave, and what they say over a disk that did as it was told
 pub record Calls {S : Type 0} (g : Ghosts S) (a b : MutBor (Held S)) : Type 1 where
   pub Said : Type 0
   pub inside : StaysWithin {X = ⊤} {E = ⊤} g a b (Ok tt)
   pub said : HasCleanDisk (state g b.now) → Said
-
-said_then : {X E : Type 0} (r : Result X E) (P Q : X → Type 0) → ((x : X) → P x → Q x) → IfOk r P → IfOk r Q
-said_then (Ok x) P Q more said = more x said
-said_then (Err e) P Q more said = tt
 
 module _ {S : Type 0} {g : Ghosts S} {a b : MutBor (Held S)} where
   -- a call with two clauses
@@ -34,15 +31,64 @@ module _ {S : Type 0} {g : Ghosts S} {a b : MutBor (Held S)} where
       → DoesWithin {X = Y} {E = F} g a b (Ok y) Q
   done calls more = record { inside = within_as calls.inside; says = λ clean. more (calls.said clean) }
 
-  -- calls, and then one whose result is the result
-  pub and_last : {c : MutBor (Held S)} {Y F : Type 0} {r : Result Y F} {P : Y → Type 0} {Q : Y → State → State → Type 0} (calls : Calls g a b) → StaysInside g b c r
-      → (HasCleanDisk (state g c.now) → IfOk r P) → (calls.Said → (y : Y) → P y → Q y (state g a.now) (state g c.now)) → DoesWithin g a c r Q
-  and_last {r = r} calls stays says more = record {
-    inside = within_then calls.inside (within_of stays);
-    says = λ clean. said_then r _ _ (more (calls.said (clean_within (within_of stays) clean))) (says clean);
-  }
-
   -- with what follows of what was said
   pub does_such : {X E : Type 0} {r : Result X E} {P Q : X → State → State → Type 0} → DoesWithin g a b r P
       → ((x : X) (old new : State) → P x old new → Q x old new) → DoesWithin g a b r Q
-  does_such {r = r} one more = record { inside = one.inside; says = λ clean. said_then r _ _ (λ x. more x (state g a.now) (state g b.now)) (one.says clean) }
+  does_such {r = r} one more = record { inside = one.inside; says = λ clean. IfOk-weaker r _ _ (λ x. more x (state g a.now) (state g b.now)) (one.says clean) }
+
+  -- the same of one call that tells it of what it gave alone
+  pub does_so : {X E : Type 0} {r : Result X E} {P : X → Type 0} {Q : X → State → State → Type 0} → StaysInside g a b r
+      → (HasCleanDisk (state g b.now) → IfOk r P) → ((x : X) → P x → Q x (state g a.now) (state g b.now)) → DoesInside g a b r Q
+  does_so {r = r} stays tells more = record { inside = stays; says = λ clean. IfOk-weaker r _ _ more (tells clean) }
+
+  -- a call of which nothing is asked but that it stays
+  pub only_stays : {X E : Type 0} {r : Result X E} → StaysInside g a b r → DoesInside g a b r (λ _ _ _. ⊤)
+  only_stays {r = Ok x} stays = record { inside = stays; says = λ clean. tt }
+  only_stays {r = Err e} stays = record { inside = stays; says = λ clean. tt }
+
+  -- after a fault there is nothing to say
+  pub err_inside : {X E Y F : Type 0} {s : Result X E} {Q : Y → State → State → Type 0} (r : Result Y F) → IsErr r → StaysInside g a b s → DoesInside g a b r Q
+  err_inside (Ok y) is stays = absurd (false≢true is)
+  err_inside (Err e) is stays = record { inside = inside_err stays refl; says = λ clean. tt }
+
+  -- calls, and then a result that is made of what they say
+  pub and_told : {Y F : Type 0} {r : Result Y F} {P : Y → Type 0} {Q : Y → State → State → Type 0} (calls : Calls g a b) → IfOk r P
+      → (calls.Said → (y : Y) → P y → Q y (state g a.now) (state g b.now)) → DoesWithin g a b r Q
+  and_told {r = r} calls told more = record { inside = within_as calls.inside; says = λ clean. IfOk-weaker r _ _ (more (calls.said clean)) told }
+
+  -- calls, and then some whose result is the result
+  pub and_more : {c : MutBor (Held S)} {Y F : Type 0} {r : Result Y F} {P Q : Y → State → State → Type 0} (calls : Calls g a b) → DoesWithin g b c r P
+      → (calls.Said → (y : Y) → P y (state g b.now) (state g c.now) → Q y (state g a.now) (state g c.now)) → DoesWithin g a c r Q
+  and_more {r = r} calls last more = record {
+    inside = within_then calls.inside last.inside;
+    says = λ clean. IfOk-weaker r _ _ (more (calls.said (clean_within last.inside clean))) (last.says clean);
+  }
+
+  -- calls, and then one with two clauses
+  pub and_last : {c : MutBor (Held S)} {Y F : Type 0} {r : Result Y F} {P : Y → Type 0} {Q : Y → State → State → Type 0} (calls : Calls g a b) → StaysInside g b c r
+      → (HasCleanDisk (state g c.now) → IfOk r P) → (calls.Said → (y : Y) → P y → Q y (state g a.now) (state g c.now)) → DoesWithin g a c r Q
+  and_last {P = P} calls stays says more = and_more {P = λ y _ _. P y} calls (record { inside = within_of stays; says = says }) more
+
+-- a call that was answered, which shows that the transaction was open
+module _ {S X E : Type 0} {g : Ghosts S} {a b : MutBor (Held S)} {x : X} {P : X → State → State → Type 0} (one : DoesInside {E = E} g a b (Ok x) P) where
+  -- then some whose result is the result
+  pub first_last : {c : MutBor (Held S)} {Y F : Type 0} {r : Result Y F} {R Q : Y → State → State → Type 0} → DoesWithin g b c r R
+      → (P x (state g a.now) (state g b.now) → (y : Y) → R y (state g b.now) (state g c.now) → Q y (state g a.now) (state g c.now)) → DoesInside g a c r Q
+  first_last {r = r} rest more = record {
+    inside = inside_then one.inside rest.inside;
+    says = λ clean. IfOk-weaker r _ _ (more (one.says (clean_within rest.inside clean))) (rest.says clean);
+  }
+
+  -- then one more, with what both say
+  pub then_does : {Y F : Type 0} {c : MutBor (Held S)} {r : Result Y F} {R : Y → State → State → Type 0} → DoesInside g b c r R
+      → DoesInside g a c r (λ y _ _. P x (state g a.now) (state g b.now) × R y (state g b.now) (state g c.now))
+  then_does {R = R} two = first_last {R = R} (record { inside = within_of two.inside; says = two.says }) (λ said y also. (said, also))
+
+  -- and so is the result
+  pub done_inside : {Y F : Type 0} {y : Y} {Q : Y → State → State → Type 0} → (P x (state g a.now) (state g b.now) → Q y (state g a.now) (state g b.now)) → DoesInside {E = F} g a b (Ok y) Q
+  done_inside more = record { inside = inside_as one.inside; says = λ clean. more (one.says clean) }
+
+  -- then others, and so is the result
+  pub first_done : {c : MutBor (Held S)} {Y F : Type 0} {y : Y} {Q : Y → State → State → Type 0} (calls : Calls g b c)
+      → (P x (state g a.now) (state g b.now) → calls.Said → Q y (state g a.now) (state g c.now)) → DoesInside {X = Y} {E = F} g a c (Ok y) Q
+  first_done calls more = record { inside = inside_then one.inside (within_as calls.inside); says = λ clean. more (one.says (clean_within calls.inside clean)) (calls.said clean) }

@@ -1,11 +1,10 @@
 -- What a DELETE of at most one row makes of the books.
-use Rattle.sql_rows.proofs.Common.{◌≡◌, ◌≤◌, ℕ, List, [], ◌∷◌, map, not, slice_get, true, Bool, Some, Ok, sym, ap, subst, list_all, Row, Trees, Enforced, Term, eval_all, holds, overlay, Schema, Table, Delete, State, ExecutesInside, delete_where, Means, HasRows, SameBut, columns_of, PicksOne, IsOf, Changes}
+use Rattle.sql_rows.proofs.Common.{◌≡◌, ◌≤◌, ℕ, List, [], ◌∷◌, map, not, slice_get, true, Bool, Some, Ok, refl, sym, ap, subst, list_all, Row, Trees, Enforced, Term, eval_all, holds, overlay, Schema, Table, Delete, State, ExecutesInside, delete_where, Means, HasRows, SameBut, columns_of, PicksOne, IsOf, Changes}
 use Rattle.sql_rows.proofs.Appends.{id_of}
 use Rattle.sql_rows.proofs.Keyed.{keyed_at, applies_keyed}
 use Rattle.sql_rows.proofs.Queries.{plain_query}
 use Rattle.sql_rows.proofs.Bags.{as_many, bag_filter}
-use Rattle.sql_rows.proofs.Alters.{are_idle}
-use Rattle.sql_rows.proofs.Deletes.{deletes, left}
+use Rattle.sql_rows.proofs.Alters.{are_idle, deletes, left}
 
 -- `seen` is the filter, written over the columns; `tests_are` says that of a value's columns it is `p`
 module _ {B X : Type 0} (schema : Schema) (Stands : Trees → B → Type 0) (sql : List ℕ) (at : ℕ) (table : Table) (width : ℕ) (tests shown : List Term) (params : Row)
@@ -24,14 +23,14 @@ module _ {B X : Type 0} (schema : Schema) (Stands : Trees → B → Type 0) (sql
       → (Given : B → Type 0) (change : B → B) → ((books : B) → SameBut schema table.tree old.now.trees new.now.trees → Stands old.now.trees books → Given books → DropsRows → Stands new.now.trees (change books))
       → Changes schema Stands old new Given change
   drops_row means place idle count h low sees id_shown Given change drop =
-      let m = deletes schema sql params old new has at table (plain_query table.tree tests shown []) means place idle count h.0 in
+      let m = deletes schema sql params old new has at table (plain_query table.tree tests shown []) place idle means count h.0 in
       record {
-        schema_is = m.schema_is;
-        keyed = applies_keyed schema Enforced old.now.trees new.now.trees _ at place m.applies;
-        books = λ keyed books s given. drop books m.applies.tables s given (λ xs s few.
+        schema_is = m.done.schema_is;
+        keyed = applies_keyed schema Enforced old.now.trees new.now.trees _ at place m.done.applies;
+        books = λ keyed books s given. drop books m.done.applies.tables s given (λ xs s few.
             let tree = old.now.trees table.tree in
             let short = subst (λ (k : ℕ). k ≤ 1) (sym (as_many (columns_of width) columns test seen p sees tests_are tree xs s)) few in
-            let is = left schema table tests shown params old new m low (keyed_at schema old.now.trees at table place keyed) id_shown short in
+            let is = left schema table tests shown params old new low id_shown test refl (keyed_at schema old.now.trees at table place keyed) m short in
             subst (λ (es : List Row). HasRows width es (map columns (delete_where p xs))) (sym is)
             (bag_filter (columns_of width) columns (λ r. not (test r)) (λ vs. not (seen vs)) (λ x. not (p x)) (λ r. ap not (sees r)) (λ x. ap not (tests_are x)) tree xs s));
         shows = h.1;

@@ -1,33 +1,12 @@
 -- What an INSERT of the rows that a query shows does, in any schema, and what one CREATE TABLE does among tables that have rows.
-use Rattle.sql_rows.proofs.Common.{◌≡◌, ℕ, List, [], ◌∷◌, ◌++◌, map, append_assoc, append-nil, false, true, None, Ok, sym, ap, subst, ◌∙◌, IsPermutation, if◌then◌else◌, AllByRecursion, and_parts, not-true, IsPermutation-sym, IsPermutation-cons, IsPermutation-trans, IsPermutation-map, IsPermutation-to_front, Value, Null, Int, Row, Trees, put_row, Schema, Table, Enforced, Program, Insert, CreateTable, Rowids, Chosen, edit_of, Applies, next_rowid, with_rowid, numbered, are_fresh, put_all, cast, cast_row, created, next_tree, Database, Answers, Task, Written, Inserts, Edited, stamped, rowids_for, count_of, no_works, Tally, Does, OnRows, lacks_sequence, State, mode_of, Shows, Writes, Executes, Means, Makes, statement_of, runs_as, one_step, HasRows, columns_of}
+use Rattle.sql_rows.proofs.Common.{◌≡◌, ℕ, List, [], ◌∷◌, ◌++◌, map, append_assoc, append-nil, false, true, None, Ok, sym, ap, subst, ◌∙◌, if◌then◌else◌, AllByRecursion, and_parts, Value, Null, Int, Row, put_row, Schema, Table, Enforced, Program, Insert, CreateTable, Chosen, edit_of, Applies, next_rowid, with_rowid, numbered, are_fresh, put_all, cast, cast_row, created, next_tree, Database, Answers, Tally, lacks_sequence, State, Shows, Writes, Executes, Means, Makes, runs_as, HasRows, columns_of}
 use Rattle.sqlite_schema.specs.declared.schema.Kind.TheVariants as kind
 use Rattle.sqlite.specs.Source.TheVariants.{Query}
-use Rattle.sqlite.specs.Listing.{understood}
 use Rattle.sql_rows.proofs.Appends.{are_kept, cast_null, cast_all_kept}
-use Rattle.sql_rows.proofs.Keyed.{put_bag}
-use Rattle.sql_rows.proofs.Puts.{IsPlainTable, went, same_value, concluded, chosen_if, counted_if}
-use Rattle.sql_rows.proofs.PutsRow.{numbered_row}
+use Rattle.sql_rows.proofs.Keyed.{put_last}
+use Rattle.sql_rows.proofs.Puts.{IsPlainTable, Puts, went, same_value, puts_in}
 
 -- ---- the rows of a query
-
-module _ (task : Task) (q : Program) (db : Trees) (w : Written) (uncounted : task.table.is_counted ≡ false) (unstamped : task.table.stamps.terms ≡ []) where
-  pub filled : Inserts task (Query q) db (Ok w)
-      → (rows : List Row) × Answers (record { schema = task.schema; trees = db }) q task.params rows × Edited task.schema task.keys db (edit_of db task.table [] Chosen 0 rows) (Ok w.trees)
-  filled h =
-      let made = went h in
-      let counter = went made.2 in
-      let edited = went counter.2 in
-      let counted = went edited.2 in
-      let table = task.table in
-      let source : stamped table task.params ≡ task.params = rw (unstamped, append-nil) in
-      let chosen : rowids_for table (count_of counter.0) ≡ Chosen = chosen_if table _ uncounted in
-      let same : counted.0 ≡ edited.0 = counted_if task edited.0 counted.0 counter.0 _ uncounted counted.1 in
-      let trees : w.trees ≡ edited.0 = ap (λ (it : Written). it.trees) (same_value counted.2) ∙ same in
-      let plain : Edited task.schema task.keys db (edit_of db table [] Chosen 0 made.0) (Ok edited.0) = subst (λ (ids : Rowids). Edited task.schema task.keys db (edit_of db table [] ids 0 made.0) (Ok edited.0)) chosen edited.1 in (
-        made.0,
-        subst (λ (p : Row). Answers (record { schema = task.schema; trees = db }) q p made.0) source made.1,
-        subst (λ (t : Trees). Edited task.schema task.keys db (edit_of db table [] Chosen 0 made.0) (Ok t)) (sym trees) plain,
-      )
 
 pub record Fills (schema : Schema) (table : Table) (q : Program) (params : Row) (old new : State) : Type 0 where
   pub rows : List Row
@@ -40,23 +19,8 @@ module _ (schema : Schema) (sql : List ℕ) (params : Row) (old new : State) (ha
     (means : Means schema sql (Insert at (Query q))) (plain : IsPlainTable schema at table) where
   pub fills : (count : ℕ) → Executes sql params old new (Ok count) → Fills schema table q params old new
   fills count h =
-      let w = runs_as sql params old new schema has (Insert at (Query q)) means.is means.plain count h in
-      let text = statement_of sql (understood schema sql) in
-      let placed = subst (λ s. Does old.step_limit (mode_of old) params (record old.now { schema = s }) text None (Insert at (Query q)) (Ok (w.tally, new.now))) has w.changed in
-      let task : Task = record { limit = old.step_limit; keys = Enforced; schema = schema; table = table; params = params } in
-      let on : OnRows task (mode_of old) None (Insert at (Query q)) old.now.trees (Ok (w.tally, new.now)) = rw plain.place at placed in
-      let done = went on in
-      let end = concluded task (mode_of old) done.0 w.tally new.now done.2 in
-      let all = filled task q old.now.trees done.0 plain.uncounted plain.unstamped done.1 in
-      let edit = edit_of old.now.trees table [] Chosen 0 all.0 in
-      let applied = one_step schema Enforced old.now.trees done.0.trees edit (no_works schema Enforced 0 table.tree edit.news) all.2 in
-      record {
-        rows = all.0;
-        answer = all.1;
-        schema_is = ap (λ (d : Database). d.schema) end;
-        applies = subst (λ t. Applies schema Enforced old.now.trees edit t) (sym (ap (λ (d : Database). d.trees) end)) applied;
-        shows = w.shown;
-      }
+      let it = puts_in schema sql params old new has at table (Query q) means plain count h in
+      record { rows = it.0; answer = it.1; schema_is = it.2.schema_is; applies = it.2.applies; shows = it.2.shows }
 
 -- ---- what that makes of the table's rows
 
@@ -64,6 +28,9 @@ module _ (schema : Schema) (sql : List ℕ) (params : Row) (old new : State) (ha
 pub record Kept (table : Table) (width : ℕ) (values : Row) : Type 0 where
   pub kept : are_kept table.columns values ≡ true
   pub wide : (id : Value) → columns_of width (id ∷ values) ≡ values
+
+pub numbered_row : (rows : List Row) (id : Value) (values : Row) → id ≡ Null → with_rowid Chosen rows (id ∷ values) ≡ Int (next_rowid rows) ∷ values
+numbered_row rows id values none = rw none
 
 abbrev sources : List Row → List Row
 sources all = map (λ (values : Row). Null ∷ values) all
@@ -81,24 +48,26 @@ module _ (table : Table) (width : ℕ) where
       let P : Row → Type 0 = λ r. are_fresh tree (r ∷ numbered Chosen (put_row r tree) (map (cast_row table) (sources all))) ≡ true in
       let is_fresh : P written = subst P row fresh in
       let parts = and_parts _ (are_fresh (put_row written tree) (news (put_row written tree) all)) is_fresh in
-      let free = not-true _ parts.0 in
-      let bag : IsPermutation (map (columns_of width) (put_row written tree)) (columns_of width written ∷ map (columns_of width) tree) = IsPermutation-map (columns_of width) _ _ (IsPermutation-sym _ _ (put_bag written tree free)) in
-      let one : IsPermutation (columns_of width written ∷ map (columns_of width) tree) (values ∷ rows) =
-      subst (λ (vs : Row). IsPermutation (columns_of width written ∷ map (columns_of width) tree) (vs ∷ rows)) (kept.0.wide (Int (next_rowid tree))) (IsPermutation-cons _ _ _ has) in
-      let now : HasRows width (put_row written tree) (rows ++ values ∷ []) =
-      IsPermutation-trans _ _ _ bag (IsPermutation-trans _ _ _ one (IsPermutation-sym _ _ (IsPermutation-to_front rows values))) in
+      let now : HasRows width (put_row written tree) (rows ++ values ∷ []) = put_last width tree rows written values (rw parts.0) (kept.0.wide (Int (next_rowid tree))) has in
       let more = put_bags all (put_row written tree) (rows ++ values ∷ []) kept.1 parts.1 now in
       let Q : Row → Type 0 = λ r. HasRows width (put_all (put_row r tree) (numbered Chosen (put_row r tree) (map (cast_row table) (sources all)))) (rows ++ values ∷ all) in
       subst Q (sym row) (subst (HasRows width (put_all (put_row written tree) (news (put_row written tree) all))) (append_assoc rows (values ∷ []) all) more)
 
--- The query showed these values, each behind a rowid that is to be chosen.
+module _ (schema : Schema) (table : Table) (old new : State) (width : ℕ) (all rows : List Row) where
+  -- the edit puts these values, each behind a rowid that is to be chosen
+  edit_values : Applies schema Enforced old.now.trees (edit_of old.now.trees table [] Chosen 0 (sources all)) new.now.trees → AllByRecursion (Kept table width) all → HasRows width (old.now.trees table.tree) rows
+      → HasRows width (new.now.trees table.tree) (rows ++ all)
+  edit_values applies kept has = subst (λ (es : List Row). HasRows width es (rows ++ all)) (sym applies.rows) (put_bags table width all (old.now.trees table.tree) rows kept applies.fresh has)
+
 pub fills_values : (schema : Schema) (table : Table) (q : Program) (params : Row) (old new : State) (width : ℕ) (all rows : List Row) → (it : Fills schema table q params old new)
     → it.rows ≡ map (λ (values : Row). Null ∷ values) all → AllByRecursion (Kept table width) all → HasRows width (old.now.trees table.tree) rows → HasRows width (new.now.trees table.tree) (rows ++ all)
-fills_values schema table q params old new width all rows it is kept has =
-    let tree = old.now.trees table.tree in
-    let Made : List Row → Type 0 = λ rs. (are_fresh tree (numbered Chosen tree (map (cast_row table) rs)) ≡ true) × (new.now.trees table.tree ≡ put_all tree (numbered Chosen tree (map (cast_row table) rs))) in
-    let made : Made (sources all) = subst Made is (it.applies.fresh, it.applies.rows) in
-    subst (λ (es : List Row). HasRows width es (rows ++ all)) (sym made.1) (put_bags table width all tree rows kept made.0 has)
+fills_values schema table q params old new width all rows it is =
+    edit_values schema table old new width all rows (subst (λ (rs : List Row). Applies schema Enforced old.now.trees (edit_of old.now.trees table [] Chosen 0 rs) new.now.trees) is it.applies)
+
+-- Nothing is asked of the rowids: the row that was written has one that no row had.
+pub puts_values : (schema : Schema) (table : Table) (values : Row) (old new : State) (width : ℕ) (rows : List Row) → Puts schema table (Null ∷ values) old new
+    → are_kept table.columns values ≡ true → ((id : Value) → columns_of width (id ∷ values) ≡ values) → HasRows width (old.now.trees table.tree) rows → HasRows width (new.now.trees table.tree) (rows ++ values ∷ [])
+puts_values schema table values old new width rows put kept wide = edit_values schema table old new width (values ∷ []) rows put.applies (record { kept = kept; wide = wide }, tt)
 
 -- ---- a new table beside others
 

@@ -1,24 +1,11 @@
 -- What a join of tables shows, where each table's rows stand for values in any order. Nothing is asked of the rowids.
-use Rattle.sql_rows.proofs.Common.{◌≡◌, ◌≤◌, ◌==◌, ◌&&◌, ℕ, pos, negsuc, zero, suc, List, [], ◌∷◌, ◌++◌, map, filter, length, true, false, Bool, cond, None, refl, sym, ap, subst, ◌∙◌, arith, add-one, is_eq, is_lt, IsPermutation, IsSorted, inl, inr, flat_map, list_all, IsPermutation-refl, IsPermutation-sym, IsPermutation-trans, length_permutation, Value, Null, Int, Row, column, Key, Binary, Trees, IsAscending, Compare, Eq, is_true, Term, Env, lit, op2, holds, Query, Join, inner, left, end, counted, made, folded, matches, or_nulls, IsAnswer, Output, output, output_cmp, page, overlay, output_cmp_total, sort_by, map-flat_map, flat_map-map, flat_map_same_on, IsPermutation-flat_map, IsPermutation-flat_map_each, ascending_weaker, sorted_is-sort_by, HasRows, columns_of, PicksOne, number_value}
+use Rattle.sql_rows.proofs.Common.{◌≡◌, ◌≤◌, ◌==◌, ◌&&◌, ℕ, zero, suc, List, [], ◌∷◌, ◌++◌, map, filter, length, true, false, Bool, refl, sym, ap, subst, ◌∙◌, arith, add-one, is_eq, is_lt, IsPermutation, IsSorted, inl, inr, flat_map, IsPermutation-refl, IsPermutation-sym, IsPermutation-trans, length_permutation, Value, Null, Row, column, Key, Binary, Trees, IsAscending, Compare, Eq, is_true, Term, op2, Query, Join, inner, or_nulls, IsAnswer, Output, output_cmp, page, overlay, output_cmp_total, sort_by, flat_map-map, flat_map_same_on, IsPermutation-flat_map, ascending_weaker, sorted_is-sort_by, HasRows, columns_of, PicksOne, number_value}
 use Rattle.std.specs.Prelude.{◌⊎◌}
 use Rattle.sqlite_sql.specs.Ops.{binary}
-use Rattle.sqlite_sql.specs.Query.{first}
+pub use Rattle.sql_rows.proofs.Queries.{joined_query, shown_of}
+use Rattle.sql_rows.proofs.Queries.{answer_bag}
 use Rattle.sql_rows.proofs.Bags.{bag_filter, short_bag, length-map}
 use Rattle.sql_rows.proofs.ColumnTests.{one_tested, two_tested, number_tested}
-
--- SELECT terms FROM tables WHERE terms ORDER BY terms
-abbrev pub joined_query : Join → List Term → List Term → List (Term × Key) → Query
-joined_query from tests shown order = record {
-  from = from;
-  filter = tests;
-  group = None;
-  project = shown;
-  distinct = false;
-  collations = [];
-  order = order;
-  limit = lit (Int (negsuc 0));
-  offset = lit (Int (pos 0));
-}
 
 abbrev pub are_equal : Term → Term → Term
 are_equal a b = op2 (Compare Eq Binary) a b
@@ -132,31 +119,6 @@ module _ {Y Z : Type 0} (width : ℕ) (columns : Y → Row) (tree : List Row) (y
         never true y h = ap (λ t. t && true) h
         never false y h = refl
 
--- ---- what the matches show
-
--- what the rows of the tables so far bring to the answer, as tables are joined by JOIN and LEFT JOIN
-abbrev pub shown_of : Query → Trees → Join → Env → List Output
-shown_of q db end env = cond (list_all (holds env) q.filter) (output q env ∷ []) []
-shown_of q db (inner t more) env = flat_map (λ r. shown_of q db more (env ++ r ∷ [])) (db t)
-shown_of q db (left t on more) env = flat_map (λ r. shown_of q db more (env ++ r ∷ [])) (or_nulls (filter (λ r. list_all (holds (env ++ r ∷ [])) on) (db t)))
-shown_of q db other env = map (output q) (matches db q.filter other env)
-
-pub shown_is : (q : Query) (db : Trees) (from : Join) (env : Env) → map (output q) (matches db q.filter from env) ≡ shown_of q db from env
-shown_is q db end env = one_output (output q) (list_all (holds env) q.filter) env
-  where
-    one_output : {X Y : Type 0} (f : X → Y) (b : Bool) (x : X) → map f (cond b (x ∷ []) []) ≡ cond b (f x ∷ []) []
-    one_output f true x = refl
-    one_output f false x = refl
-shown_is q db (inner t more) env =
-    map-flat_map (output q) (λ r. matches db q.filter more (env ++ r ∷ [])) (db t) ∙ flat_map_same_on _ (λ r. shown_of q db more (env ++ r ∷ [])) (λ r. shown_is q db more (env ++ r ∷ [])) (db t)
-shown_is q db (left t on more) env =
-    map-flat_map (output q) (λ r. matches db q.filter more (env ++ r ∷ [])) (or_nulls (filter (λ r. list_all (holds (env ++ r ∷ [])) on) (db t)))
-    ∙ flat_map_same_on _ (λ r. shown_of q db more (env ++ r ∷ [])) (λ r. shown_is q db more (env ++ r ∷ [])) (or_nulls (filter (λ r. list_all (holds (env ++ r ∷ [])) on) (db t)))
-shown_is q db (counted cap from test more) env = refl
-shown_is q db (made m more) env = refl
-shown_is q db (folded from test all more) env = refl
-shown_is q db (first from test order shown more) env = refl
-
 -- ---- the first table, and the order
 
 -- each pair of which one is earlier is in order and no tie
@@ -179,21 +141,8 @@ module _ {X : Type 0} (tree : ℕ) (more : Join) (tests shown : List Term) (orde
   brings r = shown_of asked (overlay db []) more (params ∷ r ∷ [])
 
   module _ (only : (r : Row) → brings r ≡ brings (Null ∷ columns_of width r)) (outs : X → List Output) (picks : (x : X) → IsPermutation (brings (Null ∷ columns x)) (outs x)) where
-    abbrev sees : Row → List Output
-    sees vs = brings (Null ∷ vs)
-
     pub joined_bag : (rows : List Row) (a : IsAnswer asked (overlay db []) params rows) → IsPermutation (flat_map outs xs) a.ordered
-    joined_bag rows a =
-        let seen : a.kept ≡ flat_map sees (map (columns_of width) (db tree)) =
-        a.distinct ∙ ap (map (output asked)) a.grouped
-        ∙ shown_is asked (overlay db []) (inner tree more) (params ∷ [])
-        ∙ ap (flat_map brings) low
-        ∙ flat_map_same_on brings (λ r. sees (columns_of width r)) only (db tree)
-        ∙ sym (flat_map-map sees (columns_of width) (db tree)) in
-        let each : IsPermutation (flat_map sees (map columns xs)) (flat_map outs xs) =
-        subst (λ l. IsPermutation l (flat_map outs xs)) (sym (flat_map-map sees columns xs)) (IsPermutation-flat_map_each (λ x. sees (columns x)) outs picks xs) in
-        let same : IsPermutation (flat_map sees (map (columns_of width) (db tree))) (flat_map outs xs) = IsPermutation-trans _ _ _ (IsPermutation-flat_map sees _ _ has) each in
-        IsPermutation-trans _ _ _ (IsPermutation-sym _ _ same) (subst (λ k. IsPermutation k a.ordered) seen a.same)
+    joined_bag rows a = answer_bag tree more tests shown order params db columns xs (columns_of width) has low (λ vs. brings (Null ∷ vs)) only outs picks rows a
 
     -- a list of the same outputs that has the order of ORDER BY, and no tie, is what is shown
     pub joined_rows : (rows : List Row) → IsAnswer asked (overlay db []) params rows → (target : List Output) → IsPermutation (flat_map outs xs) target → Climbs asked target → rows ≡ map (λ (o : Output). o.1) target

@@ -1,8 +1,9 @@
 -- What an edit of a table does to its rows and its rowids.
-use Rattle.sql_rows.proofs.Common.{◌≡◌, ◌≢◌, ◌&&◌, ◌||◌, ℕ, ℤ, List, [], ◌∷◌, not, true, false, Bool, Some, slice_get, inl, inr, refl, sym, subst, Ordering, Less, Equal, Greater, is_eq, IsPermutation, AllByRecursion, match_ordering, cases_eq, and_parts, IsPermutation-refl, IsPermutation-cons, IsPermutation-trans, IsPermutation-middle, Row, value_cmp, Trees, rowid, put_row, without_rowid, has_rowid, IsShaped, is_int, Schema, Table, Edit, Applies, edited, left_by, without_all, put_all, is_taken, are_fresh, have_rowids, all-slice_get, AreKeyed}
+use Rattle.sql_rows.proofs.Common.{HasRows, columns_of, map, ◌++◌, IsPermutation-map, IsPermutation-sym, IsPermutation-to_front, ◌≡◌, ◌≢◌, ◌&&◌, ◌||◌, ℕ, ℤ, List, [], ◌∷◌, not, true, false, Bool, Some, slice_get, inl, inr, refl, sym, subst, Ordering, Less, Equal, Greater, is_eq, IsPermutation, AllByRecursion, match_ordering, cases_eq, and_parts, IsPermutation-refl, IsPermutation-cons, IsPermutation-trans, IsPermutation-middle, Row, value_cmp, Trees, rowid, put_row, without_rowid, has_rowid, IsShaped, is_int, Schema, Table, Edit, Applies, edited, left_by, without_all, put_all, is_taken, are_fresh, have_rowids, all-slice_get, AreKeyed}
 use Rattle.sqlite_trees.specs.declared.store.Shape.TheVariants.{Table as TableShape}
 use Rattle.sqlite_trees.proofs.TreeLemmas.{IsShaped-put_row, IsShaped-filter}
 use Rattle.sqlite_schema.specs.declared.schema.Keys.{Keys}
+use Rattle.sqlite_keyed.proofs.ListLemmas.{all_both}
 
 -- ---- a row with a rowid of its own takes no other row's place, in whatever order the rows stand
 
@@ -20,8 +21,12 @@ untaken : (b : Bool) → (not b && true) ≡ true → b ≡ false
 untaken true h = cc
 untaken false h = refl
 
-pub fresh_one : (rows : List Row) (new : Row) → are_fresh rows (new ∷ []) ≡ true → is_taken rows new ≡ false
-fresh_one rows new h = untaken (is_taken rows new) h
+-- a row that is new comes last among what the rows stand for
+pub put_last : (width : ℕ) (tree rows : List Row) (new values : Row) → are_fresh tree (new ∷ []) ≡ true → columns_of width new ≡ values → HasRows width tree rows → HasRows width (put_row new tree) (rows ++ values ∷ [])
+put_last width tree rows new values fresh is has =
+    let bag = IsPermutation-map (columns_of width) _ _ (IsPermutation-sym _ _ (put_bag new tree (untaken (is_taken tree new) fresh))) in
+    let first : IsPermutation (columns_of width new ∷ map (columns_of width) tree) (values ∷ rows) = subst (λ (vs : Row). IsPermutation (columns_of width new ∷ map (columns_of width) tree) (vs ∷ rows)) is (IsPermutation-cons _ _ _ has) in
+    IsPermutation-trans _ _ _ bag (IsPermutation-trans _ _ _ first (IsPermutation-sym _ _ (IsPermutation-to_front rows values)))
 
 -- ---- the rowids go on rising
 
@@ -35,11 +40,9 @@ put_shaped (new ∷ news) rows keyed h = let k = and_parts (is_int (rowid new)) 
 
 all_but : (at : ℕ) (old new : Trees) (tables : List Table) → AllByRecursion (λ t. t.tree ≢ at → new t.tree ≡ old t.tree) tables → IsShaped TableShape (new at)
     → AllByRecursion (λ t. IsShaped TableShape (old t.tree)) tables → AllByRecursion (λ t. IsShaped TableShape (new t.tree)) tables
-all_but at old new [] same here h = tt
-all_but at old new (t ∷ ts) same here h = (
-  elim (cases_eq t.tree at) [ inl e ↦ subst (λ k. IsShaped TableShape (new k)) (sym e) here | inr other ↦ subst (IsShaped TableShape) (sym (same.0 other)) h.0 ],
-  all_but at old new ts same.1 here h.1,
-)
+all_but at old new tables same here =
+    all_both (λ (t : Table). t.tree ≢ at → new t.tree ≡ old t.tree) (λ t. IsShaped TableShape (old t.tree)) (λ t. IsShaped TableShape (new t.tree))
+    (λ t stays was. elim (cases_eq t.tree at) [ inl e ↦ subst (λ k. IsShaped TableShape (new k)) (sym e) here | inr other ↦ subst (IsShaped TableShape) (sym (stays other)) was ]) tables same
 
 pub keyed_at : (schema : Schema) (trees : Trees) (at : ℕ) (table : Table) → slice_get schema.tables at ≡ Some table → AreKeyed schema trees → IsShaped TableShape (trees table.tree)
 keyed_at schema trees at table place h = all-slice_get (λ t. IsShaped TableShape (trees t.tree)) schema.tables at table place h

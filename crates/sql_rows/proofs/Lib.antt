@@ -2,13 +2,12 @@ pub mod Common
 pub mod Appends
 pub mod Keyed
 pub mod Puts
-pub mod PutsRow
 pub mod Queries
 pub mod Bags
 pub mod Sets
 pub mod Alters
 pub mod Showing
-pub mod Deletes
+pub mod Picked
 pub mod Creates
 pub mod Inside
 pub mod Whole

@@ -9,6 +9,7 @@ use Rattle.sqlite_trees.specs.declared.store.Shape.{Shape}
 use Rattle.sqlite_trees.specs.declared.store.Shape.TheVariants.{Table as TableShape}
 use Rattle.sqlite_trees.specs.Props.{IsShaped-prop}
 use Rattle.sqlite_schema.specs.declared.schema.Table.{Table}
+use Rattle.sqlite_keyed.proofs.ListLemmas.{all_weaker}
 use Rattle.sqlite_catalog.proofs.LayoutLemmas.{laid_out}
 use Rattle.sqlite_store.specs.declared.catalog.Wanted.{Wanted}
 use Rattle.sqlite_store.specs.declared.store.FileStore.{FileStore}
@@ -24,15 +25,11 @@ module _ (size : ℕ) (wanted : List Wanted) (pages : PageMap) (ours : ∥ IsOur
   shaped_at : (t : ℕ) → all_shapes wanted t ≡ TableShape → IsShaped TableShape (read t)
   shaped_at t is = subst (λ (s : Shape). IsShaped s (read t)) is (∥∥₁_elim ours (IsShaped-prop (all_shapes wanted t) (read t)) (λ it. all_ordered it.file.db (version_in pages) t))
 
-  all_at : (tables : List Table) → AllByRecursion (λ t. all_shapes wanted t.tree ≡ TableShape) tables → AllByRecursion (λ t. IsShaped TableShape (read t.tree)) tables
-  all_at [] h = tt
-  all_at (t ∷ ts) h = (shaped_at t.tree h.0, all_at ts h.1)
-
   pub file_keyed : (schema : Schema) → IsSound schema read → AreKeyed schema read
   file_keyed schema sound =
       let list : read catalog_tree ≡ listed_from 0 wanted = catalog_rows size wanted (in_use size pages) in
       let are : AreListed (listed_from 0 wanted) schema = subst (λ rows. AreListed rows schema) list sound.lists.listed in
-      all_at schema.tables (laid_out (is_listed wanted) (listing_shaped 0 wanted) are).tables
+      all_weaker (λ (t : Table). all_shapes wanted t.tree ≡ TableShape) (λ t. IsShaped TableShape (read t.tree)) (λ t. shaped_at t.tree) schema.tables (laid_out (is_listed wanted) (listing_shaped 0 wanted) are).tables
 
 no_tables : (tables : List Table) → AllZip IsTableRow [] tables → tables ≡ []
 no_tables [] h = refl

@@ -1,14 +1,17 @@
--- What a query of one table with a filter and an order shows.
-use Rattle.sql_rows.proofs.Common.{◌≡◌, ◌==◌, ℕ, pos, negsuc, List, [], ◌∷◌, ◌++◌, map, filter, true, false, Bool, cond, Some, None, refl, sym, ap, subst, subst₂, ◌∙◌, arith, Ordering, is_eq, IsPermutation, int_cmp, flat_map, list_all, ints, nat_tests, Null, Int, Row, value_cmp, Key, Binary, value_cmp-Int, Trees, IsAscending, Compare, Eq, is_true, from_truth, Term, lit, holds, Query, inner, end, IsAnswer, Output, output, output_cmp, page, overlay, output_cmp_total, Schema, Select, reads_listing, State, IsPlain, command_of, reads_as, map-map, map-flat_map, flat_map-map, flat_map_same_on, ascending-map, ascending_weaker, IsPermutation-flat_map, sorted_is-sort_by, sort_by-map, sort_by, nat_cmp, IsPermutation-sym, IsPermutation-trans, IsPermutation-map}
+-- What a query with a filter and an order shows, of one table or of several that are joined.
+use Rattle.sql_rows.proofs.Common.{cases_Bool, inl, inr, ⊤, Join, made, counted, folded, matches, or_nulls, left, IsPermutation-flat_map_each, Env, ◌≡◌, ◌==◌, ℕ, pos, negsuc, List, [], ◌∷◌, ◌++◌, map, filter, true, false, Bool, cond, Some, None, refl, sym, ap, subst, subst₂, ◌∙◌, arith, Ordering, is_eq, IsPermutation, int_cmp, flat_map, list_all, ints, nat_tests, Null, Int, Row, value_cmp, Key, Binary, value_cmp-Int, Trees, IsAscending, Compare, Eq, is_true, from_truth, Term, lit, holds, Query, inner, end, IsAnswer, Output, output, output_cmp, page, overlay, output_cmp_total, Schema, Select, reads_listing, State, IsPlain, command_of, reads_as, map-map, map-flat_map, flat_map-map, flat_map_same_on, ascending-map, ascending_weaker, IsPermutation-flat_map, sorted_is-sort_by, sort_by-map, sort_by, nat_cmp, IsPermutation-sym, IsPermutation-trans, IsPermutation-map}
 use Rattle.sqlite_sql.specs.Ops.{binary}
 use Rattle.sqlite.specs.Listing.{understood}
 use Rattle.sqlite.specs.State.{Shown}
+use Rattle.sqlite_sql.specs.Query.{first}
+use Rattle.sqlite_keyed.proofs.ListLemmas.{IsPermutation-same, all_of}
+use Rattle.sql_rows.proofs.OfKind.{unmapped_kind}
 use mathlib.Core.Path.{fun_ext}
 
--- SELECT terms FROM table WHERE terms ORDER BY terms
-abbrev pub plain_query : ℕ → List Term → List Term → List (Term × Key) → Query
-plain_query tree tests shown order = record {
-  from = inner tree end;
+-- SELECT terms FROM tables WHERE terms ORDER BY terms
+abbrev pub joined_query : Join → List Term → List Term → List (Term × Key) → Query
+joined_query from tests shown order = record {
+  from = from;
   filter = tests;
   group = None;
   project = shown;
@@ -18,6 +21,9 @@ plain_query tree tests shown order = record {
   limit = lit (Int (negsuc 0));
   offset = lit (Int (pos 0));
 }
+
+abbrev pub plain_query : ℕ → List Term → List Term → List (Term × Key) → Query
+plain_query tree tests shown order = joined_query (inner tree end) tests shown order
 
 -- a text that means this query under the schema
 pub record Selects (schema : Schema) (sql : List ℕ) (q : Query) : Type 0 where
@@ -33,35 +39,51 @@ answers schema sql q params old new has means rows h =
 
 pub kept_as_map : {X Y : Type 0} (p : X → Bool) (f : X → Y) (xs : List X) → flat_map (λ x. cond (p x) (f x ∷ []) []) xs ≡ map f (filter p xs)
 kept_as_map p f [] = refl
-kept_as_map p f (x ∷ xs) = go (p x) (kept_as_map p f xs)
-  where
-    go : (b : Bool) → flat_map (λ x. cond (p x) (f x ∷ []) []) xs ≡ map f (filter p xs) → cond b (f x ∷ []) [] ++ flat_map (λ x. cond (p x) (f x ∷ []) []) xs ≡ map f (cond b (x ∷ filter p xs) (filter p xs))
-    go true more = ap (λ l. f x ∷ l) more
-    go false more = more
+kept_as_map p f (x ∷ xs) =
+    let more = kept_as_map p f xs in
+    elim (cases_Bool (p x)) [ inl hit ↦ rw hit (ap (λ l. f x ∷ l) more) | inr miss ↦ rw miss more ]
 
-one_output : {X Y : Type 0} (f : X → Y) (b : Bool) (x : X) → map f (cond b (x ∷ []) []) ≡ cond b (f x ∷ []) []
-one_output f true x = refl
-one_output f false x = refl
+-- what the rows of the tables so far bring to the answer, as tables are joined by JOIN and LEFT JOIN
+abbrev pub shown_of : Query → Trees → Join → Env → List Output
+shown_of q db end env = cond (list_all (holds env) q.filter) (output q env ∷ []) []
+shown_of q db (inner t more) env = flat_map (λ r. shown_of q db more (env ++ r ∷ [])) (db t)
+shown_of q db (left t on more) env = flat_map (λ r. shown_of q db more (env ++ r ∷ [])) (or_nulls (filter (λ r. list_all (holds (env ++ r ∷ [])) on) (db t)))
+shown_of q db other env = map (output q) (matches db q.filter other env)
 
-module _ {X : Type 0} (tree : ℕ) (tests shown : List Term) (order : List (Term × Key)) (params : Row) (db : Trees) (columns : X → Row) (xs : List X)
-    (narrow : Row → Row) (has : map narrow (db tree) ≡ map columns xs) (low : overlay db [] tree ≡ db tree) where
-  abbrev q : Query
-  q = plain_query tree tests shown order
+pub shown_is : (q : Query) (db : Trees) (from : Join) (env : Env) → map (output q) (matches db q.filter from env) ≡ shown_of q db from env
+shown_is q db end env = elim (cases_Bool (list_all (holds env) q.filter)) [ inl hit ↦ rw hit refl | inr miss ↦ rw miss refl ]
+shown_is q db (inner t more) env =
+    map-flat_map (output q) (λ r. matches db q.filter more (env ++ r ∷ [])) (db t) ∙ flat_map_same_on _ (λ r. shown_of q db more (env ++ r ∷ [])) (λ r. shown_is q db more (env ++ r ∷ [])) (db t)
+shown_is q db (left t on more) env =
+    map-flat_map (output q) (λ r. matches db q.filter more (env ++ r ∷ [])) (or_nulls (filter (λ r. list_all (holds (env ++ r ∷ [])) on) (db t)))
+    ∙ flat_map_same_on _ (λ r. shown_of q db more (env ++ r ∷ [])) (λ r. shown_is q db more (env ++ r ∷ [])) (or_nulls (filter (λ r. list_all (holds (env ++ r ∷ [])) on) (db t)))
+shown_is q db (counted cap from test more) env = refl
+shown_is q db (made m more) env = refl
+shown_is q db (folded from test all more) env = refl
+shown_is q db (first from test order shown more) env = refl
 
-  abbrev gives : Row → List Output
-  gives r = cond (list_all (holds (params ∷ r ∷ [])) tests) (output q (params ∷ r ∷ []) ∷ []) []
+-- Each table's rows stand for values in any order. `sees` is what a row of the first table brings to the answer, written over its columns. Nothing is asked of the rowids.
+module _ {X : Type 0} (tree : ℕ) (more : Join) (tests shown : List Term) (order : List (Term × Key)) (params : Row) (db : Trees) (columns : X → Row) (xs : List X)
+    (narrow : Row → Row) (has : IsPermutation (map narrow (db tree)) (map columns xs)) (low : overlay db [] tree ≡ db tree)
+    (sees : Row → List Output) (only : (r : Row) → shown_of (joined_query (inner tree more) tests shown order) (overlay db []) more (params ∷ r ∷ []) ≡ sees (narrow r))
+    (outs : X → List Output) (picks : (x : X) → IsPermutation (sees (columns x)) (outs x)) where
+  abbrev joined : Query
+  joined = joined_query (inner tree more) tests shown order
 
-  module _ (sees : Row → List Output) (only : (r : Row) → gives r ≡ sees (narrow r)) (p : X → Bool) (out : X → Output) (picks : (x : X) → sees (columns x) ≡ cond (p x) (out x ∷ []) []) where
-    pub kept_are : (rows : List Row) (a : IsAnswer q (overlay db []) params rows) → a.kept ≡ map out (filter p xs)
-    kept_are rows a =
-        a.distinct ∙ ap (map (output q)) a.grouped
-        ∙ map-flat_map (output q) (λ r. cond (list_all (holds (params ∷ r ∷ [])) tests) ((params ∷ r ∷ []) ∷ []) []) (overlay db [] tree)
-        ∙ ap (flat_map (λ r. map (output q) (cond (list_all (holds (params ∷ r ∷ [])) tests) ((params ∷ r ∷ []) ∷ []) []))) low
-        ∙ flat_map_same_on _ (λ r. sees (narrow r)) (λ r. one_output (output q) (list_all (holds (params ∷ r ∷ [])) tests) (params ∷ r ∷ []) ∙ only r) (db tree)
-        ∙ sym (flat_map-map sees narrow (db tree)) ∙ ap (flat_map sees) has ∙ flat_map-map sees columns xs
-        ∙ flat_map_same_on _ (λ x. cond (p x) (out x ∷ []) []) picks xs ∙ kept_as_map p out xs
+  pub answer_bag : (rows : List Row) (a : IsAnswer joined (overlay db []) params rows) → IsPermutation (flat_map outs xs) a.ordered
+  answer_bag rows a =
+      let seen : a.kept ≡ flat_map sees (map narrow (db tree)) =
+      a.distinct ∙ ap (map (output joined)) a.grouped
+      ∙ shown_is joined (overlay db []) (inner tree more) (params ∷ [])
+      ∙ ap (flat_map (λ r. shown_of joined (overlay db []) more (params ∷ r ∷ []))) low
+      ∙ flat_map_same_on _ (λ r. sees (narrow r)) only (db tree)
+      ∙ sym (flat_map-map sees narrow (db tree)) in
+      let each : IsPermutation (flat_map sees (map columns xs)) (flat_map outs xs) =
+      subst (λ l. IsPermutation l (flat_map outs xs)) (sym (flat_map-map sees columns xs)) (IsPermutation-flat_map_each (λ x. sees (columns x)) outs picks xs) in
+      let same : IsPermutation (flat_map sees (map narrow (db tree))) (flat_map outs xs) = IsPermutation-trans _ _ _ (IsPermutation-flat_map sees _ _ has) each in
+      IsPermutation-trans _ _ _ (IsPermutation-sym _ _ same) (subst (λ k. IsPermutation k a.ordered) seen a.same)
 
--- The same of rows as a bag. Nothing is asked of the rowids.
+-- one table
 module _ {X : Type 0} (tree : ℕ) (tests shown : List Term) (order : List (Term × Key)) (params : Row) (db : Trees) (columns : X → Row) (xs : List X)
     (narrow : Row → Row) (has : IsPermutation (map narrow (db tree)) (map columns xs)) (low : overlay db [] tree ≡ db tree) where
   abbrev asked : Query
@@ -71,17 +93,10 @@ module _ {X : Type 0} (tree : ℕ) (tests shown : List Term) (order : List (Term
   hands r = cond (list_all (holds (params ∷ r ∷ [])) tests) (output asked (params ∷ r ∷ []) ∷ []) []
 
   module _ (sees : Row → List Output) (only : (r : Row) → hands r ≡ sees (narrow r)) (p : X → Bool) (out : X → Output) (picks : (x : X) → sees (columns x) ≡ cond (p x) (out x ∷ []) []) where
-    pub ordered_bag : (rows : List Row) (a : IsAnswer asked (overlay db []) params rows) → IsPermutation (map out (filter p xs)) a.ordered
+    ordered_bag : (rows : List Row) (a : IsAnswer asked (overlay db []) params rows) → IsPermutation (map out (filter p xs)) a.ordered
     ordered_bag rows a =
-        let seen : a.kept ≡ flat_map sees (map narrow (db tree)) =
-        a.distinct ∙ ap (map (output asked)) a.grouped
-        ∙ map-flat_map (output asked) (λ r. cond (list_all (holds (params ∷ r ∷ [])) tests) ((params ∷ r ∷ []) ∷ []) []) (overlay db [] tree)
-        ∙ ap (flat_map (λ r. map (output asked) (cond (list_all (holds (params ∷ r ∷ [])) tests) ((params ∷ r ∷ []) ∷ []) []))) low
-        ∙ flat_map_same_on _ (λ r. sees (narrow r)) (λ r. one_output (output asked) (list_all (holds (params ∷ r ∷ [])) tests) (params ∷ r ∷ []) ∙ only r) (db tree)
-        ∙ sym (flat_map-map sees narrow (db tree)) in
-        let spec : flat_map sees (map columns xs) ≡ map out (filter p xs) = flat_map-map sees columns xs ∙ flat_map_same_on _ (λ x. cond (p x) (out x ∷ []) []) picks xs ∙ kept_as_map p out xs in
-        let same : IsPermutation (flat_map sees (map narrow (db tree))) (map out (filter p xs)) = subst (IsPermutation _) spec (IsPermutation-flat_map sees _ _ has) in
-        IsPermutation-trans _ _ _ (IsPermutation-sym _ _ same) (subst (λ k. IsPermutation k a.ordered) seen a.same)
+        subst (λ l. IsPermutation l a.ordered) (kept_as_map p out xs)
+        (answer_bag tree end tests shown order params db columns xs narrow has low sees only (λ x. cond (p x) (out x ∷ []) []) (λ x. IsPermutation-same _ _ (picks x)) rows a)
 
     -- with no order, the rows are the values that pass, in some order
     pub reads_bag : (rows : List Row) → IsAnswer asked (overlay db []) params rows → IsPermutation (map (λ x. (out x).1) (filter p xs)) rows
@@ -118,7 +133,4 @@ number_cmp m n = value_cmp-Int (pos m) (pos n) ∙ grind (arith, ints, nat_tests
 
 -- lists of values with one spelling each
 pub unmapped : {X Y : Type 0} (f : X → Y) → ((a b : X) → f a ≡ f b → a ≡ b) → (xs ys : List X) → map f xs ≡ map f ys → xs ≡ ys
-unmapped f one [] [] h = refl
-unmapped f one [] (y ∷ ys) h = cc
-unmapped f one (x ∷ xs) [] h = cc
-unmapped f one (x ∷ xs) (y ∷ ys) h = let head : f x ≡ f y = cc in let tail : map f xs ≡ map f ys = cc in (λ i. one x y head i ∷ unmapped f one xs ys tail i)
+unmapped f one xs ys = unmapped_kind f (λ _. ⊤) (λ a b _ _. one a b) xs ys (all_of (λ _. ⊤) (λ _. tt) xs) (all_of (λ _. ⊤) (λ _. tt) ys)

@@ -1,5 +1,5 @@
--- A step that takes one row out and puts another in at its rowid.
-use Rattle.sql_rows.proofs.Common.{◌≡◌, ◌<ℤ◌, ℤ, List, [], ◌∷◌, filter, true, false, Bool, cond, refl, sym, ap, subst, ◌∙◌, arith, IsTrue, Greater, is_eq, int_cmp, AllByRecursion, ints, Int, Row, value_cmp, value_cmp-Int, rowid, has_rowid, put_row, without_rowid, IsShaped, is_int, IsKeyedBy, update_where, all-filter, Less-from_lt}
+-- A step that takes one row out, and may put another in at its rowid.
+use Rattle.sql_rows.proofs.Common.{cases_Bool, inl, inr, ◌≡◌, ◌<ℤ◌, ℤ, List, [], ◌∷◌, filter, true, false, Bool, refl, sym, ap, subst, ◌∙◌, arith, IsTrue, Greater, is_eq, int_cmp, AllByRecursion, ints, Int, Row, value_cmp, value_cmp-Int, rowid, has_rowid, put_row, without_rowid, IsShaped, is_int, IsKeyedBy, update_where, delete_where, all-filter, Less-from_lt}
 use Rattle.sqlite_trees.specs.declared.store.Shape.TheVariants.{Table as TableShape}
 use Rattle.sql_rows.proofs.Appends.{int_is, id_of, ids_rise}
 
@@ -36,29 +36,53 @@ goes_first new (r ∷ rows) is all up = rw (cmp_ids r new all.0 is, greater (id_
 module _ (p : Row → Bool) (f : Row → Row) (keeps : (r : Row) → id_of (f r) ≡ id_of r) (ints_stay : (r : Row) → IsTrue (is_int (rowid (f r)))) where
   pub unpicked : (rows : List Row) → filter p rows ≡ [] → update_where p f rows ≡ rows
   unpicked [] none = refl
-  unpicked (r ∷ rows) none = go (p r) none (unpicked rows)
-    where
-      go : (b : Bool) → cond b (r ∷ filter p rows) (filter p rows) ≡ [] → (filter p rows ≡ [] → update_where p f rows ≡ rows) → cond b (f r) r ∷ update_where p f rows ≡ r ∷ rows
-      go true h more = cc
-      go false h more = ap (λ l. r ∷ l) (more h)
+  unpicked (r ∷ rows) none = elim (cases_Bool (p r)) [
+    | inl hit ↦ let some : r ∷ filter p rows ≡ [] = rw hit at none in cc
+    | inr miss ↦ rw miss (ap (λ l. r ∷ l) (unpicked rows (rw miss at none)))
+  ]
 
   set_one : (rows : List Row) (x : Row) → AreInts rows → IsKeyedBy id_of rows → filter p rows ≡ x ∷ [] → put_row (f x) (without_rowid (id_of x) rows) ≡ update_where p f rows
   set_one [] x all up one = cc
-  set_one (r ∷ rows) x all up one = go (p r) one (set_one rows x all.1 up.1)
-    where
-      go : (b : Bool) → cond b (r ∷ filter p rows) (filter p rows) ≡ x ∷ [] → (filter p rows ≡ x ∷ [] → put_row (f x) (without_rowid (id_of x) rows) ≡ update_where p f rows)
-          → put_row (f x) (without_rowid (id_of x) (r ∷ rows)) ≡ cond b (f r) r ∷ update_where p f rows
-      go true h more =
-          let is : r ≡ x = cc in
-          let none : filter p rows ≡ [] = cc in
-          let id = id_of r in
-          let out : without_rowid id (r ∷ rows) ≡ rows = rw (has_id id r all.0, same_id id) (spared id rows all.1 up.0) in
-          let first : put_row (f r) rows ≡ f r ∷ rows = goes_first (f r) rows (ints_stay r) all.1 (subst (λ (n : ℤ). AllByRecursion (λ y. n <ℤ id_of y) rows) (sym (keeps r)) up.0) in
-          subst (λ y. put_row (f y) (without_rowid (id_of y) (r ∷ rows)) ≡ f r ∷ update_where p f rows) is (rw (out, first, unpicked rows none))
-      go false h more =
-          let lows : AllByRecursion (λ y. id_of r <ℤ id_of y) (x ∷ []) = subst (AllByRecursion (λ y. id_of r <ℤ id_of y)) h (all-filter (λ y. id_of r <ℤ id_of y) p rows up.0) in
-          let low = lows.0 in
-          rw (has_id (id_of x) r all.0, apart_down (id_of r) (id_of x) low, cmp_ids r (f x) all.0 (ints_stay x), keeps x, Less-from_lt (id_of r) (id_of x) low) (ap (λ l. r ∷ l) (more h))
+  set_one (r ∷ rows) x all up one = elim (cases_Bool (p r)) [
+    | inl hit ↦
+        let h : r ∷ filter p rows ≡ x ∷ [] = rw hit at one in
+        let is : r ≡ x = cc in
+        let none : filter p rows ≡ [] = cc in
+        let id = id_of r in
+        let out : without_rowid id (r ∷ rows) ≡ rows = rw (has_id id r all.0, same_id id) (spared id rows all.1 up.0) in
+        let first : put_row (f r) rows ≡ f r ∷ rows = goes_first (f r) rows (ints_stay r) all.1 (subst (λ (n : ℤ). AllByRecursion (λ y. n <ℤ id_of y) rows) (sym (keeps r)) up.0) in
+        rw hit (subst (λ y. put_row (f y) (without_rowid (id_of y) (r ∷ rows)) ≡ f r ∷ update_where p f rows) is (rw (out, first, unpicked rows none)))
+    | inr miss ↦
+        let h : filter p rows ≡ x ∷ [] = rw miss at one in
+        let lows : AllByRecursion (λ y. id_of r <ℤ id_of y) (x ∷ []) = subst (AllByRecursion (λ y. id_of r <ℤ id_of y)) h (all-filter (λ y. id_of r <ℤ id_of y) p rows up.0) in
+        let low = lows.0 in
+        rw (miss, has_id (id_of x) r all.0, apart_down (id_of r) (id_of x) low, cmp_ids r (f x) all.0 (ints_stay x), keeps x, Less-from_lt (id_of r) (id_of x) low) (ap (λ l. r ∷ l) (set_one rows x all.1 up.1 h))
+  ]
 
   pub sets_one : (rows : List Row) (x : Row) → IsShaped TableShape rows → filter p rows ≡ x ∷ [] → put_row (f x) (without_rowid (id_of x) rows) ≡ update_where p f rows
   sets_one rows x shaped one = set_one rows x shaped.1 (ids_rise rows shaped) one
+
+-- ---- the rows that are left
+
+module _ (p : Row → Bool) where
+  pub none_dropped : (rows : List Row) → filter p rows ≡ [] → delete_where p rows ≡ rows
+  none_dropped [] h = refl
+  none_dropped (r ∷ rows) none = elim (cases_Bool (p r)) [
+    | inl hit ↦ let some : r ∷ filter p rows ≡ [] = rw hit at none in cc
+    | inr miss ↦ rw miss (ap (λ l. r ∷ l) (none_dropped rows (rw miss at none)))
+  ]
+
+  pub drop_one : (rows : List Row) (x : Row) → AreInts rows → IsKeyedBy id_of rows → filter p rows ≡ x ∷ [] → without_rowid (id_of x) rows ≡ delete_where p rows
+  drop_one [] x all up one = cc
+  drop_one (r ∷ rows) x all up one = elim (cases_Bool (p r)) [
+    | inl hit ↦
+        let h : r ∷ filter p rows ≡ x ∷ [] = rw hit at one in
+        let head : r ≡ x = cc in
+        let tail : filter p rows ≡ [] = cc in
+        let out : without_rowid (id_of r) (r ∷ rows) ≡ rows = rw (has_id (id_of r) r all.0, same_id (id_of r)) (spared (id_of r) rows all.1 up.0) in
+        rw hit (subst (λ y. without_rowid (id_of y) (r ∷ rows) ≡ delete_where p rows) head (out ∙ sym (none_dropped rows tail)))
+    | inr miss ↦
+        let h : filter p rows ≡ x ∷ [] = rw miss at one in
+        let lows : AllByRecursion (λ y. id_of r <ℤ id_of y) (x ∷ []) = subst (AllByRecursion (λ y. id_of r <ℤ id_of y)) h (all-filter (λ y. id_of r <ℤ id_of y) p rows up.0) in
+        rw (miss, has_id (id_of x) r all.0, apart_down (id_of r) (id_of x) lows.0) (ap (λ l. r ∷ l) (drop_one rows x all.1 up.1 h))
+  ]

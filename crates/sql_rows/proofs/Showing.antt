@@ -1,11 +1,11 @@
--- What an UPDATE with RETURNING does and shows.
-use Rattle.sql_rows.proofs.Common.{◌≡◌, ◌/◌, ℕ, List, [], ◌∷◌, ◌++◌, length, slice_get, append-nil, true, Some, None, Option, Ok, Err, Result, sym, ap, subst, ◌∙◌, Null, Row, Trees, Term, Query, Schema, Table, Enforced, Returning, Values, Command, Update, Compiled, CompileError, Given, edit_of, Applies, taken_by, ids_of, Mode, Database, Answers, value_rows, Program, Task, Written, Updates, Edited, shown, Tally, Does, OnRows, Concludes, State, mode_of, Writes, command_of, one_step}
+-- What a statement with RETURNING does and shows.
+use Rattle.sql_rows.proofs.Common.{◌≡◌, ◌/◌, ℕ, List, [], ◌∷◌, ◌++◌, if◌then◌else◌, length, append-nil, true, Some, None, Option, Ok, Err, Result, sym, ap, subst, ◌∙◌, Null, Row, Trees, Term, Query, Schema, Table, Returning, Values, Command, Compiled, CompileError, Mode, Database, value_rows, Task, Written, Updates, shown, Tally, Concludes, State, mode_of, Writes, command_of}
 use Rattle.sqlite.specs.Listing.{understood}
-use Rattle.sqlite.specs.Does.{Shows}
+use Rattle.sqlite.specs.Does.{Shows, WritesRows}
 use Rattle.sqlite.specs.State as state
 use Rattle.sqlite.specs.State.{Shown}
-use Rattle.sql_rows.proofs.Puts.{went, same_value}
-use Rattle.sql_rows.proofs.Alters.{Moves, idle_works, are_idle}
+use Rattle.sql_rows.proofs.Puts.{went, same_value, task_of, IsOn, acts_on, changed}
+use Rattle.sql_rows.proofs.Alters.{Moves, sets_of, edits, idle_works, are_idle}
 
 abbrev pub returning_of : Result Compiled CompileError → Option Returning
 returning_of (Ok c) = c.returning
@@ -58,41 +58,35 @@ one_shown task names terms now row rows h =
     let none : others.0 ≡ [] = same_value others.1 in
     same_value others.2 ∙ ap (λ l. first.0 ++ l) none ∙ append-nil first.0 ∙ first.1.1
 
--- the same as `updated`, with the rows that were written
-updated_all : (task : Task) (q : Program) (db : Trees) (w : Written) → Updates task q task.params db (Ok w) → (rows : List Row) × Answers (record { schema = task.schema; trees = db }) q task.params rows
-    × Edited task.schema task.keys db (edit_of db task.table (ids_of rows) Given 1 rows) (Ok w.trees) × (w.rows ≡ (edit_of db task.table (ids_of rows) Given 1 rows).news)
-updated_all task q db w h =
-    let found = went h in
-    let edited = went found.2 in
-    let is = same_value edited.2 in
-    let trees : w.trees ≡ edited.0 = ap (λ (it : Written). it.trees) is in
-    (found.0, found.1, subst (λ (t : Trees). Edited task.schema task.keys db (edit_of db task.table (ids_of found.0) Given 1 found.0) (Ok t)) (sym trees) edited.1, ap (λ (it : Written). it.rows) is)
+-- what was written, and what is shown of it
+module _ (schema : Schema) (sql : List ℕ) (params : Row) (old new : State) (has : old.now.schema ≡ schema) (command : Command) (terms : List Term) (means : MeansShowing schema sql command terms) (table : Table) where
+  abbrev returned : Returning
+  returned = record { names = means.names; row = Values terms (length terms) }
 
-module _ (schema : Schema) (sql : List ℕ) (params : Row) (old new : State) (has : old.now.schema ≡ schema) (at : ℕ) (table : Table) (q : Query) (terms : List Term)
-    (means : MeansShowing schema sql (Update at (record { lets = []; body = q })) terms) (place : slice_get schema.tables at ≡ Some table) (idle : are_idle schema ≡ true) where
-  pub updates_showing : (rows : List Row) → Shown sql params old new rows → (m : Moves schema table q params old new)
-      × Shows (record { limit = old.step_limit; keys = Enforced; schema = schema; table = table; params = params }) (record { names = means.names; row = Values terms (length terms) }) new.now.trees (edit_of old.now.trees table (ids_of m.rows) Given 1 m.rows).news (Ok rows)
-  updates_showing rows h =
-      let command = Update at (record { lets = []; body = q }) in
-      let what : Returning = record { names = means.names; row = Values terms (length terms) } in
+  abbrev task : Task
+  task = task_of schema params old table
+
+  pub acts_showing : IsOn schema params old table command (Some returned) → (rows : List Row) → Shown sql params old new rows
+      → (made : Written) × WritesRows task old.now.trees command (Ok made) × (new.now ≡ record { schema = schema; trees = made.trees })
+      × state.Shows old new new.now (if old.in_transaction then old.committed else new.now) old.in_transaction × Shows task returned made.trees made.rows (Ok rows)
+  acts_showing on rows h =
       let it = shown_as schema sql params old new has command terms means rows h in
       let w = it.1.1 in
-      let placed = subst (λ s. Does old.step_limit (mode_of old) params (record old.now { schema = s }) it.0 (Some what) command (Ok (w.tally, new.now))) has w.changed in
-      let task : Task = record { limit = old.step_limit; keys = Enforced; schema = schema; table = table; params = params } in
-      let on_rows : OnRows task (mode_of old) (Some what) command old.now.trees (Ok (w.tally, new.now)) = rw place at placed in
-      let done = went on_rows in
+      let done = acts_on schema params old new has table command (Some returned) it.0 it.1.0 w on in
       let end = shows_written task (mode_of old) means.names terms done.0 w.tally new.now done.2 in
-      let found = updated_all task (record { lets = []; body = q }) old.now.trees done.0 done.1 in
-      let edit = edit_of old.now.trees table (ids_of found.0) Given 1 found.0 in
-      let trees : new.now.trees ≡ done.0.trees = ap (λ (d : Database). d.trees) end.0 in
-      let applied = one_step schema Enforced old.now.trees done.0.trees edit (idle_works schema 0 table.tree (taken_by old.now.trees edit) edit.news idle) found.2 in
-      let shown = subst (λ (rs : List Row). Shows task what done.0.trees rs (Ok w.tally.shown)) found.3 end.1 in (
-        record {
-          schema_is = ap (λ (d : Database). d.schema) end.0;
-          rows = found.0;
-          answer = found.1.answer Null;
-          applies = subst (λ t. Applies schema Enforced old.now.trees edit t) (sym trees) applied;
-          shows = w.shown;
-        },
-        subst (λ (rs : List Row). Shows task what new.now.trees edit.news (Ok rs)) (sym it.1.2) (subst (λ (t : Trees). Shows task what t edit.news (Ok w.tally.shown)) (sym trees) shown),
+      (done.0, done.1, end.0, w.shown, subst (λ (rs : List Row). Shows task returned done.0.trees done.0.rows (Ok rs)) (sym it.1.2) end.1)
+
+-- what an update wrote, and what is shown of that
+module _ (schema : Schema) (params : Row) (old new : State) (table : Table) (what : Returning) (q : Query) (given : Row) (made : Written) (idle : are_idle schema ≡ true) where
+  pub set_showing : Updates (task_of schema params old table) (record { lets = []; body = q }) given old.now.trees (Ok made) → new.now ≡ record { schema = schema; trees = made.trees }
+      → state.Shows old new new.now (if old.in_transaction then old.committed else new.now) old.in_transaction
+      → (rows : List Row) → Shows (task_of schema params old table) what made.trees made.rows (Ok rows)
+      → (m : Moves schema (sets_of old.now.trees table) q given old new) × Shows (task_of schema params old table) what new.now.trees (sets_of old.now.trees table m.rows).news (Ok rows)
+  set_showing h now stays rows shows =
+      let edit = sets_of old.now.trees table in
+      let task = task_of schema params old table in
+      let it = edits task (record { lets = []; body = q }) given old.now.trees edit (λ rows. (edit rows).news) made h in (
+        record { rows = it.0; answer = it.1.answer Null; done = changed (edit it.0) made.trees (idle_works schema 0 table.tree _ _ idle) it.2 now stays },
+        subst (λ (t : Trees). Shows task what t (edit it.0).news (Ok rows)) (sym (ap (λ (d : Database). d.trees) now))
+            (subst (λ (rs : List Row). Shows task what made.trees rs (Ok rows)) it.3 shows),
       )

@@ -82,18 +82,13 @@ module _ {S X E : Type 0} {g : Ghosts S} {a b : MutBor (Held S)} where
       }
 
       pub inside_then : StaysInside {E = E} g a b (Ok x) → StaysWithin g b c s → StaysInside g a c s
-      inside_then one two = record {
-        same_reference = two.same_reference ∙ one.same_reference;
-        survives = survives_more (state g a.now) (state g b.now) (state g c.now) one.survives two.survives;
-        kept = λ clean inside.
-            let clean_b : HasCleanDisk (state g b.now) = omega (arith, clean, two.survives.clean) in
-            let first = one.lives clean_b inside in
-            keeps_then (state g a.now) (state g b.now) (state g c.now) (one.kept clean_b inside) (two.kept clean first.mode);
-        lives = λ clean inside.
-            let clean_b : HasCleanDisk (state g b.now) = omega (arith, clean, two.survives.clean) in
-            let first = one.lives clean_b inside in
-            on_ok_then s (shows_more (state g a.now) (state g b.now) (state g c.now) first) (two.lives clean first.mode first.is_open);
-      }
+      inside_then one two =
+          let both = within_then (within_of one) two in record {
+            same_reference = both.same_reference;
+            survives = both.survives;
+            kept = both.kept;
+            lives = λ clean inside. both.lives clean inside (one.lives (omega (arith, clean, two.survives.clean)) inside).was_open;
+          }
 
 -- no call at all
 pub within_none : {S X E : Type 0} {g : Ghosts S} {a : MutBor (Held S)} {r : Result X E} → StaysWithin g a a r

@@ -1,15 +1,17 @@
 -- What one text makes of the books: an INSERT of a row and an UPDATE of at most one, and what a SELECT shows.
-use Rattle.sql_rows.proofs.Common.{◌≡◌, ◌≤◌, ◌/◌, ℕ, suc, List, [], ◌∷◌, ◌++◌, map, filter, drop, length, slice_get, true, Bool, cond, Some, Ok, refl, sym, ap, subst, ◌∙◌, IsTrue, IsPermutation, AllByRecursion, list_all, IsPermutation-sym, Value, Null, Int, Row, column, ascending, Key, Binary, then-Equal, Trees, rowid, IsShaped, is_int, Enforced, Term, col, eval_all, holds, Query, Output, output, overlay, cast, cast_all, cast_row, Schema, Table, Values, Insert, Update, value_rows, State, ExecutesInside, update_where, sort_by, all-filter, Means, HasRows, SameBut, columns_of, by, Differ, PicksOne, number_value, IsOf, IsKeyed, Changes}
-use Rattle.sqlite_trees.specs.declared.store.Shape.TheVariants.{Table as TableShape}
+use Rattle.sql_rows.proofs.Common.{⊤, filter_same, ◌≡◌, ◌≤◌, ◌/◌, ℕ, suc, List, [], ◌∷◌, ◌++◌, map, filter, drop, length, slice_get, true, Bool, cond, Some, Ok, sym, ap, subst, IsPermutation, list_all, IsPermutation-sym, Value, Null, Int, Row, column, ascending, Key, Binary, Trees, rowid, Enforced, Term, col, eval_all, holds, Query, Output, output, overlay, cast, cast_all, cast_row, Schema, Table, Values, Insert, Update, value_rows, State, ExecutesInside, update_where, sort_by, Means, HasRows, SameBut, columns_of, by, Differ, PicksOne, number_value, IsOf, IsKeyed, Changes}
 use Rattle.sqlite_schema.specs.declared.schema.Kind.TheVariants as kind
 use Rattle.sqlite.specs.State.{Shown}
-use Rattle.sql_rows.proofs.Appends.{id_of, int_is, cast_int, cast_all_kept, are_kept}
+use Rattle.sql_rows.proofs.Appends.{id_of, are_kept}
 use Rattle.sql_rows.proofs.Keyed.{keyed_at, applies_keyed}
 use Rattle.sql_rows.proofs.Puts.{IsPlainTable, Puts, inserts}
-use Rattle.sql_rows.proofs.PutsRow.{puts_values}
-use Rattle.sql_rows.proofs.Queries.{Selects, plain_query, answers, reads_bag, reads_sorted, number_cmp}
-use Rattle.sql_rows.proofs.Bags.{as_many, bag_update, all_typed, no_ties, short_bag, length-map}
-use Rattle.sql_rows.proofs.Alters.{Moves, are_idle, updates, moved}
+use Rattle.sql_rows.proofs.Fills.{puts_values}
+use Rattle.sql_rows.proofs.Queries.{Selects, plain_query, answers, reads_bag}
+use Rattle.sql_rows.proofs.Bags.{short_bag, length-map}
+use Rattle.sql_rows.proofs.Alters.{are_idle, updates}
+use Rattle.sql_rows.proofs.Picked.{rows_set}
+use Rattle.sql_rows.proofs.Projects.{projects_sorted}
+use Rattle.sqlite_keyed.proofs.ListLemmas.{all_of}
 
 -- ---- INSERT of one row
 
@@ -69,9 +71,7 @@ module _ {X : Type 0} (schema : Schema) (sql : List ℕ) (tree width : ℕ) (tes
   pub selects_sorted : ((r : Row) → cond (list_all (holds (params ∷ r ∷ [])) tests) (output sorted (params ∷ r ∷ []) ∷ []) [] ≡ cond (seen (columns_of width r)) ((column (columns_of width r) place ∷ [], columns_of width r) ∷ []) [])
       → (number : X → ℕ) → ((x : X) → column (columns x) place ≡ number_value (number x)) → Differ number (filter p xs) → rows ≡ map columns (sort_by (by number) (filter p xs))
   selects_sorted only number numbers apart =
-      reads_sorted tree tests shown ((col 1 (suc place), ascending Binary) ∷ []) params old.now.trees columns xs (columns_of width) s low (λ vs. cond (seen vs) ((column vs place ∷ [], vs) ∷ []) []) only p
-      (λ x. (number_value (number x) ∷ [], columns x)) (λ x. (λ i. cond (tests_are x i) ((numbers x i ∷ [], columns x) ∷ []) [])) rows (answers schema sql sorted params old new has means rows h)
-      (by number) (λ x y. then-Equal _ ∙ number_cmp (number x) (number y)) (no_ties number (filter p xs) apart)
+      projects_sorted schema sql tree width tests shown place means params old new rows has h columns xs s low seen (λ vs. vs) p tests_are only number numbers apart
 
 -- ---- UPDATE of at most one row
 
@@ -79,9 +79,6 @@ module _ {B X : Type 0} (schema : Schema) (Stands : Trees → B → Type 0) (sql
     (columns : X → Row) (seen : Row → Bool) (p : X → Bool) (set : Row → Row) (g : X → X)
     (tests_are : (x : X) → seen (columns x) ≡ p x) (sets_are : (x : X) → set (columns x) ≡ columns (g x)) (kept : (x : X) → are_kept table.columns (set (columns x)) ≡ true)
     (old new : State) (has : IsOf schema old) where
-  abbrev test : Row → Bool
-  test r = list_all (holds (params ∷ r ∷ [])) tests
-
   abbrev row_set : Row → Row
   row_set r = Int (id_of r) ∷ set (columns_of width r)
 
@@ -98,29 +95,12 @@ module _ {B X : Type 0} (schema : Schema) (Stands : Trees → B → Type 0) (sql
       → (Given : B → Type 0) (change : B → B) → ((books : B) → SameBut schema table.tree old.now.trees new.now.trees → Stands old.now.trees books → Given books → SetsRows → Stands new.now.trees (change books))
       → Changes schema Stands old new Given change
   sets_row means place idle count h low sees sets_shown id_shown wide casts Given change put =
-      let m = updates schema sql params old new has at table (plain_query table.tree tests shown []) means place idle count h.0 in
+      let m = updates schema sql params old new has at table (plain_query table.tree tests shown []) place idle means count h.0 in
       record {
-        schema_is = m.schema_is;
-        keyed = applies_keyed schema Enforced old.now.trees new.now.trees _ at place m.applies;
-        books = λ keyed books s given. put books m.applies.tables s given (rows_set m (keyed_at schema old.now.trees at table place keyed));
+        schema_is = m.done.schema_is;
+        keyed = applies_keyed schema Enforced old.now.trees new.now.trees _ at place m.done.applies;
+        books = λ keyed books s given. put books m.done.applies.tables s given (λ xs had few.
+            rows_set schema table width tests shown params columns seen p set g (λ _. ⊤) tests_are (λ x _. sets_are x) (λ x _. kept x) old new m low sets_shown id_shown wide casts
+            (keyed_at schema old.now.trees at table place keyed) (filter_same _ (λ r. seen (columns_of width r)) sees (old.now.trees table.tree)) xs had (all_of (λ _. ⊤) (λ _. tt) xs) few);
         shows = h.1;
       }
-    where
-      rows_set : Moves schema table (plain_query table.tree tests shown []) params old new → IsShaped TableShape (old.now.trees table.tree) → SetsRows
-      rows_set m keyed xs s few =
-          let tree = old.now.trees table.tree in
-          let short = subst (λ (k : ℕ). k ≤ 1) (sym (as_many (columns_of width) columns test seen p sees tests_are tree xs s)) few in
-          let is = moved schema table tests shown params old new m low row_set (λ r. refl) (λ r. refl) keyed id_shown short (cast_as xs s keyed) in
-          let now = bag_update (columns_of width) columns test seen p sees tests_are row_set set g wide sets_are tree xs s in
-          subst (λ (es : List Row). HasRows width es (map columns (update_where p g xs))) (sym is) now
-        where
-          cast_as : (xs : List X) → HasRows width (old.now.trees table.tree) (map columns xs) → IsShaped TableShape (old.now.trees table.tree) → (x : Row) → filter test (old.now.trees table.tree) ≡ x ∷ []
-              → cast_row table (drop 1 (eval_all shown (params ∷ x ∷ []))) ≡ row_set x
-          cast_as xs s keyed x one =
-              let tree = old.now.trees table.tree in
-              let types : AllByRecursion (λ r. (c : X) × (columns_of width r ≡ columns c)) (x ∷ []) = subst (AllByRecursion (λ r. (c : X) × (columns_of width r ≡ columns c))) one
-              (all-filter (λ r. (c : X) × (columns_of width r ≡ columns c)) test tree (all_typed (columns_of width) columns tree xs s)) in
-              let ints : AllByRecursion (λ r. IsTrue (is_int (rowid r))) (x ∷ []) = subst (AllByRecursion (λ r. IsTrue (is_int (rowid r)))) one (all-filter (λ r. IsTrue (is_int (rowid r))) test tree keyed.1) in
-              let fits : are_kept table.columns (set (columns_of width x)) ≡ true = ap (λ vs. are_kept table.columns (set vs)) types.0.1 ∙ kept types.0.0 in
-              ap (cast_row table) (sets_shown x) ∙ casts (rowid x) (set (columns_of width x))
-              ∙ (λ i. (ap (cast kind.Integer) (int_is (rowid x) ints.0) ∙ cast_int (id_of x)) i ∷ cast_all_kept table.columns (set (columns_of width x)) fits i)

@@ -1,5 +1,5 @@
 -- An INSERT of one row with ON CONFLICT on a key DO UPDATE and RETURNING: the row is put where no row has its key, and else the row that has it is set.
-use Rattle.sql_rows.proofs.Common.{◌≡◌, ◌≤◌, ◌<ℤ◌, ◌/◌, ◌&&◌, ◌⊎◌, ℕ, ℤ, suc, List, [], ◌∷◌, ◌++◌, map, filter, drop, length, append-nil, true, false, Bool, cond, Option, Some, None, Ok, IsPermutation, inl, inr, refl, sym, ap, subst, ◌∙◌, arith, IsTrue, is_eq, int_cmp, AllByRecursion, list_all, IsPermutation-sym, IsPermutation-cons, IsPermutation-trans, IsPermutation-map, IsPermutation-to_front, Value, Null, Int, Row, Binary, value_cmp-Int, Trees, rowid, put_row, IsShaped, is_int, all-permutation, Enforced, Returning, Program, is_true, Compare, Eq, Term, col, op2, eval_all, holds, Query, overlay, Has, cast, cast_all, cast_row, Rowids, Chosen, Given, Edit, edit_of, next_rowid, with_rowid, are_fresh, taken_by, Applies, ids_of, no_works, Schema, Table, Values, Command, InsertOr, Database, Answers, value_rows, Task, Written, Edited, Updates, Clears, Meets, Upserts, Judged, Tries, TriesEach, InsertsOr, stamped, rowids_for, count_of, nothing, joined, Does, OnRows, State, mode_of, one_step, IsKeyedBy, update_where, all-filter, all_unmap, HasRows, columns_of, PicksOne, IsOf}
+use Rattle.sql_rows.proofs.Common.{cases_Bool, ◌≡◌, ◌≤◌, ◌<ℤ◌, ◌/◌, ◌&&◌, ◌⊎◌, ℕ, ℤ, suc, List, [], ◌∷◌, ◌++◌, map, filter, drop, length, append-nil, true, false, Bool, cond, Option, Some, None, Ok, inl, inr, refl, sym, ap, subst, ◌∙◌, arith, IsTrue, is_eq, int_cmp, AllByRecursion, list_all, Value, Null, Int, Row, Binary, value_cmp-Int, Trees, rowid, put_row, IsShaped, is_int, Enforced, Returning, Program, is_true, Compare, Eq, Term, col, op2, eval_all, holds, Query, overlay, Has, cast, cast_all, cast_row, Rowids, Chosen, Given, Edit, edit_of, next_rowid, with_rowid, are_fresh, no_works, Schema, Table, Values, Command, InsertOr, value_rows, Task, Written, Edited, Updates, Clears, Meets, Upserts, Judged, Tries, TriesEach, InsertsOr, stamped, rowids_for, count_of, nothing, joined, State, IsKeyedBy, update_where, all-filter, HasRows, columns_of, PicksOne, IsOf}
 use Rattle.sqlite_trees.specs.declared.store.Shape.TheVariants.{Table as TableShape}
 use Rattle.sqlite_schema.specs.declared.schema.Kind.TheVariants as kind
 use Rattle.sqlite_schema.specs.declared.command.Conflict.TheVariants.{Abort}
@@ -11,15 +11,21 @@ use Rattle.sqlite.specs.Rows.{Puts as PutsOne, shown as row_shown}
 use Rattle.sqlite.specs.Does.{Shows}
 use Rattle.sqlite.specs.State.{Shown, Shows as StaysShown}
 use Rattle.sql_rows.proofs.Appends.{id_of, int_is, cast_int, cast_null, cast_all_kept, are_kept, ids_rise}
-use Rattle.sql_rows.proofs.Keyed.{keyed_at, applies_keyed, put_bag, fresh_one}
-use Rattle.sql_rows.proofs.Puts.{IsPlainTable, went, same_value, chosen_if, counted_if}
-use Rattle.sql_rows.proofs.PutsRow.{numbered_row}
+use Rattle.sqlite_keyed.proofs.ListLemmas.{all_weaker, filter_none}
+use Rattle.sqlite_trees.proofs.ListLemmas.{filter_same}
+use Rattle.sqlite_rules.proofs.ListLemmas.{all_has, all_from, has_kept}
+use Rattle.sqlite_tied.proofs.RuleLemmas.{and_true}
+use Rattle.sql_rows.proofs.Keyed.{keyed_at, applies_keyed, put_last}
+use Rattle.sql_rows.proofs.Puts.{IsPlainTable, Changed, went, same_value, chosen_if, counted_if, changed, task_of}
+use Rattle.sql_rows.proofs.Fills.{numbered_row}
 use Rattle.sql_rows.proofs.Queries.{plain_query, truth_of}
-use Rattle.sql_rows.proofs.Sets.{AreInts, apart_up, apart_down, same_id, sets_one}
-use Rattle.sql_rows.proofs.Bags.{as_many, bag_update, bag_filter, short_bag}
-use Rattle.sql_rows.proofs.Alters.{Moves, idle_works, are_idle, moved, sources}
-use Rattle.sql_rows.proofs.Showing.{MeansShowing, shown_as, shows_written, one_shown}
-use Rattle.sql_rows.proofs.Tells.{SetsAndTells, updated, fit_rows, as_they_are}
+use Rattle.sql_rows.proofs.Sets.{apart_up, apart_down, same_id}
+use Rattle.sql_rows.proofs.Bags.{as_many}
+use Rattle.sql_rows.proofs.Joins.{few_list}
+use Rattle.sql_rows.proofs.Alters.{Moves, sets_of, are_idle}
+use Rattle.sql_rows.proofs.Showing.{MeansShowing, acts_showing, set_showing, one_shown}
+use Rattle.sql_rows.proofs.Picked.{rows_set, rows_told}
+use Rattle.sql_rows.proofs.Tells.{SetsAndTells}
 
 -- ---- what the statement did
 
@@ -89,13 +95,7 @@ abbrev has_id_of : Row → Row → Bool
 has_id_of x r = is_eq (int_cmp (id_of r) (id_of x))
 
 none_above : (x : Row) (rows : List Row) → AllByRecursion (λ r. id_of x <ℤ id_of r) rows → filter (has_id_of x) rows ≡ []
-none_above x [] up = refl
-none_above x (r ∷ rows) up = rw (apart_up (id_of x) (id_of r) up.0) (none_above x rows up.1)
-
-all_has : (P : Row → Type 0) (rows : List Row) (x : Row) → AllByRecursion P rows → Has rows x → P x
-all_has P [] x all miss = absurd miss
-all_has P (r ∷ rows) x all (inl is) = subst P (sym is) all.0
-all_has P (r ∷ rows) x all (inr later) = all_has P rows x all.1 later
+none_above x rows up = filter_none (has_id_of x) rows (all_weaker (λ r. id_of x <ℤ id_of r) (λ r. has_id_of x r ≡ false) (λ r. apart_up (id_of x) (id_of r)) rows up)
 
 one_has_id : (rows : List Row) (x : Row) → IsKeyedBy id_of rows → Has rows x → filter (has_id_of x) rows ≡ x ∷ []
 one_has_id [] x up miss = absurd miss
@@ -105,33 +105,17 @@ one_has_id (r ∷ rows) x up (inr later) =
     let above : id_of r <ℤ id_of x = all_has (λ y. id_of r <ℤ id_of y) rows x up.0 later in
     rw (apart_down (id_of r) (id_of x) above) (one_has_id rows x up.1 later)
 
-no_more : {Y : Type 0} (l : List Y) → length l ≤ 0 → l ≡ []
-no_more [] few = refl
-no_more (y ∷ l) few = absurd (omega (arith, few))
-
 pub passing : {Y : Type 0} (p : Y → Bool) (rows : List Y) (x : Y) → Has rows x → p x ≡ true → length (filter p rows) ≤ 1 → filter p rows ≡ x ∷ []
-passing p [] x miss is few = absurd miss
-passing p (r ∷ rows) x (inl same) is few =
-    let first : p r ≡ true = subst (λ y. p y ≡ true) same is in
-    let short : length (r ∷ filter p rows) ≤ 1 = rw first at few in
-    rw first (λ i. sym same i ∷ no_more (filter p rows) (omega (arith, short)) i)
-passing p (r ∷ rows) x (inr later) is few = go (p r) refl (passing p rows x later is)
+passing {Y} p rows x here is = go (filter p rows) (has_kept p rows x here is)
   where
-    go : (b : Bool) → p r ≡ b → (length (filter p rows) ≤ 1 → filter p rows ≡ x ∷ []) → filter p (r ∷ rows) ≡ x ∷ []
-    go true first more =
-        let short : length (r ∷ filter p rows) ≤ 1 = rw first at few in
-        let none : filter p rows ≡ [] = no_more (filter p rows) (omega (arith, short)) in
-        let some : filter p rows ≡ x ∷ [] = more (omega (arith, short)) in
-        absurd (let both : [] ≡ x ∷ [] = sym none ∙ some in cc)
-    go false first more = let short : length (filter p rows) ≤ 1 = rw first at few in rw first (more short)
+    go : (l : List Y) → Has l x → length l ≤ 1 → l ≡ x ∷ []
+    go [] miss k = absurd miss
+    go (y ∷ []) (inl same) k = ap (λ z. z ∷ []) (sym same)
+    go (y ∷ []) (inr miss) k = absurd miss
+    go (y ∷ z ∷ l) some k = absurd (omega (arith, k))
 
 none_pass : {Y : Type 0} (p : Y → Bool) (rows : List Y) → ((r : Y) → Has rows r → p r ≡ true → ⊥) → filter p rows ≡ []
-none_pass p [] miss = refl
-none_pass p (r ∷ rows) miss = go (p r) refl (none_pass p rows (λ x later. miss x (inr later)))
-  where
-    go : (b : Bool) → p r ≡ b → filter p rows ≡ [] → filter p (r ∷ rows) ≡ []
-    go true is more = absurd (miss r (inl refl) is)
-    go false is more = rw is more
+none_pass p rows miss = filter_none p rows (all_from (λ r. p r ≡ false) rows (λ r here. elim (cases_Bool (p r)) [ inl is ↦ absurd (miss r here is) | inr other ↦ other ]))
 
 -- ---- the rows afterwards, and what is shown
 
@@ -180,7 +164,7 @@ module _ {X : Type 0} (schema : Schema) (sql : List ℕ) (at : ℕ) (table : Tab
       (casts : (v : Value) (vs : Row) → cast_row table (v ∷ vs) ≡ cast kind.Integer v ∷ cast_all table.columns vs)
       (tells : (r : Row) → value_rows (params ++ Null ∷ row_shown table r) (length shows) (length shows / length shows) shows ≡ told (columns_of width r) ∷ []) where
     abbrev task : Task
-    task = record { limit = old.step_limit; keys = Enforced; schema = schema; table = table; params = params }
+    task = task_of schema params old table
 
     abbrev what : Returning
     what = record { names = means.names; row = Values shows (length shows) }
@@ -202,222 +186,112 @@ module _ {X : Type 0} (schema : Schema) (sql : List ℕ) (at : ℕ) (table : Tab
     keys_alike : (xs : List X) → HasRows width tree (map columns xs) → length (filter has_key tree) ≡ length (filter p xs)
     keys_alike xs s = as_many (columns_of width) columns has_key seen p (λ r. refl) tests_are tree xs s
 
-    updated_bag : (xs : List X) → HasRows width tree (map columns xs) → AllByRecursion IsFit xs → IsPermutation (map (columns_of width) (update_where has_key row_set tree)) (map columns (update_where p g xs))
-    updated_bag xs s all =
-        subst (IsPermutation (map (columns_of width) (update_where has_key row_set tree))) (as_they_are _ ∙ updated columns seen p set g IsFit tests_are sets_are xs all)
-        (bag_update (columns_of width) (λ vs. vs) has_key seen seen (λ r. refl) (λ vs. refl) row_set set set wide (λ vs. refl) tree (map columns xs)
-        (subst (IsPermutation (map (columns_of width) tree)) (sym (as_they_are (map columns xs))) s))
+    module _ (it : Written) (now : new.now ≡ record { schema = schema; trees = it.trees }) (stays : StaysShown old new new.now (cond old.in_transaction old.committed new.now) old.in_transaction)
+        (rows : List Row) (tells_rows : Shows task what it.trees it.rows (Ok rows)) where
+      -- the row was put
+      module _ (none : AreConflicts (Some target) schema.indexes table tree written []) (puts : PutsOne task written old.now.trees (Ok it)) where
+        abbrev edit : Edit
+        edit = edit_of old.now.trees table [] Given 0 (written ∷ [])
 
-    -- the row was put
-    module _ (it : Written) (none : AreConflicts (Some target) schema.indexes table tree written []) (puts : PutsOne task written old.now.trees (Ok it)) where
-      abbrev edit : Edit
-      edit = edit_of old.now.trees table [] Given 0 (written ∷ [])
+        put_done : Changed schema edit old new × (it.rows ≡ edit.news)
+        put_done =
+            let edited = went puts in
+            let same = same_value edited.2 in (
+              changed edit it.trees (no_works schema Enforced 0 table.tree edit.news)
+                  (subst (λ (t : Trees). Edited schema Enforced old.now.trees edit (Ok t)) (sym (ap (λ (d : Written). d.trees) same)) edited.1) now stays,
+              ap (λ (d : Written). d.rows) same,
+            )
 
-      put_applied : Applies schema Enforced old.now.trees edit it.trees × (it.rows ≡ edit.news)
-      put_applied =
-          let edited = went puts in
-          let same = same_value edited.2 in
-          let to : it.trees ≡ edited.0 = ap (λ (d : Written). d.trees) same in (
-            one_step schema Enforced old.now.trees it.trees edit (no_works schema Enforced 0 table.tree edit.news) (subst (λ (t : Trees). Edited schema Enforced old.now.trees edit (Ok t)) (sym to) edited.1),
-            ap (λ (d : Written). d.rows) same,
-          )
+        put_rows : (xs : List X) → HasRows width tree (map columns xs) → HasRows width (new.now.trees table.tree) (map columns xs ++ values ∷ [])
+        put_rows xs s =
+            let applies = put_done.0.applies in
+            subst (λ (es : List Row). HasRows width es (map columns xs ++ values ∷ [])) (sym (applies.rows ∙ ap (λ (r : Row). put_row r tree) cast_written))
+            (put_last width tree (map columns xs) written values (subst (λ (r : Row). are_fresh tree (r ∷ []) ≡ true) cast_written applies.fresh) (whole (Int (next_rowid tree))) s)
 
-      put_rows : (xs : List X) → HasRows width tree (map columns xs) → HasRows width (it.trees table.tree) (map columns xs ++ values ∷ [])
-      put_rows xs s =
-          let applies = put_applied.0 in
-          let to : it.trees table.tree ≡ put_row written tree = applies.rows ∙ ap (λ (r : Row). put_row r tree) cast_written in
-          let free = fresh_one tree written (subst (λ (r : Row). are_fresh tree (r ∷ []) ≡ true) cast_written applies.fresh) in
-          let bag : IsPermutation (map (columns_of width) (put_row written tree)) (columns_of width written ∷ map (columns_of width) tree) =
-          IsPermutation-map (columns_of width) _ _ (IsPermutation-sym _ _ (put_bag written tree free)) in
-          let first : IsPermutation (columns_of width written ∷ map (columns_of width) tree) (values ∷ map columns xs) =
-          subst (λ (vs : Row). IsPermutation (columns_of width written ∷ map (columns_of width) tree) (vs ∷ map columns xs)) (whole (Int (next_rowid tree))) (IsPermutation-cons _ _ _ s) in
-          subst (λ (es : List Row). HasRows width es (map columns xs ++ values ∷ [])) (sym to)
-          (IsPermutation-trans _ _ _ bag (IsPermutation-trans _ _ _ first (IsPermutation-sym _ _ (IsPermutation-to_front (map columns xs) values))))
+        put_shown : rows ≡ told values ∷ []
+        put_shown =
+            let news : it.rows ≡ written ∷ [] = put_done.1 ∙ ap (λ (r : Row). r ∷ []) cast_written in
+            one_shown task means.names shows it.trees written rows (subst (λ (rs : List Row). Shows task what it.trees rs (Ok rows)) news tells_rows) ∙ tells written
+            ∙ ap (λ (vs : Row). told vs ∷ []) (whole (Int (next_rowid tree)))
 
-      put_shown : (rows : List Row) → Shows task what it.trees it.rows (Ok rows) → rows ≡ told values ∷ []
-      put_shown rows h =
-          let news : it.rows ≡ written ∷ [] = put_applied.1 ∙ ap (λ (r : Row). r ∷ []) cast_written in
-          one_shown task means.names shows it.trees written rows (subst (λ (rs : List Row). Shows task what it.trees rs (Ok rows)) news h) ∙ tells written
-          ∙ ap (λ (vs : Row). told vs ∷ []) (whole (Int (next_rowid tree)))
+        put_none : (xs : List X) → HasRows width tree (map columns xs) → PicksOne p xs → filter p xs ≡ []
+        put_none xs s few =
+            let miss : filter has_key tree ≡ [] = none_pass has_key tree (λ r here is. none.complete r here (meets (Int (next_rowid tree)) r ∙ is)) in
+            let count : 0 ≡ length (filter p xs) = sym (ap length miss) ∙ keys_alike xs s in
+            elim (few_list (filter p xs) few) [ inl is ↦ is | inr one ↦ absurd (omega (arith, count, ap length one.1)) ]
 
-      put_none : (xs : List X) → HasRows width tree (map columns xs) → filter p xs ≡ []
-      put_none xs s =
-          let miss : filter has_key tree ≡ [] = none_pass has_key tree (λ r here is. none.complete r here (meets (Int (next_rowid tree)) r ∙ is)) in
-          let few : 0 ≡ length (filter p xs) = sym (ap length miss) ∙ keys_alike xs s in
-          no_more (filter p xs) (omega (arith, few))
+      -- a row was there
+      module _ (id : Value) (updates : Updates task program (read_with id written) old.now.trees (Ok it)) where
+        abbrev given : Row
+        given = read_with id written
 
-    -- a row was there
-    module _ (it : Written) (id : Value) (updates : Updates task program (read_with id written) old.now.trees (Ok it)) (to : new.now.schema ≡ schema) (trees : new.now.trees ≡ it.trees)
-        (kept_shown : StaysShown old new new.now (cond old.in_transaction old.committed new.now) old.in_transaction) where
-      abbrev given : Row
-      given = read_with id written
+        set_done : (m : Moves schema (sets_of old.now.trees table) body given old new) × Shows task what new.now.trees (sets_of old.now.trees table m.rows).news (Ok rows)
+        set_done = set_showing schema params old new table what body given it idle updates now stays rows tells_rows
 
-      found_rows : (rows : List Row) × Answers (record { schema = schema; trees = old.now.trees }) program given rows
-          × Edited schema Enforced old.now.trees (edit_of old.now.trees table (ids_of rows) Given 1 rows) (Ok it.trees) × (it.rows ≡ (edit_of old.now.trees table (ids_of rows) Given 1 rows).news)
-      found_rows =
-          let found = went updates in
-          let edited = went found.2 in
-          let same = same_value edited.2 in (
-            found.0,
-            found.1,
-            subst (λ (t : Trees). Edited schema Enforced old.now.trees (edit_of old.now.trees table (ids_of found.0) Given 1 found.0) (Ok t)) (sym (ap (λ (d : Written). d.trees) same)) edited.1,
-            ap (λ (d : Written). d.rows) same,
-          )
+        module _ (keyed : IsShaped TableShape tree) (x : Row) (here : Has tree x) (its : id ≡ rowid x) (key : has_key x ≡ true) where
+          abbrev test : Row → Bool
+          test r = list_all (holds (given ∷ r ∷ [])) by_rowid
 
-      moves : Moves schema table body given old new
-      moves =
-          let found = found_rows in
-          let step = edit_of old.now.trees table (ids_of found.0) Given 1 found.0 in
-          let applied = one_step schema Enforced old.now.trees it.trees step (idle_works schema 0 table.tree (taken_by old.now.trees step) step.news idle) found.2 in
-          record {
-            schema_is = to;
-            rows = found.0;
-            answer = found.1.answer Null;
-            applies = subst (λ (t : Trees). Applies schema Enforced old.now.trees step t) (sym trees) applied;
-            shows = kept_shown;
-          }
+          tested : (r : Row) → IsTrue (is_int (rowid r)) → test r ≡ has_id_of x r
+          tested r int =
+              picks id written r ∙ ap (λ (v : Value). is_true (binary (Compare Eq Binary) (rowid r) v) && true) its
+              ∙ (λ i. is_true (binary (Compare Eq Binary) (int_is (rowid r) int i) (int_is (rowid x) (all_has (λ r. IsTrue (is_int (rowid r))) tree x keyed.1 here) i)) && true)
+              ∙ and_true _ ∙ equal_ints (id_of r) (id_of x)
 
-      module _ (keyed : IsShaped TableShape tree) (x : Row) (here : Has tree x) (its : id ≡ rowid x) where
-        abbrev test : Row → Bool
-        test r = list_all (holds (given ∷ r ∷ [])) by_rowid
+          picked : filter test tree ≡ x ∷ []
+          picked = filter_same test (has_id_of x) tree (all_weaker (λ r. IsTrue (is_int (rowid r))) (λ r. test r ≡ has_id_of x r) tested tree keyed.1) ∙ one_has_id tree x (ids_rise tree keyed) here
 
-        ints : AreInts tree
-        ints = keyed.1
-
-        tested : (r : Row) → IsTrue (is_int (rowid r)) → test r ≡ has_id_of x r
-        tested r int =
-            picks id written r ∙ ap (λ (v : Value). is_true (binary (Compare Eq Binary) (rowid r) v) && true) its
-            ∙ (λ i. is_true (binary (Compare Eq Binary) (int_is (rowid r) int i) (int_is (rowid x) (all_has (λ r. IsTrue (is_int (rowid r))) tree x ints here) i)) && true)
-            ∙ ap (λ (b : Bool). b && true) (equal_ints (id_of r) (id_of x)) ∙ plain_and (has_id_of x r)
-          where
-            plain_and : (b : Bool) → (b && true) ≡ b
-            plain_and true = refl
-            plain_and false = refl
-
-        same_picks : (rows : List Row) → AreInts rows → filter test rows ≡ filter (has_id_of x) rows
-        same_picks [] all = refl
-        same_picks (r ∷ rows) all = (λ i. cond (tested r all.0 i) (r ∷ same_picks rows all.1 i) (same_picks rows all.1 i))
-
-        picked : filter test tree ≡ x ∷ []
-        picked = same_picks tree ints ∙ one_has_id tree x (ids_rise tree keyed) here
-
-        few : length (filter test tree) ≤ 1
-        few = subst (λ (l : List Row). length l ≤ 1) (sym picked) (omega arith)
-
-        abbrev row_read : Row → Row
-        row_read r = eval_all shown (given ∷ r ∷ [])
-
-        module _ (xs : List X) (s : HasRows width tree (map columns xs)) (all : AllByRecursion IsFit xs) where
-          cast_as : cast_row table (drop 1 (row_read x)) ≡ row_set x
-          cast_as =
-              let types : AllByRecursion (λ r. (c : X) × IsFit c × (columns_of width r ≡ columns c)) tree = all_unmap (λ (vs : Row). (c : X) × IsFit c × (vs ≡ columns c)) (columns_of width) tree
-              (all-permutation (λ (vs : Row). (c : X) × IsFit c × (vs ≡ columns c)) _ _ (IsPermutation-sym _ _ s) (fit_rows columns seen p set g IsFit tests_are sets_are xs all)) in
-              let type = all_has (λ r. (c : X) × IsFit c × (columns_of width r ≡ columns c)) tree x types here in
-              let int = all_has (λ r. IsTrue (is_int (rowid r))) tree x ints here in
-              let fit : are_kept table.columns (set (columns_of width x)) ≡ true = ap (λ vs. are_kept table.columns (set vs)) type.2 ∙ kept type.0 type.1 in
-              ap (cast_row table) (sets_shown id written x) ∙ casts (rowid x) (set (columns_of width x))
-              ∙ (λ i. (ap (cast kind.Integer) (int_is (rowid x) int) ∙ cast_int (id_of x)) i ∷ cast_all_kept table.columns (set (columns_of width x)) fit i)
-
-          cast_one : (r : Row) → filter test tree ≡ r ∷ [] → cast_row table (drop 1 (row_read r)) ≡ row_set r
-          cast_one r one_is = let same : x ≡ r = one_of (sym picked ∙ one_is) in subst (λ (y : Row). cast_row table (drop 1 (row_read y)) ≡ row_set y) same cast_as
-            where
-              one_of : {y z : Row} → ◌≡◌ {A = List Row} (y ∷ []) (z ∷ []) → y ≡ z
-              one_of e = cc
-
-          abbrev keeps : (r : Row) → id_of (row_set r) ≡ id_of r
-          keeps r = refl
-
-          set_rows : (has_key x ≡ true) → PicksOne p xs → HasRows width (new.now.trees table.tree) (map columns (update_where p g xs))
-          set_rows key short =
-              let by_key : filter has_key tree ≡ x ∷ [] = passing has_key tree x here key (subst (λ (n : ℕ). n ≤ 1) (sym (keys_alike xs s)) short) in
-              let is_moved : new.now.trees table.tree ≡ update_where test row_set tree =
-              moved schema table by_rowid shown given old new moves low row_set (λ r. refl) (λ r. refl) keyed (id_shown id written) few cast_one in
-              let alike : update_where test row_set tree ≡ update_where has_key row_set tree =
-              sym (sets_one test row_set (λ r. refl) (λ r. refl) tree x keyed picked) ∙ sets_one has_key row_set (λ r. refl) (λ r. refl) tree x keyed by_key in
-              subst (λ (es : List Row). HasRows width es (map columns (update_where p g xs))) (sym (is_moved ∙ alike)) (updated_bag xs s all)
-
-          told_of : (c : X) → filter p xs ≡ c ∷ [] → has_key x ≡ true → columns_of width x ≡ columns c
-          told_of c one_is key =
-              let by_key : filter has_key tree ≡ x ∷ [] = passing has_key tree x here key (subst (λ (n : ℕ). n ≤ 1) (sym (keys_alike xs s ∙ ap length one_is)) (omega arith)) in
-              let bag = bag_filter (columns_of width) columns has_key seen p (λ r. refl) tests_are tree xs s in
-              let one_bag : map (columns_of width) (x ∷ []) ≡ map columns (c ∷ []) =
-              sym (ap (map (columns_of width)) by_key) ∙ short_bag _ _ bag (subst (λ (l : List X). length (map columns l) ≤ 1) (sym one_is) (omega arith)) ∙ ap (map columns) one_is in
-              cc
-
-          set_shown : (rows : List Row) → Shows task what it.trees it.rows (Ok rows) → (c : X) → filter p xs ≡ c ∷ [] → IsFit c → has_key x ≡ true → rows ≡ told (columns (g c)) ∷ []
-          unfolding found_rows moves
-          set_shown rows h c one_is fit key =
-              let found = found_rows in
-              let read : found.0 ≡ row_read x ∷ [] =
-              sources schema table by_rowid shown given old new moves low row_set (λ r. refl) (λ r. refl) keyed (id_shown id written) few ∙ ap (map row_read) picked in
-              let news : it.rows ≡ row_set x ∷ [] =
-              found.3 ∙ ap (λ (rs : List Row). (edit_of old.now.trees table (ids_of rs) Given 1 rs).news) read ∙ ap (λ (r : Row). r ∷ []) cast_as in
-              one_shown task means.names shows it.trees (row_set x) rows (subst (λ (rs : List Row). Shows task what it.trees rs (Ok rows)) news h) ∙ tells (row_set x)
-              ∙ ap (λ (vs : Row). told vs ∷ []) (wide x ∙ ap set (told_of c one_is key) ∙ sets_are c fit)
+          there_rows : UpsertsRows rows
+          there_rows xs s all few =
+              let by_key : filter has_key tree ≡ x ∷ [] = passing has_key tree x here key (subst (λ (n : ℕ). n ≤ 1) (sym (keys_alike xs s)) few) in
+              let same = picked ∙ sym by_key in
+              let has_rows = rows_set schema table width by_rowid shown given columns seen p set g IsFit tests_are sets_are kept old new set_done.0 low (sets_shown id written) (id_shown id written) wide casts
+              keyed same xs s all few in
+              let are = rows_told schema table width by_rowid shown given columns seen p set g IsFit tests_are sets_are kept old new set_done.0 low (sets_shown id written) (id_shown id written) wide casts
+              keyed same xs s all few params means.names shows (λ vs. told (set vs)) rows (λ r. tells (row_set r) ∙ ap (λ (vs : Row). told vs ∷ []) (wide r)) set_done.1 in
+              elim (few_list (filter p xs) few) [
+                | inl none ↦ absurd (omega (arith, sym (ap length by_key) ∙ keys_alike xs s ∙ ap length none))
+                | inr one ↦
+                    let fit = subst (AllByRecursion IsFit) one.1 (all-filter IsFit p xs all) in
+                    inr (one.0, one.1, has_rows, are ∙ ap (map (λ c. told (set (columns c)))) one.1 ∙ ap (λ (vs : Row). told vs ∷ []) (sets_are one.0 fit.0))
+              ]
 
     -- ---- the whole
 
     pub upserts_and_tells : (rows : List Row) → Shown sql params old new rows → SetsAndTells schema table.tree old new (UpsertsRows rows)
     upserts_and_tells rows h =
-        let shown_by = shown_as schema sql params old new has upserting shows means rows h in
-        let w = shown_by.1.1 in
-        let placed = subst (λ s. Does old.step_limit (mode_of old) params (record old.now { schema = s }) shown_by.0 (Some what) upserting (Ok (w.tally, new.now))) has w.changed in
-        let on_rows : OnRows task (mode_of old) (Some what) upserting old.now.trees (Ok (w.tally, new.now)) = rw plain.place at placed in
-        let done = went on_rows in
-        let end = shows_written task (mode_of old) means.names shows done.0 w.tally new.now done.2 in
+        let done = acts_showing schema sql params old new has upserting shows means table (λ text out on. rw plain.place at on) rows h in
         let wrote = inserted_or task (record { target = Some target; update = Some program } ∷ []) terms (suc width) (eval_all terms (params ∷ [])) old.now.trees done.0 plain.uncounted plain.unstamped one done.1 in
         let it = wrote.0 in
-        let trees : new.now.trees ≡ it.trees = ap (λ (d : Database). d.trees) end.0 ∙ wrote.2 in
-        let to : new.now.schema ≡ schema = ap (λ (d : Database). d.schema) end.0 in
         let tries = subst (λ (r : Row). Tries task Abort (record { target = Some target; update = Some program } ∷ []) r old.now.trees (Ok it)) as_written wrote.1 in
+        let now : new.now ≡ record { schema = schema; trees = it.trees } = done.2 ∙ ap (λ (t : Trees). record { schema = schema; trees = t }) wrote.2 in
         let told_rows : Shows task what it.trees it.rows (Ok rows) =
-        subst (λ (rs : List Row). Shows task what it.trees it.rows (Ok rs)) (sym shown_by.1.2)
-        (subst (λ (d : Trees). Shows task what d it.rows (Ok w.tally.shown)) wrote.2 (subst (λ (rs : List Row). Shows task what done.0.trees rs (Ok w.tally.shown)) wrote.3 end.1)) in
-        by_end it (tried task target program written old.now.trees it tries) trees to told_rows w.shown
+        subst (λ (d : Trees). Shows task what d it.rows (Ok rows)) wrote.2 (subst (λ (rs : List Row). Shows task what done.0.trees rs (Ok rows)) wrote.3 done.4) in
+        by_end it now done.3 told_rows (tried task target program written old.now.trees it tries)
       where
-        by_end : (it : Written) → Ends task target program written old.now.trees it → new.now.trees ≡ it.trees → new.now.schema ≡ schema → Shows task what it.trees it.rows (Ok rows)
-            → StaysShown old new new.now (cond old.in_transaction old.committed new.now) old.in_transaction → SetsAndTells schema table.tree old new (UpsertsRows rows)
-        by_end it (inl put) trees to told_rows stays =
-            let applied = put_applied it put.0 put.1 in
-            let applies = subst (λ (t : Trees). Applies schema Enforced old.now.trees (edit it put.0 put.1) t) (sym trees) applied.0 in
+        by_end : (it : Written) (now : new.now ≡ record { schema = schema; trees = it.trees }) (stays : StaysShown old new new.now (cond old.in_transaction old.committed new.now) old.in_transaction)
+            → Shows task what it.trees it.rows (Ok rows) → Ends task target program written old.now.trees it → SetsAndTells schema table.tree old new (UpsertsRows rows)
+        by_end it now stays told_rows (inl put) =
+            let done = (put_done it now stays rows told_rows put.0 put.1).0 in
             record {
-              schema_is = to;
-              keyed = applies_keyed schema Enforced old.now.trees new.now.trees _ at plain.place applies;
-              others = applies.tables;
+              schema_is = done.schema_is;
+              keyed = applies_keyed schema Enforced old.now.trees new.now.trees _ at plain.place done.applies;
+              others = done.applies.tables;
               rows = λ keyed xs s all few. inl (
-                put_none it put.0 put.1 xs s,
-                subst (λ (t : Trees). HasRows width (t table.tree) (map columns xs ++ values ∷ [])) (sym trees) (put_rows it put.0 put.1 xs s),
-                put_shown it put.0 put.1 rows told_rows,
+                put_none it now stays rows told_rows put.0 put.1 xs s few,
+                put_rows it now stays rows told_rows put.0 put.1 xs s,
+                put_shown it now stays rows told_rows put.0 put.1,
               );
             }
-        by_end it (inr met) trees to told_rows stays =
+        by_end it now stays told_rows (inr met) =
             let there = met.0 in
             let sound = met.2.sound there (inl refl) in
             let x = sound.0 in
-            let id = rowid there in
-            let its : id ≡ rowid x = ap rowid sound.3 in
-            let key : has_key x ≡ true = sym (meets (Int (next_rowid tree)) x) ∙ sound.2 in
-            let m = moves it id met.3 to trees stays in
+            let done = (set_done it now stays rows told_rows (rowid there) met.3).0.done in
             record {
-              schema_is = to;
-              keyed = applies_keyed schema Enforced old.now.trees new.now.trees _ at plain.place m.applies;
-              others = m.applies.tables;
-              rows = λ keyed xs s all few. let shaped = keyed_at schema old.now.trees at table plain.place keyed in
-                  there_rows it id met.3 to trees stays shaped x sound.1 its key told_rows xs s all few (filter p xs) refl;
+              schema_is = done.schema_is;
+              keyed = applies_keyed schema Enforced old.now.trees new.now.trees _ at plain.place done.applies;
+              others = done.applies.tables;
+              rows = λ keyed. there_rows it now stays rows told_rows (rowid there) met.3 (keyed_at schema old.now.trees at table plain.place keyed) x sound.1 (ap rowid sound.3)
+                  (sym (meets (Int (next_rowid tree)) x) ∙ sound.2);
             }
-          where
-            there_rows : (it : Written) (id : Value) (updates : Updates task program (read_with id written) old.now.trees (Ok it)) (to : new.now.schema ≡ schema) (trees : new.now.trees ≡ it.trees)
-                (stays : StaysShown old new new.now (cond old.in_transaction old.committed new.now) old.in_transaction) (shaped : IsShaped TableShape tree) (x : Row) (here : Has tree x) (its : id ≡ rowid x)
-                → has_key x ≡ true → Shows task what it.trees it.rows (Ok rows) → (xs : List X) (s : HasRows width tree (map columns xs)) (all : AllByRecursion IsFit xs) → PicksOne p xs
-                → (found : List X) → filter p xs ≡ found
-                → ((filter p xs ≡ []) × HasRows width (new.now.trees table.tree) (map columns xs ++ values ∷ []) × (rows ≡ told values ∷ []))
-                ⊎ ((x : X) × (filter p xs ≡ x ∷ []) × HasRows width (new.now.trees table.tree) (map columns (update_where p g xs)) × (rows ≡ told (columns (g x)) ∷ []))
-            there_rows it id updates to trees stays shaped x here its key told_rows xs s all few [] none =
-                let some : filter has_key tree ≡ x ∷ [] = passing has_key tree x here key (subst (λ (n : ℕ). n ≤ 1) (sym (keys_alike xs s)) few) in
-                let miss : 1 ≡ 0 = sym (ap length some) ∙ keys_alike xs s ∙ ap length none in
-                absurd (omega (arith, miss))
-            there_rows it id updates to trees stays shaped x here its key told_rows xs s all few (c ∷ []) one_is =
-                let fit = subst (AllByRecursion IsFit) one_is (all-filter IsFit p xs all) in
-                inr (c, one_is, set_rows it id updates to trees stays shaped x here its xs s all key few, set_shown it id updates to trees stays shaped x here its xs s all rows told_rows c one_is fit.0 key)
-            there_rows it id updates to trees stays shaped x here its key told_rows xs s all few (c ∷ d ∷ more) two =
-                let short : length (c ∷ d ∷ more) ≤ 1 = subst (λ (l : List X). length l ≤ 1) two few in absurd (omega (arith, short))

@@ -6,7 +6,8 @@ ghost use Rattle.sqlite.specs.State.{HasCleanDisk, Survives, KeepsCommit};
 ghost use Rattle.sql_rows.specs.Builds.{Builds};
 ghost use Rattle.sql_rows.specs.Fault.{IsToldOf, StatementGave, OneGave};
 
-use crate::fault::{StoreFault, fault_of};
+use crate::call::execute;
+use crate::fault::StoreFault;
 use sqlite::{Alter, Transaction};
 
 /// Makes one table.
@@ -22,10 +23,7 @@ fn make_table<S: Alter>(tx: &mut Transaction<'_, S>, text: &str) -> Result<(), S
         → IfErr result (IsToldOf
         (StatementGave text.now [] (state S.Store tx.old.conn.now) (state S.Store tx.new.conn.now))) }
 {
-    match tx.execute(text, &[]) {
-        Ok(_) => Ok(()),
-        Err(error) => Err(fault_of(error)),
-    }
+    execute(tx, text, &[])
 }
 
 /// Makes the tables of the texts, each a CREATE TABLE, in their order and with no rows. Where the texts build a
