@@ -1,5 +1,7 @@
 -- Where a mark is, from the copies and the lines that have it.
-use Rattle.shop_schema.proofs.Common.{◌≡◌, ◌+◌, ◌<◌, ◌≤◌, ◌&&◌, ◌||◌, ℕ, Bool, true, false, cond, List, [], ◌∷◌, ◌++◌, map, filter, take, drop, length, get_or, Some, None, IsPermutation, refl, sym, ap, subst, ◌∙◌, arith, slice_get, list_any, flat_map, take-append-drop, filter-append, filter_more, IsPermutation-sym, short_bag, Row, numbered_from, total, Here, Books, BookCopy, Mark, Line, Consignment, UnderWay, one, copy_is, line_is, is_mark, transit, places, Shows, HereAt, UnderWayTo, Gone, place_of, custody_of, filter_map, total-append}
+use Rattle.shop_schema.proofs.Common.{filter_filter, ◌≡◌, ◌+◌, ◌≤◌, ◌&&◌, ◌||◌, ℕ, Bool, true, false, cond, List, [], ◌∷◌, ◌++◌, map, filter, length, Some, None, IsPermutation, refl, sym, ap, subst, ◌∙◌, arith, slice_get, list_any, flat_map, filter-append, IsPermutation-sym, short_bag, Row, numbered_from, total, Here, Books, BookCopy, Mark, Line, Consignment, UnderWay, one, copy_is, line_is, is_mark, transit, places, Shows, HereAt, UnderWayTo, Gone, place_of, custody_of, filter_map, total-append}
+use Rattle.std.specs.List.{find}
+use Rattle.sqlite_keyed.proofs.ListLemmas.{slice_get-filter}
 use Rattle.sqlite_trees.proofs.ListLemmas.{IsPermutation-filter}
 use Rattle.shop_model.specs.Sound.{here}
 use Rattle.shop_store.specs.declared.copies.CopyRow.{CopyRow}
@@ -9,36 +11,13 @@ use Rattle.consign_store.specs.Parts.{Placed, placed_at, placed_in, all_placed}
 use Rattle.consign_store.specs.Seen.{seen_line}
 use Rattle.consign_store.specs.Custody.{is_here, is_under_way, copies_here, lines_under_way, HasOnePlace}
 
--- ---- the first that passes
-
-module _ {X : Type 0} (p : X → Bool) where
-  shown_at : (xs : List X) (i : ℕ) (x : X) → i < length xs → x ≡ get_or xs i x → filter p (take (i + 1) xs) ≡ filter p (take i xs) ++ cond (p x) (x ∷ []) []
-  shown_at xs i x lt is = filter_more p xs i x lt ∙ ap (λ (y : X). filter p (take i xs) ++ cond (p y) (y ∷ []) []) (sym is)
-
-  pub first_passing : (xs : List X) (i : ℕ) (x : X) → i < length xs → x ≡ get_or xs i x → p x ≡ true → filter p (take i xs) ≡ [] → slice_get (filter p xs) 0 ≡ Some x
-  first_passing xs i x lt is hit none =
-      let front : filter p (take (i + 1) xs) ≡ x ∷ [] = shown_at xs i x lt is ∙ (λ k. none k ++ cond (hit k) (x ∷ []) []) in
-      let whole : filter p xs ≡ x ∷ filter p (drop (i + 1) xs) =
-      ap (filter p) (sym (take-append-drop (i + 1) xs)) ∙ filter-append p (take (i + 1) xs) (drop (i + 1) xs) ∙ ap (λ (l : List X). l ++ filter p (drop (i + 1) xs)) front in
-      ap (λ (l : List X). slice_get l 0) whole
-
 -- ---- both tests
-
-both : {X : Type 0} (p q : X → Bool) (xs : List X) → filter p (filter q xs) ≡ filter (λ x. p x && q x) xs
-both p q [] = refl
-both p q (x ∷ xs) = go (p x) (q x) refl (both p q xs)
-  where
-    go : (a b : Bool) → p x ≡ a → filter p (filter q xs) ≡ filter (λ x. p x && q x) xs → filter p (cond b (x ∷ filter q xs) (filter q xs)) ≡ cond (a && b) (x ∷ filter (λ x. p x && q x) xs) (filter (λ x. p x && q x) xs)
-    go true true hit more = rw hit (ap (λ l. x ∷ l) more)
-    go true false hit more = more
-    go false true miss more = rw miss more
-    go false false miss more = more
 
 passing_bag : {R X : Type 0} (seen : R → X) (p q : X → Bool) (xs : List X) (rows : List R) → IsPermutation (filter q xs) (map seen rows) → length (filter (λ x. p x && q x) xs) ≤ 1
     → map seen (filter (λ r. p (seen r)) rows) ≡ filter (λ x. p x && q x) xs
 passing_bag seen p q xs rows same few =
     let bag : IsPermutation (filter (λ x. p x && q x) xs) (map seen (filter (λ r. p (seen r)) rows)) =
-    subst (λ l. IsPermutation l (map seen (filter (λ r. p (seen r)) rows))) (both p q xs) (subst (IsPermutation (filter p (filter q xs))) (filter_map p seen rows) (IsPermutation-filter p _ _ same)) in
+    subst (λ l. IsPermutation l (map seen (filter (λ r. p (seen r)) rows))) (filter_filter p q xs) (subst (IsPermutation (filter p (filter q xs))) (filter_map p seen rows) (IsPermutation-filter p _ _ same)) in
     short_bag _ _ (IsPermutation-sym _ _ bag) few
 
 -- ---- the consignment of a line
@@ -116,9 +95,9 @@ module _ (mark : Mark) (books : Books) (one : HasOnePlace mark books) where
       → map seen_line (filter is_under_way rows) ≡ lines_under_way mark books
   lines_are rows same = passing_bag seen_line (λ (row : Placed). line_is row.it.state UnderWay) (λ (row : Placed). is_mark mark row.it.mark) (all_placed books.consignments) rows same one.1
 
-  pub place_here : (rows : List CopyRow) (row : CopyRow) → IsPermutation (filter (λ (row : Row BookCopy). is_mark mark row.it.mark) books.copies) (map seen_copy_row rows) → slice_get (filter is_here rows) 0 ≡ Some row
+  pub place_here : (rows : List CopyRow) (row : CopyRow) → IsPermutation (filter (λ (row : Row BookCopy). is_mark mark row.it.mark) books.copies) (map seen_copy_row rows) → find is_here rows ≡ Some row
       → Shows (HereAt row.branch row.number) ≡ place_of mark books
-  place_here rows row same first = go (filter is_here rows) first (copies_are rows same)
+  place_here rows row same first = go (filter is_here rows) (slice_get-filter is_here rows ∙ first) (copies_are rows same)
     where
       go : (found : List CopyRow) → slice_get found 0 ≡ Some row → map seen_copy_row found ≡ copies_here mark books → Shows (HereAt row.branch row.number) ≡ place_of mark books
       go [] first are = absurd cc
@@ -126,17 +105,17 @@ module _ (mark : Mark) (books : Books) (one : HasOnePlace mark books) where
           let its : x ≡ row = cc in
           ap (λ (r : CopyRow). Shows (HereAt r.branch r.number)) (sym its) ∙ ap (λ (l : List (Row BookCopy)). custody_of mark l unders) are
 
-  none_here : (rows : List CopyRow) → IsPermutation (filter (λ (row : Row BookCopy). is_mark mark row.it.mark) books.copies) (map seen_copy_row rows) → slice_get (filter is_here rows) 0 ≡ None → copies_here mark books ≡ []
-  none_here rows same none = go (filter is_here rows) none (copies_are rows same)
+  none_here : (rows : List CopyRow) → IsPermutation (filter (λ (row : Row BookCopy). is_mark mark row.it.mark) books.copies) (map seen_copy_row rows) → find is_here rows ≡ None → copies_here mark books ≡ []
+  none_here rows same none = go (filter is_here rows) (slice_get-filter is_here rows ∙ none) (copies_are rows same)
     where
       go : (found : List CopyRow) → slice_get found 0 ≡ None → map seen_copy_row found ≡ copies_here mark books → copies_here mark books ≡ []
       go [] none are = sym are
       go (x ∷ xs) none are = absurd cc
 
-  module _ (rows : List CopyRow) (lines : List LineRow) (same : IsPermutation (filter (λ (row : Row BookCopy). is_mark mark row.it.mark) books.copies) (map seen_copy_row rows)) (none : slice_get (filter is_here rows) 0 ≡ None)
+  module _ (rows : List CopyRow) (lines : List LineRow) (same : IsPermutation (filter (λ (row : Row BookCopy). is_mark mark row.it.mark) books.copies) (map seen_copy_row rows)) (none : find is_here rows ≡ None)
       (alike : IsPermutation (filter (λ (row : Placed). is_mark mark row.it.mark) (all_placed books.consignments)) (map seen_line lines)) where
-    pub place_under_way : (line : LineRow) → slice_get (filter is_under_way lines) 0 ≡ Some line → Shows (UnderWayTo line.key.source line.key.addressee line.key.number) ≡ place_of mark books
-    place_under_way line first = go (filter is_under_way lines) first (lines_are lines alike)
+    pub place_under_way : (line : LineRow) → find is_under_way lines ≡ Some line → Shows (UnderWayTo line.key.source line.key.addressee line.key.number) ≡ place_of mark books
+    place_under_way line first = go (filter is_under_way lines) (slice_get-filter is_under_way lines ∙ first) (lines_are lines alike)
       where
         go : (found : List LineRow) → slice_get found 0 ≡ Some line → map seen_line found ≡ lines_under_way mark books → Shows (UnderWayTo line.key.source line.key.addressee line.key.number) ≡ place_of mark books
         go [] first are = absurd cc
@@ -147,8 +126,8 @@ module _ (mark : Mark) (books : Books) (one : HasOnePlace mark books) where
             ∙ ap (λ (l : List Consignment). custody_of mark [] l) (sym it.1) ∙ ap (λ (l : List (Row BookCopy)). custody_of mark l unders) (sym (none_here rows same none))
         go (x ∷ y ∷ more) first are = let short : length (map seen_line (x ∷ y ∷ more)) ≤ 1 = subst (λ l. length l ≤ 1) (sym are) one.1 in absurd (omega (arith, short))
 
-    pub place_gone : slice_get (filter is_under_way lines) 0 ≡ None → Shows Gone ≡ place_of mark books
-    place_gone first = go (filter is_under_way lines) first (lines_are lines alike)
+    pub place_gone : find is_under_way lines ≡ None → Shows Gone ≡ place_of mark books
+    place_gone first = go (filter is_under_way lines) (slice_get-filter is_under_way lines ∙ first) (lines_are lines alike)
       where
         go : (found : List LineRow) → slice_get found 0 ≡ None → map seen_line found ≡ lines_under_way mark books → Shows Gone ≡ place_of mark books
         go [] first are =

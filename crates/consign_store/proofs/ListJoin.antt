@@ -1,11 +1,11 @@
 -- What the joins of the lists of consignments show of the books.
-use Rattle.shop_schema.proofs.Common.{◌≡◌, ◌==◌, ◌&&◌, ◌<◌, ◌+◌, ℕ, List, [], ◌∷◌, ◌++◌, map, filter, true, false, Bool, cond, Option, Some, None, refl, sym, ap, subst, ◌∙◌, arith, is_eq, is_lt, append-nil, inl, inr, IsPermutation, flat_map, AllByRecursion, IsPermutation-trans, IsPermutation-map, Value, Null, or_null, column, Key, Trees, IsAscending, Term, col, Query, Join, inner, left, end, Output, output_cmp, overlay, State, map-map, IsPermutation-same, IsPermutation-flat_map, ascending-map, ascending_weaker, ascending-append, all-map, all-flat_map, all_weaker, HasRows, columns_of, number_value, flag_value, Selects, answers, passing, three_tested, number_tested, joined_query, are_equal, or_blank, shown_of, equals, left_bag, joined_rows, Climbs, numbered, numbered_from, AreNumbered, Books, Line, Consignment, is_consignment, same_test, shop_schema, consignment_columns, IsShop, StandsFor}
+use Rattle.shop_schema.proofs.Common.{IsTotalOrder, tied_itself, ordering_reverse, ordering_then, Ordering, Less, Equal, Greater, nat_cmp, number_cmp, value_cmp, nat_tests, ◌≡◌, ◌==◌, ◌&&◌, ◌<◌, ℕ, List, [], ◌∷◌, ◌++◌, map, filter, true, false, Bool, cond, Option, Some, None, refl, sym, ap, subst, ◌∙◌, arith, is_eq, is_lt, append-nil, inl, inr, IsPermutation, flat_map, AllByRecursion, IsPermutation-trans, IsPermutation-map, Value, Null, or_null, column, Key, Trees, IsAscending, Term, col, Query, Join, inner, left, end, Output, output_cmp, overlay, State, map-map, IsPermutation-same, IsPermutation-flat_map, ascending-map, ascending_weaker, ascending-append, all-map, all-flat_map, all_weaker, HasRows, columns_of, number_value, flag_value, Selects, answers, passing, three_tested, number_tested, joined_query, are_equal, or_blank, shown_of, equals, left_bag, joined_rows, Climbs, numbered, AreNumbered, Books, Line, Consignment, is_consignment, same_test, shop_schema, consignment_columns, IsShop, StandsFor}
+use Rattle.shop_store.proofs.LastNumbers.{numbered_rise}
 use Rattle.sqlite_value.specs.Order as sql
 use Rattle.sqlite_rules.specs.Lists.{Has}
 use Rattle.sqlite.specs.State.{Shown}
 use Rattle.consign_store.specs.Parts.{Placed, placed_at, placed_in, all_placed, placed_columns, is_within}
 use Rattle.consign_store.specs.Listed.{ListLine, shown_line, lines_of, list_lines}
-use Rattle.consign_store.proofs.ListLemmas.{nothing_more}
 use Rattle.consign_store.proofs.Parts.{lines_are, lines_pass}
 use Rattle.consign_store.proofs.PairCounts.{picks_consignment}
 
@@ -45,19 +45,28 @@ found_own cs counted = all_from {P = λ it. found cs it ≡ numbered it.lines} c
     one it here =
         let alone : filter (is_consignment it.source it.addressee it.number) cs ≡ it ∷ [] =
         passing (is_consignment it.source it.addressee it.number) cs it here (own_key it) (picks_consignment it.source it.addressee it.number cs (counted it.source it.addressee)) in
-        ap (λ (l : List Consignment). map pair_of (all_placed l)) alone ∙ ap (map pair_of) (nothing_more (placed_in it)) ∙ own_lines it (numbered it.lines)
+        ap (λ (l : List Consignment). map pair_of (all_placed l)) alone ∙ ap (map pair_of) (append-nil (placed_in it)) ∙ own_lines it (numbered it.lines)
 
 -- ---- a list by its test and its order
+
+abbrev pub shown_by : Consignment → Value → Value → sql.Row
+shown_by it line film = number_value it.source ∷ number_value it.addressee ∷ number_value it.number ∷ flag_value it.received ∷ line ∷ film ∷ []
+
+abbrev pub line_key : ListLine → Value
+line_key line = or_null (λ (l : ℕ × Line). number_value l.0) line.1
+
+pub less : (m n : ℕ) → m < n → nat_cmp m n ≡ Less
+less m n h = grind (arith, nat_tests)
+
+greater : (m n : ℕ) → m < n → nat_cmp n m ≡ Greater
+greater m n h = grind (arith, nat_tests)
 
 module _ (tests : List Term) (order : List (Term × Key)) (params : sql.Row) (p : Consignment → Bool) (keys : Consignment → Value → sql.Row) where
   abbrev q : Query
   q = list_query tests order
 
   abbrev pub list_output : ListLine → Output
-  list_output line = (keys line.0 (or_null (λ (l : ℕ × Line). number_value l.0) line.1), shown_line line)
-
-  abbrev shown_by : Consignment → Value → Value → sql.Row
-  shown_by it line film = number_value it.source ∷ number_value it.addressee ∷ number_value it.number ∷ flag_value it.received ∷ line ∷ film ∷ []
+  list_output line = (keys line.0 (line_key line), shown_line line)
 
   abbrev pub Ends : Type 0
   Ends = (db : Trees) (it : Consignment) (r2 : sql.Row) → shown_of q (overlay db []) end (params ∷ (Null ∷ consignment_columns it) ∷ r2 ∷ []) ≡ cond (p it) ((keys it (column r2 4), shown_by it (column r2 4) (column r2 5)) ∷ []) []
@@ -125,23 +134,30 @@ module _ (tests : List Term) (order : List (Term × Key)) (params : sql.Row) (p 
         either true = pushed (lines_of it (numbered it.lines)) (list_lines (filter p ds))
         either false = refl
 
-  -- ---- the order
+  -- ---- the order: by what tells consignments apart, then by line
 
   abbrev Climb : Output → Output → Type 0
   Climb a b = (is_eq (output_cmp q a b) ≡ false) × (is_lt (output_cmp q b a) ≡ false)
 
-  module _ (Before : Consignment → Consignment → Type 0) (line_climbs : (it : Consignment) (x y : ℕ × Line) → x.0 < y.0 → Climb (list_output (it, Some x)) (list_output (it, Some y)))
-      (later_climbs : (a b : ListLine) → Before a.0 b.0 → Climb (list_output a) (list_output b)) where
+  module _ (cmp : Consignment → Consignment → Ordering) (total : IsTotalOrder cmp)
+      (compares : (a b : ListLine) → output_cmp q (list_output a) (list_output b) ≡ ordering_then (cmp a.0 b.0) (ordering_then (value_cmp (line_key a) (line_key b)) Equal)) where
+    abbrev Before : Consignment → Consignment → Type 0
+    Before a b = cmp a b ≡ Less
+
     abbrev Up : ListLine → ListLine → Type 0
     Up a b = Climb (list_output a) (list_output b)
 
-    above : (k n : ℕ) → n < k → (ls : List Line) → AllByRecursion (λ (l : ℕ × Line). n < l.0) (numbered_from k ls)
-    above k n low [] = tt
-    above k n low (l ∷ ls) = (low, above (k + 1) n (omega (arith, low)) ls)
+    line_climbs : (it : Consignment) (x y : ℕ × Line) → x.0 < y.0 → Up (it, Some x) (it, Some y)
+    line_climbs it x y h = (
+      ap is_eq (compares (it, Some x) (it, Some y) ∙ (λ i. ordering_then (tied_itself total it i) (ordering_then ((number_cmp x.0 y.0 ∙ less x.0 y.0 h) i) Equal))),
+      ap is_lt (compares (it, Some y) (it, Some x) ∙ (λ i. ordering_then (tied_itself total it i) (ordering_then ((number_cmp y.0 x.0 ∙ greater x.0 y.0 h) i) Equal))),
+    )
 
-    rising : (k : ℕ) (ls : List Line) → IsAscending (λ (x y : ℕ × Line). x.0 < y.0) (numbered_from k ls)
-    rising k [] = tt
-    rising k (l ∷ ls) = (above (k + 1) k (omega arith) ls, rising (k + 1) ls)
+    later_climbs : (a b : ListLine) → Before a.0 b.0 → Up a b
+    later_climbs a b h = (
+      ap is_eq (compares a b ∙ ap (λ o. ordering_then o (ordering_then (value_cmp (line_key a) (line_key b)) Equal)) h),
+      ap is_lt (compares b a ∙ ap (λ o. ordering_then o (ordering_then (value_cmp (line_key b) (line_key a)) Equal)) (total.antisymm b.0 a.0 ∙ ap ordering_reverse h)),
+    )
 
     lines_up : (it : Consignment) (ls : List (ℕ × Line)) → IsAscending (λ (x y : ℕ × Line). x.0 < y.0) ls → IsAscending Up (lines_of it ls)
     lines_up it [] up = (tt, tt)
@@ -154,7 +170,7 @@ module _ (tests : List Term) (order : List (Term × Key)) (params : sql.Row) (p 
     pub all_up : (ds : List Consignment) → IsAscending Before ds → IsAscending Up (list_lines ds)
     all_up [] up = tt
     all_up (it ∷ ds) up =
-        ascending-append Up (lines_of it (numbered it.lines)) (list_lines ds) (lines_up it (numbered it.lines) (rising 1 it.lines)) (all_up ds up.1)
+        ascending-append Up (lines_of it (numbered it.lines)) (list_lines ds) (lines_up it (numbered it.lines) (numbered_rise 1 it.lines)) (all_up ds up.1)
         (of_one it (numbered it.lines) _ (λ line. all-flat_map (λ other. Up (it, line) other) (λ (next : Consignment). lines_of next (numbered next.lines)) ds
         (all_weaker (λ (next : Consignment). Before it next) _ (λ next h. of_one next (numbered next.lines) _ (λ other. later_climbs (it, line) (next, other) h)) ds up.0)))
 

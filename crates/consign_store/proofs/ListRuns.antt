@@ -1,14 +1,9 @@
 -- Lines of consignments, of which neighbours belong together, and the texts of the lists.
-use Rattle.shop_schema.proofs.Common.{◌≡◌, ◌==◌, ◌&&◌, ◌+◌, ◌≤◌, ℕ, suc, Bool, true, false, cond, List, [], ◌∷◌, ◌++◌, map, filter, length, codes, decimal, Option, Some, None, refl, sym, ap, subst, ◌∙◌, arith, append-nil, nat_tests, numbered, numbered_from, IsCounted, AreNumbered, object, numbers_text, flag_text, Arrival, Parcel, Line, Consignment, as_arrival, as_parcel, arrivals_text, sent_text, same_test, filter_filter}
-use Rattle.serde_json.specs.Written.{compact_text}
-use Rattle.shop_views.specs.Consignments as bodies
+use Rattle.shop_schema.proofs.Common.{append_assoc, ◌≡◌, ◌==◌, ◌&&◌, ◌+◌, ◌≤◌, ℕ, suc, Bool, true, false, cond, List, [], ◌∷◌, ◌++◌, map, filter, length, codes, decimal, Option, Some, None, refl, sym, ap, subst, ◌∙◌, arith, append-nil, nat_tests, numbered, numbered_from, IsCounted, AreNumbered, object, numbers_text, flag_text, Arrival, Parcel, Line, Consignment, as_arrival, as_parcel, arrivals_text, sent_text, same_test, filter_filter}
 use Rattle.shop_views.specs.Consignments.{Listed, arrival_text}
-use Rattle.shop_views.proofs.RowTexts.{arrival_is, sent_is, transit_is}
 use Rattle.shop_schema.proofs.Lists.{filter_twice}
-use Rattle.consign_store.specs.declared.lists.ListKind.{ListKind}
-use Rattle.consign_store.specs.declared.lists.ListKind.TheVariants as kind
-use Rattle.consign_store.specs.Listed.{ListLine, lines_of, list_lines, listed, is_first, films_of, begun, Grouped, closed, with_film, take_line, run_from, data_of, text_of}
-use Rattle.consign_store.proofs.ListLemmas.{grouped}
+use Rattle.consign_store.specs.Listed.{ListLine, lines_of, list_lines, listed, is_first, films_of, begun, Grouped, closed, with_film, take_line, run_from}
+use Rattle.shop_views.specs.Consignments as bodies
 
 pub run_push : (so_far : Grouped) (lines : List ListLine) (line : ListLine) → run_from so_far (lines ++ line ∷ []) ≡ take_line (run_from so_far lines) line
 run_push so_far [] line = refl
@@ -32,7 +27,7 @@ module _ (it : Consignment) where
       let one : take_line (done, Some (with_films films)) (it, Some (k, l)) ≡ (done, Some (with_films (films ++ l.film ∷ []))) =
       ap (λ b. cond {A = Grouped} b (done ++ with_films films ∷ [], Some (begun (it, Some (k, l)))) (done, Some (with_films (films ++ l.film ∷ [])))) other in
       ap (λ (s : Grouped). run_from s (map (λ (l : ℕ × Line). (it, Some l)) (numbered_from (k + 1) ls))) one ∙ further done (films ++ l.film ∷ []) (k + 1) (omega (arith, later)) ls
-      ∙ ap (λ fs. (done, Some (with_films fs))) (grouped films (l.film ∷ []) (map (λ (l : Line). l.film) ls))
+      ∙ ap (λ fs. (done, Some (with_films fs))) (append_assoc films (l.film ∷ []) (map (λ (l : Line). l.film) ls))
 
   starts : (so_far : Grouped) (line : Option (ℕ × Line)) → is_first line ≡ true → take_line so_far (it, line) ≡ (closed so_far, Some (with_films (films_of line)))
   starts (done, None) line first = refl
@@ -49,18 +44,7 @@ pub all_listed : (cs : List Consignment) (so_far : Grouped) → closed (run_from
 all_listed [] so_far = sym (append-nil (closed so_far))
 all_listed (it ∷ cs) so_far =
     ap closed (run_append so_far (lines_of it (numbered it.lines)) (list_lines cs) ∙ ap (λ (s : Grouped). run_from s (list_lines cs)) (one_consignment it so_far it.lines))
-    ∙ all_listed cs (closed so_far, Some (listed it)) ∙ grouped (closed so_far) (listed it ∷ []) (map listed cs)
-
--- ---- the texts of a list
-
-value_is : (k : ListKind) (it : Listed) → compact_text (data_of k it) ≡ text_of k it
-value_is kind.Arrivals it = arrival_is it
-value_is kind.Sent it = sent_is it
-value_is kind.Transit it = transit_is it
-
-pub values_are : (k : ListKind) (all : List Listed) → map compact_text (map (data_of k) all) ≡ map (text_of k) all
-values_are k [] = refl
-values_are k (it ∷ all) = λ i. value_is k it i ∷ values_are k all i
+    ∙ all_listed cs (closed so_far, Some (listed it)) ∙ append_assoc (closed so_far) (listed it ∷ []) (map listed cs)
 
 -- ---- arrivals are numbered among those of one source
 

@@ -1,12 +1,14 @@
 -- The texts of a branch's two lists of consignments, and what they show of the books.
-use Rattle.shop_schema.proofs.Common.{◌≡◌, ◌==◌, ◌<◌, ℕ, List, [], ◌∷◌, codes, map, filter, false, Bool, cond, Some, refl, ap, ◌∙◌, arith, is_eq, is_lt, Less, Equal, Greater, nat_cmp, ordering_then, nat_tests, IsPermutation-refl, Value, or_null, column, value_cmp, ascending, Key, Binary, IsAscending, Term, col, Output, output_cmp, State, ascending-filter, number_value, flag_value, IsQuery, is_query, Selects, number_cmp, one_tested, number_tested, are_equal, Books, Line, Consignment, shop_schema, IsHeld, IsShop, StandsFor}
+use Rattle.shop_schema.proofs.Common.{number_total, ascending_weaker, shown_of, overlay, end, consignment_columns, is_true, true, ◌&&◌, Compare, Eq, Trees, Null, ◌≡◌, ◌==◌, ◌<◌, ℕ, List, [], ◌∷◌, map, filter, Bool, cond, refl, ap, ◌∙◌, Equal, nat_cmp, ordering_then, IsPermutation-refl, Value, column, value_cmp, ascending, Key, Binary, Term, col, Output, output_cmp, State, ascending-filter, number_value, IsQuery, is_query, Selects, number_cmp, one_tested, number_tested, are_equal, Books, Consignment, shop_schema, IsHeld, IsShop, StandsFor}
 use Rattle.sqlite_value.specs.Order as sql
+use Rattle.sqlite_sql.specs.Ops.{binary}
 use Rattle.sqlite_tied.specs.Compute.{everything}
 use Rattle.sqlite.specs.Listing.{understood}
 use Rattle.sqlite.specs.State.{Shown}
 use Rattle.consign_store.specs.Listed.{ListLine, shown_line, list_lines}
 use Rattle.consign_store.proofs.Texts.{places_rise}
-use Rattle.consign_store.proofs.ListJoin.{list_query, list_output, Ends, ReadsColumns, shows_list}
+use Rattle.consign_store.proofs.ListJoin.{list_query, list_output, shown_by, line_key, less, Ends, ReadsColumns, shows_list}
+use Rattle.consign_store.specs.declared.lists.TheConstants.{SELECT_ARRIVALS, SELECT_SENT}
 
 abbrev place_order : List (Term × Key)
 place_order = (col 1 4, ascending Binary) ∷ (col 2 4, ascending Binary) ∷ []
@@ -14,104 +16,58 @@ place_order = (col 1 4, ascending Binary) ∷ (col 2 4, ascending Binary) ∷ []
 abbrev place_keys : Consignment → Value → sql.Row
 place_keys it line = number_value it.place ∷ line ∷ []
 
-pub less : (m n : ℕ) → m < n → nat_cmp m n ≡ Less
-less m n h = grind (arith, nat_tests)
-
-pub greater : (m n : ℕ) → m < n → nat_cmp n m ≡ Greater
-greater m n h = grind (arith, nat_tests)
-
-pub equal : (n : ℕ) → nat_cmp n n ≡ Equal
-equal n = grind (arith, nat_tests)
-
 -- ---- in the order of places, then of lines
 
 module _ (tests : List Term) (params : sql.Row) (p : Consignment → Bool) where
   abbrev out : ListLine → Output
   out = list_output tests place_order params p place_keys
 
-  abbrev line_key : ListLine → Value
-  line_key line = or_null (λ (l : ℕ × Line). number_value l.0) line.1
-
-  compares : (a b : ListLine) → output_cmp (list_query tests place_order) (out a) (out b) ≡ ordering_then (nat_cmp a.0.place b.0.place) (ordering_then (value_cmp (line_key a) (line_key b)) Equal)
+  compares : (a b : ListLine) → output_cmp (list_query tests place_order) (out a) (out b)
+      ≡ ordering_then (nat_cmp a.0.place b.0.place) (ordering_then (value_cmp (line_key a) (line_key b)) Equal)
   compares a b = ap (λ o. ordering_then o (ordering_then (value_cmp (line_key a) (line_key b)) Equal)) (number_cmp a.0.place b.0.place)
-
-  abbrev Climb : Output → Output → Type 0
-  Climb a b = (is_eq (output_cmp (list_query tests place_order) a b) ≡ false) × (is_lt (output_cmp (list_query tests place_order) b a) ≡ false)
-
-  line_climbs : (it : Consignment) (x y : ℕ × Line) → x.0 < y.0 → Climb (out (it, Some x)) (out (it, Some y))
-  line_climbs it x y h = (
-    ap is_eq (compares (it, Some x) (it, Some y) ∙ (λ i. ordering_then (equal it.place i) (ordering_then ((number_cmp x.0 y.0 ∙ less x.0 y.0 h) i) Equal))),
-    ap is_lt (compares (it, Some y) (it, Some x) ∙ (λ i. ordering_then (equal it.place i) (ordering_then ((number_cmp y.0 x.0 ∙ greater x.0 y.0 h) i) Equal))),
-  )
-
-  later_climbs : (a b : ListLine) → a.0.place < b.0.place → Climb (out a) (out b)
-  later_climbs a b h = (
-    ap is_eq (compares a b ∙ ap (λ o. ordering_then o (ordering_then (value_cmp (line_key a) (line_key b)) Equal)) (less a.0.place b.0.place h)),
-    ap is_lt (compares b a ∙ ap (λ o. ordering_then o (ordering_then (value_cmp (line_key b) (line_key a)) Equal)) (greater a.0.place b.0.place h)),
-  )
-
-  places_up : (books : Books) → IsHeld books → IsAscending (λ (x y : Consignment). x.place < y.place) (filter p books.consignments)
-  places_up books held = ascending-filter (λ (x y : Consignment). x.place < y.place) p books.consignments (places_rise 1 books.consignments held.places)
 
   shows_by_place : (text : List ℕ) → Selects shop_schema text (list_query tests place_order) → Ends tests place_order params p place_keys → ReadsColumns tests place_order params p place_keys
       → (old new : State) (rows : List sql.Row) (books : Books) → IsShop old → Shown text params old new rows → StandsFor old.now.trees books → IsHeld books
       → rows ≡ map shown_line (list_lines (filter p books.consignments))
   shows_by_place text means ends columns old new rows books shop h s held =
-      shows_list tests place_order params p place_keys (λ x y. x.place < y.place) line_climbs later_climbs text means ends columns
-      old new rows books shop h s held.numbers.consignments (filter p books.consignments) (IsPermutation-refl _) (places_up books held)
+      shows_list tests place_order params p place_keys (λ x y. nat_cmp x.place y.place) (number_total (λ (it : Consignment). it.place)) compares text means ends columns
+      old new rows books shop h s held.numbers.consignments (filter p books.consignments) (IsPermutation-refl _)
+      (ascending_weaker (λ (x y : Consignment). x.place < y.place) _ (λ x y h. less x.place y.place h) (filter p books.consignments)
+      (ascending-filter (λ (x y : Consignment). x.place < y.place) p books.consignments (places_rise books.consignments held.places)))
 
--- ---- arrivals
+-- ---- those of which one column is the branch, which is `of` of a consignment; the premises are `refl`
 
-abbrev pub select_arrivals : List ℕ
-select_arrivals = codes "SELECT c.source, c.addressee, c.number, c.received, l.line, l.film FROM consignment AS c LEFT JOIN consignment_line AS l ON l.source = c.source AND l.addressee = c.addressee AND l.number = c.number WHERE c.addressee = ?1 ORDER BY c.place, l.line"
+module _ (at : ℕ) (of : Consignment → ℕ) (b : ℕ) where
+  abbrev pub of_branch : List Term
+  of_branch = are_equal (col 1 at) (col 0 0) ∷ []
 
-abbrev arrival_tests : List Term
-arrival_tests = are_equal (col 1 2) (col 0 0) ∷ []
+  abbrev pub own : Consignment → Bool
+  own it = of it == b
 
-arrivals_mean : Selects shop_schema select_arrivals (list_query arrival_tests place_order)
-unfolding understood everything
-arrivals_mean = record { names = _; is = refl; plain = (refl, refl); unlisted = refl }
+  pub shows_own : (text : List ℕ) → Selects shop_schema text (list_query of_branch place_order)
+      → ((db : Trees) (it : Consignment) (r2 : sql.Row) → shown_of (list_query of_branch place_order) (overlay db []) end ((number_value b ∷ []) ∷ (Null ∷ consignment_columns it) ∷ r2 ∷ [])
+      ≡ cond (is_true (binary (Compare Eq Binary) (number_value (of it)) (number_value b)) && true) ((place_keys it (column r2 4), shown_by it (column r2 4) (column r2 5)) ∷ []) [])
+      → ReadsColumns of_branch place_order (number_value b ∷ []) own place_keys
+      → (old new : State) (rows : List sql.Row) (books : Books) → IsShop old → Shown text (number_value b ∷ []) old new rows → StandsFor old.now.trees books → IsHeld books
+      → rows ≡ map shown_line (list_lines (filter own books.consignments))
+  shows_own text means given =
+      shows_by_place of_branch (number_value b ∷ []) own text means
+      (λ db it r2. given db it r2 ∙ ap (λ t. cond t ((place_keys it (column r2 4), shown_by it (column r2 4) (column r2 5)) ∷ []) []) (one_tested _ (number_tested (of it) b)))
 
-pub arrivals_ask : IsQuery select_arrivals
+pub arrivals_ask : IsQuery SELECT_ARRIVALS.now
 unfolding everything
-arrivals_ask = is_query select_arrivals (record { parsed = _; is = refl; selects = refl; untimed = refl })
+arrivals_ask = is_query SELECT_ARRIVALS.now (record { parsed = _; is = refl; selects = refl; untimed = refl })
 
-abbrev pub is_arrival : ℕ → Consignment → Bool
-is_arrival b it = it.addressee == b
-
-arrival_ends : (b : ℕ) → Ends arrival_tests place_order (number_value b ∷ []) (is_arrival b) place_keys
-arrival_ends b db it r2 =
-    ap (λ t. cond t ((number_value it.place ∷ column r2 4 ∷ [], number_value it.source ∷ number_value it.addressee ∷ number_value it.number ∷ flag_value it.received ∷ column r2 4 ∷ column r2 5 ∷ []) ∷ []) [])
-    (one_tested _ (number_tested it.addressee b))
-
-pub shows_arrivals : (old new : State) (b : ℕ) (rows : List sql.Row) (books : Books) → IsShop old → Shown select_arrivals (number_value b ∷ []) old new rows → StandsFor old.now.trees books → IsHeld books
-    → rows ≡ map shown_line (list_lines (filter (is_arrival b) books.consignments))
-shows_arrivals old new b = shows_by_place arrival_tests (number_value b ∷ []) (is_arrival b) select_arrivals arrivals_mean (arrival_ends b) (λ db r. refl) old new
-
--- ---- what was sent
-
-abbrev pub select_sent : List ℕ
-select_sent = codes "SELECT c.source, c.addressee, c.number, c.received, l.line, l.film FROM consignment AS c LEFT JOIN consignment_line AS l ON l.source = c.source AND l.addressee = c.addressee AND l.number = c.number WHERE c.source = ?1 ORDER BY c.place, l.line"
-
-abbrev sent_tests : List Term
-sent_tests = are_equal (col 1 1) (col 0 0) ∷ []
-
-sent_means : Selects shop_schema select_sent (list_query sent_tests place_order)
+pub shows_arrivals : (old new : State) (b : ℕ) (rows : List sql.Row) (books : Books) → IsShop old → Shown SELECT_ARRIVALS.now (number_value b ∷ []) old new rows → StandsFor old.now.trees books → IsHeld books
+    → rows ≡ map shown_line (list_lines (filter (λ (it : Consignment). it.addressee == b) books.consignments))
 unfolding understood everything
-sent_means = record { names = _; is = refl; plain = (refl, refl); unlisted = refl }
+shows_arrivals old new b = shows_own 2 (λ it. it.addressee) b SELECT_ARRIVALS.now (record { names = _; is = refl; plain = (refl, refl); unlisted = refl }) (λ db it r2. refl) (λ db r. refl) old new
 
-pub sent_asks : IsQuery select_sent
+pub sent_asks : IsQuery SELECT_SENT.now
 unfolding everything
-sent_asks = is_query select_sent (record { parsed = _; is = refl; selects = refl; untimed = refl })
+sent_asks = is_query SELECT_SENT.now (record { parsed = _; is = refl; selects = refl; untimed = refl })
 
-abbrev pub is_sent : ℕ → Consignment → Bool
-is_sent b it = it.source == b
-
-sent_ends : (b : ℕ) → Ends sent_tests place_order (number_value b ∷ []) (is_sent b) place_keys
-sent_ends b db it r2 =
-    ap (λ t. cond t ((number_value it.place ∷ column r2 4 ∷ [], number_value it.source ∷ number_value it.addressee ∷ number_value it.number ∷ flag_value it.received ∷ column r2 4 ∷ column r2 5 ∷ []) ∷ []) [])
-    (one_tested _ (number_tested it.source b))
-
-pub shows_sent : (old new : State) (b : ℕ) (rows : List sql.Row) (books : Books) → IsShop old → Shown select_sent (number_value b ∷ []) old new rows → StandsFor old.now.trees books → IsHeld books
-    → rows ≡ map shown_line (list_lines (filter (is_sent b) books.consignments))
-shows_sent old new b = shows_by_place sent_tests (number_value b ∷ []) (is_sent b) select_sent sent_means (sent_ends b) (λ db r. refl) old new
+pub shows_sent : (old new : State) (b : ℕ) (rows : List sql.Row) (books : Books) → IsShop old → Shown SELECT_SENT.now (number_value b ∷ []) old new rows → StandsFor old.now.trees books → IsHeld books
+    → rows ≡ map shown_line (list_lines (filter (λ (it : Consignment). it.source == b) books.consignments))
+unfolding understood everything
+shows_sent old new b = shows_own 1 (λ it. it.source) b SELECT_SENT.now (record { names = _; is = refl; plain = (refl, refl); unlisted = refl }) (λ db it r2. refl) (λ db r. refl) old new

@@ -1,9 +1,8 @@
 -- The pairs of the books' own counts: their numbers are those of the consignments.
-use Rattle.shop_schema.proofs.Common.{◌≡◌, ◌≤◌, ◌<◌, ◌+◌, ◌^◌, ◌==◌, ◌&&◌, ℕ, suc, List, [], ◌∷◌, ◌++◌, map, filter, length, Bool, true, false, cond, refl, sym, ap, subst, ◌∙◌, arith, AllByRecursion, and_parts, nat_tests, length_push, all-filter, PicksOne, IsCounted, AreNumbered, Books, Consignment, is_consignment, between, one_more, same_if, equal_test, Pair, is_pair, count_pair, last_of, pairs_of, add_pair, counts_of, IsHeld, IsNumber, IsConsignment}
+use Rattle.shop_schema.proofs.Common.{all_weaker, append-nil, append_assoc, ◌≡◌, ◌≤◌, ◌<◌, ◌+◌, ◌^◌, ◌==◌, ◌&&◌, ℕ, suc, List, [], ◌∷◌, ◌++◌, map, filter, length, Bool, true, false, cond, refl, sym, ap, subst, ◌∙◌, arith, AllByRecursion, and_parts, nat_tests, length_push, all-filter, PicksOne, IsCounted, AreNumbered, Books, Consignment, is_consignment, between, one_more, same_if, equal_test, Pair, is_pair, count_pair, last_of, pairs_of, add_pair, counts_of, IsHeld, IsNumber, IsConsignment}
 use Rattle.std.specs.Prelude.{fold}
 use Rattle.shop_schema.proofs.Lists.{counted_once, filter_twice}
 use Rattle.consign_store.specs.Parts.{CountsPairOnce}
-use Rattle.consign_store.proofs.ListLemmas.{grouped, nothing_more}
 
 -- ---- a key comes once
 
@@ -33,7 +32,6 @@ pub record Counted (done : List Consignment) (pairs : List Pair) : Type 0 where
   pub last : (s a : ℕ) → last_of s a pairs ≡ length (between s a done)
   pub once : (s a : ℕ) → PicksOne (is_pair s a) pairs
   pub each : AllByRecursion (λ (pair : Pair). pair.last ≤ length (between pair.source pair.addressee done)) pairs
-  pub some : AllByRecursion (λ (pair : Pair). 1 ≤ pair.last) pairs
 
 is_its : (s a : ℕ) (pair : Pair) → is_pair s a pair ≡ true → (pair.source ≡ s) × (pair.addressee ≡ a)
 is_its s a pair hit = let parts = and_parts (pair.source == s) (pair.addressee == a) hit in (same_if pair.source s parts.0, same_if pair.addressee a parts.1)
@@ -140,8 +138,7 @@ module _ (it : Consignment) where
   Within done pair = pair.last ≤ length (between pair.source pair.addressee done)
 
   all_grow : (done : List Consignment) (pairs : List Pair) → AllByRecursion (Within done) pairs → AllByRecursion (Within (done ++ it ∷ [])) pairs
-  all_grow done [] all = tt
-  all_grow done (pair ∷ pairs) all = (let more = grows pair.source pair.addressee done in omega (arith, more, all.0), all_grow done pairs all.1)
+  all_grow done = all_weaker (Within done) (Within (done ++ it ∷ [])) (λ pair few. let more = grows pair.source pair.addressee done in omega (arith, more, few))
 
   -- where the pair is its own there is one more
   one_grown : (t b : ℕ) → t ≡ s → b ≡ a → (done : List Consignment) → length (between t b (done ++ it ∷ [])) ≡ length (between t b done) + 1
@@ -163,30 +160,21 @@ module _ (it : Consignment) where
           (omega (arith, one, all.0), all_grow done pairs all.1)
       go false miss more = (let larger = grows pair.source pair.addressee done in omega (arith, larger, all.0), more)
 
-  some_counted : (pairs : List Pair) → AllByRecursion (λ (pair : Pair). 1 ≤ pair.last) pairs → AllByRecursion (λ (pair : Pair). 1 ≤ pair.last) (count_pair s a pairs)
-  some_counted [] all = (omega arith, tt)
-  some_counted (pair ∷ pairs) all = go (is_pair s a pair) (some_counted pairs all.1)
-    where
-      go : (here : Bool) → AllByRecursion (λ (pair : Pair). 1 ≤ pair.last) (count_pair s a pairs) → AllByRecursion (λ (pair : Pair). 1 ≤ pair.last) (cond here (record pair { last = pair.last + 1 } ∷ pairs) (pair ∷ count_pair s a pairs))
-      go true more = (omega arith, all.1)
-      go false more = (all.0, more)
-
   next : (done : List Consignment) (pairs : List Pair) → Counted done pairs → Counted (done ++ it ∷ []) (count_pair s a pairs)
   next done pairs so_far = record {
     last = λ t b. last_counted t b pairs ∙ ap (λ (n : ℕ). cond (of_other t b) (n + 1) n) (so_far.last t b) ∙ sym (more_between t b done);
     once = λ t b. once_counted t b pairs (so_far.once t b) (so_far.once s a);
     each = each_counted done pairs so_far.each;
-    some = some_counted pairs so_far.some;
   }
 
 counted_along : (done : List Consignment) (pairs : List Pair) (cs : List Consignment) → Counted done pairs → Counted (done ++ cs) (fold (λ pairs it. count_pair it.source it.addressee pairs) pairs cs)
-counted_along done pairs [] so_far = subst (λ (l : List Consignment). Counted l pairs) (sym (nothing_more done)) so_far
+counted_along done pairs [] so_far = subst (λ (l : List Consignment). Counted l pairs) (sym (append-nil done)) so_far
 counted_along done pairs (it ∷ cs) so_far =
-    subst (λ (l : List Consignment). Counted l (fold (λ pairs it. count_pair it.source it.addressee pairs) (count_pair it.source it.addressee pairs) cs)) (grouped done (it ∷ []) cs)
+    subst (λ (l : List Consignment). Counted l (fold (λ pairs it. count_pair it.source it.addressee pairs) (count_pair it.source it.addressee pairs) cs)) (append_assoc done (it ∷ []) cs)
     (counted_along (done ++ it ∷ []) (count_pair it.source it.addressee pairs) cs (next it done pairs so_far))
 
 counted_all : (cs : List Consignment) → Counted cs (pairs_of cs)
-counted_all cs = counted_along [] [] cs (record { last = λ t b. refl; once = λ t b. omega arith; each = tt; some = tt })
+counted_all cs = counted_along [] [] cs (record { last = λ t b. refl; once = λ t b. omega arith; each = tt })
 
 -- the number of the pair's consignments
 pub pair_last : (s a : ℕ) (books : Books) → last_of s a (counts_of books).pairs ≡ length (between s a books.consignments)
@@ -224,22 +212,18 @@ short_from k (it ∷ cs) low counted all = let rest = short_from (k + 1) cs (ome
 number_small : (n : ℕ) → IsNumber n → n < 2 ^ 32
 number_small n is = grind (arith, nat_tests, is)
 
-numbers_small : (cs : List Consignment) → AllByRecursion IsConsignment cs → AllByRecursion (λ (it : Consignment). it.number < 2 ^ 32) cs
-numbers_small [] all = tt
-numbers_small (it ∷ cs) all = (number_small it.number all.0.number, numbers_small cs all.1)
-
 few_between : (s a : ℕ) (books : Books) → IsHeld books → length (between s a books.consignments) < 2 ^ 32
 few_between s a books held =
     let few = short_from 1 (between s a books.consignments) (omega arith) (held.numbers.consignments s a)
-    (all-filter (λ (it : Consignment). it.number < 2 ^ 32) (λ (it : Consignment). it.source == s && it.addressee == a) books.consignments (numbers_small books.consignments held.values.consignments)) in
+    (all-filter (λ (it : Consignment). it.number < 2 ^ 32) (λ (it : Consignment). it.source == s && it.addressee == a) books.consignments
+    (all_weaker IsConsignment _ (λ it is. number_small it.number is.number) books.consignments held.values.consignments)) in
     omega (arith, few)
 
 pub pairs_once : (s a : ℕ) (books : Books) → IsHeld books → CountsPairOnce s a (counts_of books)
-pairs_once s a books held = record { once = all.once s a; small = each (pairs_of books.consignments) all.each }
-  where
-    all : Counted books.consignments (pairs_of books.consignments)
-    all = counted_all books.consignments
-
-    each : (pairs : List Pair) → AllByRecursion (λ (pair : Pair). pair.last ≤ length (between pair.source pair.addressee books.consignments)) pairs → AllByRecursion (λ (pair : Pair). pair.last < 2 ^ 32) pairs
-    each [] within = tt
-    each (pair ∷ pairs) within = (let few = few_between pair.source pair.addressee books held in omega (arith, few, within.0), each pairs within.1)
+pairs_once s a books held =
+    let all = counted_all books.consignments in
+    record {
+      once = all.once s a;
+      small = all_weaker (λ (pair : Pair). pair.last ≤ length (between pair.source pair.addressee books.consignments)) _ (λ pair within. let few = few_between pair.source pair.addressee books held in omega (arith, few, within))
+          (pairs_of books.consignments) all.each;
+    }

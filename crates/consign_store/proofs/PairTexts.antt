@@ -1,6 +1,6 @@
 -- What the text that takes a pair's next number makes of the counts, and tells.
 use Rattle.std.proofs.Common.{◌⊎◌}
-use Rattle.shop_schema.proofs.Common.{◌≡◌, ◌<◌, ◌+◌, ◌^◌, ◌&&◌, ◌||◌, ℕ, pos, List, [], ◌∷◌, ◌++◌, codes, map, filter, Bool, true, false, cond, Some, inl, inr, refl, sym, ap, subst, ◌∙◌, arith, slice_get, map_push, Value, Null, Int, column, Term, lit, col, op2, Arith, Add, State, update_where, columns_of, HasRows, number_value, are_kept, number_test, number_tested, two_tested, same_number, MeansShowing, upserting, upserts_and_tells, shop_schema, pair_count_table, pair_columns, Pair, is_pair, count_pair, last_of, add_pair, IsShop, Tallies}
+use Rattle.shop_schema.proofs.Common.{◌≡◌, ◌<◌, ◌+◌, ◌^◌, ◌&&◌, ◌||◌, ℕ, pos, List, [], ◌∷◌, ◌++◌, map, filter, Bool, true, false, cond, Some, inl, inr, refl, sym, ap, subst, ◌∙◌, arith, slice_get, map_push, Value, Null, Int, column, Term, lit, col, op2, Arith, Add, State, update_where, columns_of, HasRows, number_value, are_kept, number_test, number_tested, two_tested, same_number, MeansShowing, upserting, upserts_and_tells, shop_schema, pair_count_table, pair_columns, Pair, is_pair, count_pair, last_of, add_pair, IsShop, Tallies}
 use Rattle.sqlite_value.specs.Order as sql
 use Rattle.sqlite_rules.specs.Keys.{conflicts}
 use Rattle.sqlite_tied.specs.Compute.{everything}
@@ -9,12 +9,10 @@ use Rattle.sqlite.specs.State.{Shown}
 use Rattle.shop_schema.proofs.Stands.{stands_but}
 use Rattle.shop_schema.proofs.Listed.{own_rows}
 use Rattle.shop_ledger.proofs.CountTexts.{plus, plus_is}
+use Rattle.consign_store.specs.declared.pairs.TheConstants.{UPSERT_PAIR}
 use Rattle.consign_store.specs.Parts.{CountsPairOnce}
 use Rattle.consign_store.proofs.ListLemmas.{unpicked}
 use Rattle.consign_store.proofs.PairCounts.{none_said}
-
-abbrev pub upsert_pair : List ℕ
-upsert_pair = codes "INSERT INTO pair_count (source, addressee, last) VALUES (?1, ?2, 1) ON CONFLICT (source, addressee) DO UPDATE SET last = last + 1 RETURNING last"
 
 abbrev pair_terms : List Term
 pair_terms = lit Null ∷ col 0 0 ∷ col 0 1 ∷ lit (Int (pos 1)) ∷ []
@@ -56,7 +54,7 @@ more_kept : (pair : Pair) → pair.last < 2 ^ 32 → are_kept pair_count_table.c
 more_kept pair small = ap (are_kept pair_count_table.columns) (more_is pair small)
 
 upsert_means : (s a : ℕ) (old new : State) (has : IsShop old)
-    → MeansShowing shop_schema upsert_pair (upserting shop_schema upsert_pair 20 pair_count_table 3 2 (1 ∷ 2 ∷ []) pair_terms pair_set pair_told (pair_params s a) (pair_columns (first_pair s a)) pair_columns (key_test s a) (is_pair s a)
+    → MeansShowing shop_schema UPSERT_PAIR.now (upserting shop_schema UPSERT_PAIR.now 20 pair_count_table 3 2 (1 ∷ 2 ∷ []) pair_terms pair_set pair_told (pair_params s a) (pair_columns (first_pair s a)) pair_columns (key_test s a) (is_pair s a)
     one_more raised_pair (λ vs. column vs 2 ∷ []) (λ pair. pair.last < 2 ^ 32) (key_tested s a) more_is more_kept old new has) pair_told
 unfolding understood everything
 upsert_means s a old new has = record { names = _; is = refl; shows = refl; untimed = refl }
@@ -93,10 +91,10 @@ set_one s a (pair ∷ pairs) x one = go (is_pair s a pair) one (set_one s a pair
 
 -- ---- the number that is taken
 
-pub tallies_pair : (old new : State) (s a : ℕ) (rows : List sql.Row) → Shown upsert_pair (pair_params s a) old new rows → (row : sql.Row) (n : ℕ) → slice_get rows 0 ≡ Some row → column row 0 ≡ number_value n
+pub tallies_pair : (old new : State) (s a : ℕ) (rows : List sql.Row) → Shown UPSERT_PAIR.now (pair_params s a) old new rows → (row : sql.Row) (n : ℕ) → slice_get rows 0 ≡ Some row → column row 0 ≡ number_value n
     → Tallies old new (CountsPairOnce s a) (add_pair s a) (λ counts. n ≡ last_of s a counts.pairs + 1)
 tallies_pair old new s a rows h row n some is counts books holds given =
-    let it = upserts_and_tells shop_schema upsert_pair 20 pair_count_table 3 2 (1 ∷ 2 ∷ []) pair_terms pair_set pair_told (pair_params s a) (pair_columns (first_pair s a)) pair_columns (key_test s a) (is_pair s a)
+    let it = upserts_and_tells shop_schema UPSERT_PAIR.now 20 pair_count_table 3 2 (1 ∷ 2 ∷ []) pair_terms pair_set pair_told (pair_params s a) (pair_columns (first_pair s a)) pair_columns (key_test s a) (is_pair s a)
     one_more raised_pair (λ vs. column vs 2 ∷ []) (λ pair. pair.last < 2 ^ 32) (key_tested s a) more_is more_kept old new holds.schema_is
     (upsert_means s a old new holds.schema_is) (record { place = refl; uncounted = refl; unstamped = refl }) refl refl refl refl (λ id. refl) (key_meets s a) (own_rows old.now.trees 50)
     (λ id r q. refl) (λ id r q. refl) (λ id r q. refl) (λ r. refl) (λ v vs. refl) (λ r. refl) rows h in

@@ -1,23 +1,14 @@
 -- Lines that are put one after another behind those of their consignment.
-use Rattle.shop_schema.proofs.Common.{◌≡◌, ◌+◌, ◌-◌, ◌<◌, ◌≤◌, ◌&&◌, ◌==◌, ℕ, suc, List, [], ◌∷◌, ◌++◌, map, filter, length, Bool, true, false, cond, refl, sym, ap, subst, ◌∙◌, arith, append-nil, nat_le, AllByRecursion, nat_tests, filter-append, State, set_at, numbered_from, Books, Line, Consignment, is_consignment, checked, checked_line, same_test, Writes, HoldsWith}
+use Rattle.shop_schema.proofs.Common.{length-map, append_assoc, ◌≡◌, ◌+◌, ◌-◌, ◌<◌, ◌≤◌, ◌&&◌, ◌==◌, ℕ, List, [], ◌∷◌, ◌++◌, map, filter, length, Bool, true, false, cond, refl, sym, ap, subst, ◌∙◌, arith, append-nil, nat_le, AllByRecursion, nat_tests, filter-append, State, set_at, numbered_from, Books, Line, Consignment, is_consignment, checked, checked_line, same_test, Writes, HoldsWith}
 use Rattle.std.proofs.lemmas.List.{length-append}
 use Rattle.shop_model.specs.Rows.{update_where}
 use Rattle.consign_store.specs.Parts.{Placed, push_line, with_line, IsNextLine, IsOnce, put_state, set_state, receive, with_state, with_received}
 use Rattle.consign_store.specs.Parcels.{IsNewKey, HasSoMany, HasNoLine, put_behind, with_lines, sent_off, state_at, checked_from, checked_to, with_checked_to}
-use Rattle.consign_store.proofs.ListLemmas.{grouped, unpicked}
+use Rattle.consign_store.proofs.ListLemmas.{unpicked, update_append, update_nothing, update_twice, filter_updated}
 
 module _ (s a n : ℕ) where
   abbrev its : Consignment → Bool
   its = is_consignment s a n
-
-  -- a change that keeps the key
-  pass_put : (lines : List Line) (cs : List Consignment) → filter its (update_where its (put_behind lines) cs) ≡ map (put_behind lines) (filter its cs)
-  pass_put lines [] = refl
-  pass_put lines (it ∷ cs) = go (its it) refl (pass_put lines cs)
-    where
-      go : (b : Bool) → its it ≡ b → filter its (update_where its (put_behind lines) cs) ≡ map (put_behind lines) (filter its cs) → filter its (cond b (put_behind lines it) it ∷ update_where its (put_behind lines) cs) ≡ map (put_behind lines) (cond b (it ∷ filter its cs) (filter its cs))
-      go true hit more = rw hit (ap (λ l. put_behind lines it ∷ l) more)
-      go false miss more = rw miss more
 
   counts_put : (lines : List Line) (found : List Consignment) → map (λ (it : Consignment). length it.lines) found ≡ 0 ∷ [] → map (λ (it : Consignment). length it.lines + 1) (map (put_behind lines) found) ≡ (length lines + 1) ∷ []
   counts_put lines [] none = absurd cc
@@ -35,35 +26,20 @@ module _ (s a n : ℕ) where
   pub next_line : (books : Books) (lines : List Line) (row : Placed) → row.source ≡ s → row.addressee ≡ a → row.number ≡ n → row.line ≡ length lines + 1 → HasNoLine s a n books → IsNextLine row (with_lines s a n lines books)
   next_line books lines row source addressee number line none =
       let here : map (λ (it : Consignment). length it.lines + 1) (filter its (with_lines s a n lines books).consignments) ≡ row.line ∷ [] =
-      ap (map (λ (it : Consignment). length it.lines + 1)) (pass_put lines books.consignments) ∙ counts_put lines (filter its books.consignments) none ∙ ap (λ (k : ℕ). k ∷ []) (sym line) in
+      ap (map (λ (it : Consignment). length it.lines + 1)) (filter_updated its (put_behind lines) (λ it. refl) books.consignments) ∙ counts_put lines (filter its books.consignments) none ∙ ap (λ (k : ℕ). k ∷ []) (sym line) in
       subst (λ (k : ℕ). map (λ (it : Consignment). length it.lines + 1) (filter (is_consignment row.source row.addressee k) (with_lines s a n lines books).consignments) ≡ row.line ∷ []) (sym number)
       (subst (λ (k : ℕ). map (λ (it : Consignment). length it.lines + 1) (filter (is_consignment row.source k n) (with_lines s a n lines books).consignments) ≡ row.line ∷ []) (sym addressee)
       (subst (λ (k : ℕ). map (λ (it : Consignment). length it.lines + 1) (filter (is_consignment k a n) (with_lines s a n lines books).consignments) ≡ row.line ∷ []) (sym source) here))
-
-  twice : (lines : List Line) (line : Line) (cs : List Consignment) → update_where its (push_line line) (update_where its (put_behind lines) cs) ≡ update_where its (put_behind (lines ++ line ∷ [])) cs
-  twice lines line [] = refl
-  twice lines line (it ∷ cs) = λ i. go (its it) refl i ∷ twice lines line cs i
-    where
-      go : (b : Bool) → its it ≡ b → cond (its (cond b (put_behind lines it) it)) (push_line line (cond b (put_behind lines it) it)) (cond b (put_behind lines it) it) ≡ cond b (put_behind (lines ++ line ∷ []) it) it
-      go true hit = rw hit (ap (λ ls. record it { lines = ls }) (grouped it.lines lines (line ∷ [])))
-      go false miss = rw miss refl
 
   -- one line more
   pub line_more : (books : Books) (lines : List Line) (row : Placed) → row.source ≡ s → row.addressee ≡ a → row.number ≡ n → with_line row (with_lines s a n lines books) ≡ with_lines s a n (lines ++ row.it ∷ []) books
   line_more books lines row source addressee number =
       (λ i. record books { consignments = update_where (is_consignment (source i) (addressee i) (number i)) (push_line row.it) (update_where its (put_behind lines) books.consignments) })
-      ∙ ap (λ (cs : List Consignment). record books { consignments = cs }) (twice lines row.it books.consignments)
-
-  nothing_put : (cs : List Consignment) → update_where its (put_behind []) cs ≡ cs
-  nothing_put [] = refl
-  nothing_put (it ∷ cs) = λ i. go (its it) i ∷ nothing_put cs i
-    where
-      go : (b : Bool) → cond b (put_behind [] it) it ≡ it
-      go true = ap (λ ls. record it { lines = ls }) (append-nil it.lines)
-      go false = refl
+      ∙ ap (λ (cs : List Consignment). record books { consignments = cs }) (update_twice its (put_behind lines) (λ it. refl) (push_line row.it) (put_behind (lines ++ row.it ∷ []))
+      (λ it. ap (λ ls. record it { lines = ls }) (append_assoc it.lines lines (row.it ∷ []))) books.consignments)
 
   pub no_line_put : (books : Books) → with_lines s a n [] books ≡ books
-  no_line_put books = ap (λ (cs : List Consignment). record books { consignments = cs }) (nothing_put books.consignments)
+  no_line_put books = ap (λ (cs : List Consignment). record books { consignments = cs }) (update_nothing its (put_behind []) (λ it. ap (λ ls. record it { lines = ls }) (append-nil it.lines)) books.consignments)
 
   -- ---- a new consignment
 
@@ -79,16 +55,12 @@ module _ (s a n : ℕ) where
         let its_own : filter its (bare ∷ []) ≡ bare ∷ [] = rw own_key refl in
         ap (map (λ (it : Consignment). length it.lines)) (filter-append its books.consignments (bare ∷ []) ∙ (λ i. new i ++ its_own i))
 
-    update_both : (f : Consignment → Consignment) (xs ys : List Consignment) → update_where its f (xs ++ ys) ≡ update_where its f xs ++ update_where its f ys
-    update_both f [] ys = refl
-    update_both f (x ∷ xs) ys = ap (λ l. cond (its x) (f x) x ∷ l) (update_both f xs ys)
-
     pub new_with_lines : (books : Books) (lines : List Line) → IsNewKey s a n books
         → with_lines s a n lines (record books { consignments = books.consignments ++ bare ∷ [] }) ≡ record books { consignments = books.consignments ++ sent_off s a n place lines ∷ [] }
     new_with_lines books lines new =
         let last : update_where its (put_behind lines) (bare ∷ []) ≡ sent_off s a n place lines ∷ [] = rw own_key refl in
         ap (λ (cs : List Consignment). record books { consignments = cs })
-        (update_both (put_behind lines) books.consignments (bare ∷ []) ∙ (λ i. unpicked its (put_behind lines) books.consignments new i ++ last i))
+        (update_append its (put_behind lines) books.consignments (bare ∷ []) ∙ (λ i. unpicked its (put_behind lines) books.consignments new i ++ last i))
 
 -- ---- a receipt
 
@@ -128,40 +100,15 @@ module _ (missing : List ℕ) where
     abbrev keyed : Consignment → Bool
     keyed = is_consignment s a n
 
-    still_once : (last : ℕ) (cs : List Consignment) → length (filter keyed (update_where keyed (checked_to missing last) cs)) ≡ length (filter keyed cs)
-    still_once last [] = refl
-    still_once last (it ∷ cs) = go (keyed it) refl (still_once last cs)
-      where
-        go : (b : Bool) → keyed it ≡ b → length (filter keyed (update_where keyed (checked_to missing last) cs)) ≡ length (filter keyed cs)
-            → length (filter keyed (cond b (checked_to missing last it) it ∷ update_where keyed (checked_to missing last) cs)) ≡ length (cond b (it ∷ filter keyed cs) (filter keyed cs))
-        go true hit more = rw hit (ap suc more)
-        go false miss more = rw miss more
-
     pub once_still : (last : ℕ) (books : Books) → IsOnce s a n books → IsOnce s a n (with_checked_to s a n missing last books)
-    once_still last books few = subst (λ (k : ℕ). k ≤ 1) (sym (still_once last books.consignments)) few
-
-    next_checked : (last : ℕ) (cs : List Consignment) → update_where keyed (set_state (last + 1) (state_at missing (last + 1))) (update_where keyed (checked_to missing last) cs) ≡ update_where keyed (checked_to missing (last + 1)) cs
-    next_checked last [] = refl
-    next_checked last (it ∷ cs) = λ i. go (keyed it) refl i ∷ next_checked last cs i
-      where
-        go : (b : Bool) → keyed it ≡ b → cond (keyed (cond b (checked_to missing last it) it)) (set_state (last + 1) (state_at missing (last + 1)) (cond b (checked_to missing last it) it)) (cond b (checked_to missing last it) it)
-            ≡ cond b (checked_to missing (last + 1) it) it
-        go true hit = rw hit (ap (λ ls. record it { lines = ls }) (one_checked last 1 (last + 1) (omega arith) (omega arith) it.lines))
-        go false miss = rw miss refl
+    once_still last books few = subst (λ (k : ℕ). k ≤ 1) (sym (ap length (filter_updated keyed (checked_to missing last) (λ it. refl) books.consignments) ∙ length-map (checked_to missing last) (filter keyed books.consignments))) few
 
     pub line_checked : (last : ℕ) (books : Books) → with_state s a n (last + 1) (state_at missing (last + 1)) (with_checked_to s a n missing last books) ≡ with_checked_to s a n missing (last + 1) books
-    line_checked last books = ap (λ (cs : List Consignment). record books { consignments = cs }) (next_checked last books.consignments)
-
-    nothing_checked : (cs : List Consignment) → update_where keyed (checked_to missing 0) cs ≡ cs
-    nothing_checked [] = refl
-    nothing_checked (it ∷ cs) = λ i. go (keyed it) i ∷ nothing_checked cs i
-      where
-        go : (b : Bool) → cond b (checked_to missing 0 it) it ≡ it
-        go true = ap (λ ls. record it { lines = ls }) (none_checked 0 1 (omega arith) it.lines)
-        go false = refl
+    line_checked last books = ap (λ (cs : List Consignment). record books { consignments = cs }) (update_twice keyed (checked_to missing last) (λ it. refl) (set_state (last + 1) (state_at missing (last + 1))) (checked_to missing (last + 1))
+        (λ it. ap (λ ls. record it { lines = ls }) (one_checked last 1 (last + 1) (omega arith) (omega arith) it.lines)) books.consignments)
 
     pub none_checked_yet : (books : Books) → with_checked_to s a n missing 0 books ≡ books
-    none_checked_yet books = ap (λ (cs : List Consignment). record books { consignments = cs }) (nothing_checked books.consignments)
+    none_checked_yet books = ap (λ (cs : List Consignment). record books { consignments = cs }) (update_nothing keyed (checked_to missing 0) (λ it. ap (λ ls. record it { lines = ls }) (none_checked 0 1 (omega arith) it.lines)) books.consignments)
 
     -- all lines are set, and then the consignment is received
     received_all : (count : ℕ) (cs : List Consignment) → AllByRecursion (λ (it : Consignment). length it.lines ≤ count) (filter keyed cs)

@@ -1,5 +1,5 @@
 -- One step of a dispatch or of a receipt, and what the steps come to.
-use Rattle.shop_schema.proofs.Common.{◌≡◌, ◌+◌, ◌<◌, ◌≤◌, ◌==◌, ◌||◌, ℕ, Bool, true, false, List, [], ◌∷◌, ◌++◌, map, take, drop, length, get_or, Option, Some, None, refl, sym, ap, subst, ◌∙◌, arith, ⊤, if◌then◌else◌, nat_tests, take_more, take_all, map_more, take-append-drop, length-take-le, State, mem, Books, Line, LineState, is_consignment, checked, Writes, ParcelLine}
+use Rattle.shop_schema.proofs.Common.{list_any, ◌≡◌, ◌+◌, ◌<◌, ◌≤◌, ◌==◌, ◌||◌, ℕ, Bool, false, List, [], ◌∷◌, ◌++◌, map, take, length, get_or, Option, Some, None, refl, sym, ap, subst, ◌∙◌, arith, ⊤, if◌then◌else◌, nat_tests, take_all, map_more, length-take-le, State, mem, Books, Line, LineState, is_consignment, checked, Writes, ParcelLine}
 use Rattle.std.proofs.lemmas.List.{length-map}
 use Rattle.shop_model.specs.Rows.{update_where}
 use Rattle.consign_store.specs.Parts.{Placed, with_line, IsNextLine, IsOnce, with_state, with_received}
@@ -14,40 +14,9 @@ number_is n k found low made is =
     let told : Some k ≡ Some n = sym is ∙ made ∙ rw some refl in
     cc
 
-push_in : (n x : ℕ) (ns : List ℕ) → (x == n) ≡ true → mem n (ns ++ x ∷ []) ≡ true
-push_in n x [] same = rw same refl
-push_in n x (m ∷ ms) same = go (m == n) (push_in n x ms same)
-  where
-    go : (b : Bool) → mem n (ms ++ x ∷ []) ≡ true → (b || mem n (ms ++ x ∷ [])) ≡ true
-    go true more = refl
-    go false more = more
-
-push_out : (n x : ℕ) (ns : List ℕ) → (x == n) ≡ false → mem n ns ≡ false → mem n (ns ++ x ∷ []) ≡ false
-push_out n x [] other out = rw other refl
-push_out n x (m ∷ ms) other out = go (m == n) out (push_out n x ms other)
-  where
-    go : (b : Bool) → (b || mem n ms) ≡ false → (mem n ms ≡ false → mem n (ms ++ x ∷ []) ≡ false) → (b || mem n (ms ++ x ∷ [])) ≡ false
-    go true none more = absurd cc
-    go false none more = more none
-
-in_front : (n : ℕ) (ns rest : List ℕ) → mem n ns ≡ true → mem n (ns ++ rest) ≡ true
-in_front n [] rest within = absurd cc
-in_front n (m ∷ ms) rest within = go (m == n) within (in_front n ms rest)
-  where
-    go : (b : Bool) → (b || mem n ms) ≡ true → (mem n ms ≡ true → mem n (ms ++ rest) ≡ true) → (b || mem n (ms ++ rest)) ≡ true
-    go true here more = refl
-    go false here more = more here
-
-taken_more : (x i : ℕ) (ns : List ℕ) → i < length ns → x ≡ get_or ns i x → take (i + 1) ns ≡ take i ns ++ x ∷ []
-taken_more x i ns lt is = take_more ns i x lt ∙ ap (λ (y : ℕ). take i ns ++ y ∷ []) (sym is)
-
-pub is_here : (n x i : ℕ) (ns : List ℕ) → i < length ns → x ≡ get_or ns i x → (x == n) ≡ true → mem n ns ≡ true
-is_here n x i ns lt is same =
-    subst (λ (l : List ℕ). mem n l ≡ true) (take-append-drop (i + 1) ns)
-    (in_front n (take (i + 1) ns) (drop (i + 1) ns) (subst (λ (l : List ℕ). mem n l ≡ true) (sym (taken_more x i ns lt is)) (push_in n x (take i ns) same)))
-
-pub not_yet : (n x i : ℕ) (ns : List ℕ) → i < length ns → x ≡ get_or ns i x → (x == n) ≡ false → mem n (take i ns) ≡ false → mem n (take (i + 1) ns) ≡ false
-not_yet n x i ns lt is other out = subst (λ (l : List ℕ). mem n l ≡ false) (sym (taken_more x i ns lt is)) (push_out n x (take i ns) other out)
+pub any_mem : (n : ℕ) (ns : List ℕ) → list_any (λ (m : ℕ). m == n) ns ≡ mem n ns
+any_mem n [] = refl
+any_mem n (m ∷ ms) = ap (λ (b : Bool). m == n || b) (any_mem n ms)
 
 -- ---- calls
 

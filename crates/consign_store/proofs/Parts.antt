@@ -1,8 +1,9 @@
 -- The rows of the two tables as lists of the books, and what each change of the books makes of them.
-use Rattle.shop_schema.proofs.Common.{◌≡◌, ◌≤◌, ◌<◌, ◌+◌, ◌-◌, ◌==◌, ◌&&◌, ℕ, List, [], ◌∷◌, ◌++◌, map, filter, length, Bool, true, false, cond, refl, sym, ap, subst, ◌∙◌, arith, IsPermutation, AllByRecursion, flat_map, and_parts, nat_tests, map-append, filter-append, IsPermutation-sym, IsPermutation-trans, IsPermutation-middle, IsPermutation-to_front, IsPermutation-append_right, update_where, PicksOne, same_flag, set_at, numbered, numbered_from, IsCounted, Line, LineState, UnderWay, Arrived, Missing, Consignment, is_consignment, same_if, length_map, filter_map, numbered_push, consignment_columns, line_value, line_columns, line_rows}
+use Rattle.shop_schema.proofs.Common.{append-nil, append_assoc, ◌≡◌, ◌≤◌, ◌<◌, ◌+◌, ◌-◌, ◌==◌, ◌&&◌, ℕ, List, [], ◌∷◌, ◌++◌, map, filter, length, Bool, true, false, cond, refl, sym, ap, subst, ◌∙◌, arith, IsPermutation, flat_map, and_parts, nat_tests, map-append, filter-append, IsPermutation-sym, IsPermutation-trans, IsPermutation-middle, IsPermutation-to_front, IsPermutation-append_right, update_where, PicksOne, same_flag, set_at, numbered, numbered_from, IsCounted, Line, LineState, UnderWay, Arrived, Missing, Consignment, is_consignment, same_if, length_map, filter_map, numbered_push, consignment_columns, line_value, line_columns, line_rows}
 use Rattle.shop_schema.proofs.Lists.{counted_once, filter_twice}
 use Rattle.consign_store.specs.Parts.{Header, header_of, header_columns, Placed, placed_at, placed_in, all_placed, placed_columns, is_header, is_within, is_placed, push_line, put_state, set_state, receive}
-use Rattle.consign_store.proofs.ListLemmas.{update_append, unpicked, nothing_more, grouped, Rise}
+use Rattle.shop_ledger.proofs.Rising.{Rises, counted_rise}
+use Rattle.consign_store.proofs.ListLemmas.{update_append, unpicked}
 
 -- ---- the rows of the tables
 
@@ -79,18 +80,10 @@ module _ (s a n : ℕ) where
   placed_counted it k [] = tt
   placed_counted it k (l ∷ ls) = (refl, placed_counted it (k + 1) ls)
 
-  placed_above : (it : Consignment) (k m : ℕ) → m < k → (ls : List Line) → AllByRecursion (λ (row : Placed). m < row.line) (map (placed_at it) (numbered_from k ls))
-  placed_above it k m low [] = tt
-  placed_above it k m low (l ∷ ls) = (low, placed_above it (k + 1) m (omega arith) ls)
-
-  placed_rise : (it : Consignment) (k : ℕ) (ls : List Line) → Rise (λ (row : Placed). row.line) (map (placed_at it) (numbered_from k ls))
-  placed_rise it k [] = tt
-  placed_rise it k (l ∷ ls) = (placed_above it (k + 1) k (omega arith) ls, placed_rise it (k + 1) ls)
-
   -- the lines of at most one consignment
-  pub lines_rise : (found : List Consignment) → length found ≤ 1 → Rise (λ (row : Placed). row.line) (all_placed found)
+  pub lines_rise : (found : List Consignment) → length found ≤ 1 → Rises (λ (row : Placed). row.line) (all_placed found)
   lines_rise [] few = tt
-  lines_rise (it ∷ []) few = subst (Rise (λ (row : Placed). row.line)) (sym (nothing_more (placed_in it))) (placed_rise it 1 it.lines)
+  lines_rise (it ∷ []) few = subst (Rises (λ (row : Placed). row.line)) (sym (append-nil (placed_in it))) (counted_rise (λ (row : Placed). row.line) 1 (placed_in it) (placed_counted it 1 it.lines))
   lines_rise (it ∷ other ∷ more) few = absurd (omega (arith, few))
 
   pub picks_placed : (k : ℕ) (cs : List Consignment) → PicksOne is cs → PicksOne (is_placed s a n k) (all_placed cs)
@@ -102,7 +95,7 @@ module _ (s a n : ℕ) where
       go : (found : List Consignment) → length found ≤ 1 → length (filter (λ (row : Placed). row.line == k) (all_placed found)) ≤ 1
       go [] few = omega arith
       go (it ∷ []) few =
-          subst (λ (l : List Placed). length (filter (λ (row : Placed). row.line == k) l) ≤ 1) (sym (nothing_more (placed_in it)))
+          subst (λ (l : List Placed). length (filter (λ (row : Placed). row.line == k) l) ≤ 1) (sym (append-nil (placed_in it)))
           (counted_once (λ (row : Placed). row.line) 1 (placed_in it) k (placed_counted it 1 it.lines))
       go (it ∷ other ∷ more) few = absurd (omega (arith, few))
 
@@ -189,7 +182,7 @@ module _ (row : Placed) where
           let none : filter its cs ≡ [] = unmapped_none (filter its cs) cc in
           let rest : update_where its (push_line row.it) cs ≡ cs = unpicked its (push_line row.it) cs none in
           let goal : placed_in (push_line row.it it) ++ all_placed (update_where its (push_line row.it) cs) ≡ placed_in it ++ row ∷ all_placed cs =
-          (λ i. behind it hit number i ++ all_placed (rest i)) ∙ grouped (placed_in it) (row ∷ []) (all_placed cs) in
+          (λ i. behind it hit number i ++ all_placed (rest i)) ∙ append_assoc (placed_in it) (row ∷ []) (all_placed cs) in
           subst (IsPermutation ((placed_in it ++ all_placed cs) ++ row ∷ [])) (sym goal)
           (IsPermutation-trans _ _ _ (IsPermutation-to_front (placed_in it ++ all_placed cs) row) (IsPermutation-sym _ _ (IsPermutation-middle (placed_in it) row (all_placed cs))))
         where
@@ -197,5 +190,5 @@ module _ (row : Placed) where
           unmapped_none [] e = refl
           unmapped_none (x ∷ found) e = absurd cc
       go false miss now more =
-          subst (λ (l : List Placed). IsPermutation l (placed_in it ++ all_placed (update_where its (push_line row.it) cs))) (sym (grouped (placed_in it) (all_placed cs) (row ∷ [])))
+          subst (λ (l : List Placed). IsPermutation l (placed_in it ++ all_placed (update_where its (push_line row.it) cs))) (sym (append_assoc (placed_in it) (all_placed cs) (row ∷ [])))
           (IsPermutation-append_right (placed_in it) _ _ (more now))

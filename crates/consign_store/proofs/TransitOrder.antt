@@ -1,6 +1,5 @@
 -- Consignments by sender, addressee and number: sorted, they rise.
-use Rattle.std.proofs.Common.{◌⊎◌}
-use Rattle.shop_schema.proofs.Common.{◌≡◌, ◌≢◌, ◌==◌, ◌&&◌, ◌<◌, ◌+◌, ℕ, Bool, true, false, cond, List, [], ◌∷◌, map, filter, inl, inr, refl, sym, ◌∙◌, arith, IsPermutation, nat_lt, AllByRecursion, nat_tests, IsPermutation-refl, IsPermutation-trans, IsPermutation-cons, IsPermutation-middle, IsAscending, IsCounted, AreNumbered, insert_by, sorted_by, Consignment, goes_before, same_test, equal_test}
+use Rattle.shop_schema.proofs.Common.{◌||◌, subst, Ordering, Less, Equal, Greater, is_lt, nat_cmp, ordering_then, ordering_reverse, MatchOrdering, ranks, IsTotalOrder, then_total, number_total, all_weaker, ◌≡◌, ◌≢◌, ◌==◌, ◌&&◌, ◌<◌, ◌+◌, ℕ, Bool, true, false, cond, List, [], ◌∷◌, map, filter, refl, sym, ◌∙◌, arith, IsPermutation, nat_lt, AllByRecursion, IsPermutation-refl, IsPermutation-trans, IsPermutation-cons, IsPermutation-middle, IsAscending, IsCounted, AreNumbered, insert_by, sorted_by, Consignment, goes_before, same_test, equal_test}
 
 -- ---- any order
 
@@ -27,92 +26,68 @@ module _ {X : Type 0} (first : X → X → Bool) where
 -- ---- keys
 
 -- by sender, then addressee, then number
+abbrev pub key_cmp : Consignment → Consignment → Ordering
+key_cmp a b = ordering_then (nat_cmp a.source b.source) (ordering_then (nat_cmp a.addressee b.addressee) (nat_cmp a.number b.number))
+
+pub key_total : IsTotalOrder key_cmp
+key_total = then_total (number_total (λ (it : Consignment). it.source)) (then_total (number_total (λ (it : Consignment). it.addressee)) (number_total (λ (it : Consignment). it.number)))
+
 abbrev pub Before : Consignment → Consignment → Type 0
-Before a b = (a.source < b.source) ⊎ ((a.source ≡ b.source) × ((a.addressee < b.addressee) ⊎ ((a.addressee ≡ b.addressee) × (a.number < b.number))))
+Before a b = key_cmp a b ≡ Less
 
 -- they have different keys
 abbrev pub Apart : Consignment → Consignment → Type 0
 Apart a b = a.source ≡ b.source → a.addressee ≡ b.addressee → a.number ≢ b.number
 
-goes_if : (a b : Consignment) → goes_before a b ≡ true → Before a b
-goes_if a b h = elim (cases_nat a.source b.source) [
-  | inl less ↦ inl less
-  | inr (inl same) ↦ elim (cases_nat a.addressee b.addressee) [
-    | inl less ↦ inr (same, inl less)
-    | inr (inl also) ↦ inr (same, inr (also, number_less same also))
-    | inr (inr more) ↦ absurd (no_addressee same more)
-  ]
-  | inr (inr more) ↦ absurd (no_source more)
-]
+goes_is : (a b : Consignment) → goes_before a b ≡ is_lt (key_cmp a b)
+goes_is a b =
+    level (nat_lt a.source b.source) (a.source == b.source) _ _
+    (level (nat_lt a.addressee b.addressee) (a.addressee == b.addressee) _ _ (last (nat_lt a.number b.number) (a.number == b.number)))
   where
-    cases_nat : (m n : ℕ) → (m < n) ⊎ ((m ≡ n) ⊎ (n < m))
-    cases_nat m n = go (nat_lt m n) refl (nat_lt n m) refl
-      where
-        go : (x : Bool) → nat_lt m n ≡ x → (y : Bool) → nat_lt n m ≡ y → (m < n) ⊎ ((m ≡ n) ⊎ (n < m))
-        go true e y f = inl (grind (arith, nat_tests))
-        go false e true f = inr (inr (grind (arith, nat_tests)))
-        go false e false f = inr (inl (grind (arith, nat_tests)))
+    last : (less same : Bool) → less ≡ is_lt (cond less Less (cond same Equal Greater))
+    last true same = refl
+    last false true = refl
+    last false false = refl
 
-    number_less : a.source ≡ b.source → a.addressee ≡ b.addressee → a.number < b.number
-    number_less same also = grind (arith, nat_tests, h, same, also)
+    level : (less same more : Bool) (o : Ordering) → more ≡ is_lt o → (less || same && more) ≡ is_lt (ordering_then (cond less Less (cond same Equal Greater)) o)
+    level true same more o h = refl
+    level false true more o h = h
+    level false false more o h = refl
 
-    no_addressee : a.source ≡ b.source → b.addressee < a.addressee → ⊥
-    no_addressee same more = grind (arith, nat_tests, h, same, more)
-
-    no_source : b.source < a.source → ⊥
-    no_source more = grind (arith, nat_tests, h, more)
+goes_if : (a b : Consignment) → goes_before a b ≡ true → Before a b
+goes_if a b h = lower (key_cmp a b) (sym (goes_is a b) ∙ h)
+  where
+    lower : (o : Ordering) → is_lt o ≡ true → o ≡ Less
+    lower Less e = refl
+    lower o e = cc
 
 stays_if : (a b : Consignment) → goes_before a b ≡ false → Apart a b → Before b a
-stays_if a b h apart = elim (cases_nat a.source b.source) [
-  | inl less ↦ absurd (no_source less)
-  | inr (inl same) ↦ elim (cases_nat a.addressee b.addressee) [
-    | inl less ↦ absurd (no_addressee same less)
-    | inr (inl also) ↦ inr (sym same, inr (sym also, number_less same also (apart same also)))
-    | inr (inr more) ↦ inr (sym same, inl more)
-  ]
-  | inr (inr more) ↦ inl more
-]
+stays_if a b h apart = key_total.antisymm b a ∙ turned (key_cmp a b) (sym (goes_is a b) ∙ h) tied
   where
-    cases_nat : (m n : ℕ) → (m < n) ⊎ ((m ≡ n) ⊎ (n < m))
-    cases_nat m n = go (nat_lt m n) refl (nat_lt n m) refl
-      where
-        go : (x : Bool) → nat_lt m n ≡ x → (y : Bool) → nat_lt n m ≡ y → (m < n) ⊎ ((m ≡ n) ⊎ (n < m))
-        go true e y f = inl (grind (arith, nat_tests))
-        go false e true f = inr (inr (grind (arith, nat_tests)))
-        go false e false f = inr (inl (grind (arith, nat_tests)))
+    turned : (o : Ordering) → is_lt o ≡ false → (o ≡ Equal → ⊥) → ordering_reverse o ≡ Less
+    turned Less e none = cc
+    turned Equal e none = absurd (none refl)
+    turned Greater e none = refl
 
-    number_less : a.source ≡ b.source → a.addressee ≡ b.addressee → a.number ≢ b.number → b.number < a.number
-    number_less same also other = grind (arith, nat_tests, h, same, also, other)
+    same : (m n : ℕ) → nat_cmp m n ≡ Equal → m ≡ n
+    same m n e = subst (λ (r : Ordering). MatchOrdering r (m < n) (m ≡ n) (n < m)) e (ranks m n)
 
-    no_addressee : a.source ≡ b.source → a.addressee < b.addressee → ⊥
-    no_addressee same less = grind (arith, nat_tests, h, same, less)
+    both : (p q : Ordering) → ordering_then p q ≡ Equal → (p ≡ Equal) × (q ≡ Equal)
+    both Equal q e = (refl, e)
+    both p q e = absurd cc
 
-    no_source : a.source < b.source → ⊥
-    no_source less = grind (arith, nat_tests, h, less)
-
-before_then : (a b c : Consignment) → Before a b → Before b c → Before a c
-before_then a b c (inl s) (inl t) = inl (omega (arith, s, t))
-before_then a b c (inl s) (inr t) = inl (omega (arith, s, t.0))
-before_then a b c (inr s) (inl t) = inl (omega (arith, s.0, t))
-before_then a b c (inr s) (inr t) = inr (s.0 ∙ t.0, both s.1 t.1)
-  where
-    both : (a.addressee < b.addressee) ⊎ ((a.addressee ≡ b.addressee) × (a.number < b.number)) → (b.addressee < c.addressee) ⊎ ((b.addressee ≡ c.addressee) × (b.number < c.number))
-        → (a.addressee < c.addressee) ⊎ ((a.addressee ≡ c.addressee) × (a.number < c.number))
-    both (inl x) (inl y) = inl (omega (arith, x, y))
-    both (inl x) (inr y) = inl (omega (arith, x, y.0))
-    both (inr x) (inl y) = inl (omega (arith, x.0, y))
-    both (inr x) (inr y) = inr (x.0 ∙ y.0, omega (arith, x.1, y.1))
+    tied : key_cmp a b ≡ Equal → ⊥
+    tied e =
+        let first = both (nat_cmp a.source b.source) _ e in
+        let rest = both (nat_cmp a.addressee b.addressee) (nat_cmp a.number b.number) first.1 in
+        apart (same a.source b.source first.0) (same a.addressee b.addressee rest.0) (same a.number b.number rest.1)
 
 insert_up : (x : Consignment) (ys : List Consignment) → AllByRecursion (Apart x) ys → IsAscending Before ys → IsAscending Before (insert_by goes_before x ys)
 insert_up x [] apart up = (tt, tt)
 insert_up x (y ∷ ys) apart up = go (goes_before x y) refl (insert_up x ys apart.1 up.1)
   where
     go : (b : Bool) → goes_before x y ≡ b → IsAscending Before (insert_by goes_before x ys) → IsAscending Before (cond b (x ∷ y ∷ ys) (y ∷ insert_by goes_before x ys))
-    go true is more = let here = goes_if x y is in ((here, further here ys up.0), up)
-      where
-        further : Before x y → (zs : List Consignment) → AllByRecursion (Before y) zs → AllByRecursion (Before x) zs
-        further here [] all = tt
-        further here (z ∷ zs) all = (before_then x y z here all.0, further here zs all.1)
+    go true is more = let here = goes_if x y is in ((here, all_weaker (Before y) (Before x) (λ z later. key_total.trans x y z here later) ys up.0), up)
     go false is more = (all_insert goes_before (Before y) x ys (stays_if x y is apart.0) up.0, more)
 
 pub sorted_up : (cs : List Consignment) → IsAscending Apart cs → IsAscending Before (sorted_by goes_before cs)

@@ -10,7 +10,7 @@ use Rattle.shop_model.specs.Views.{sorted_by}
 use Rattle.shop_model.specs.Office.{goes_before}
 use Rattle.shop_model.specs.Books.{Books, Line, Consignment}
 use Rattle.shop_views.specs.Consignments.{Listed, seen_listed, arrival_data, arrival_text, sent_data, sent_text, transit_data, transit_text}
-use Rattle.shop_views.specs.Page.{HasValues}
+use Rattle.shop_views.specs.Page.{HasTexts}
 use Rattle.consign_store.specs.declared.lists.ListKind.{ListKind}
 use Rattle.consign_store.specs.declared.lists.ListKind.TheVariants as kind
 use Rattle.consign_store.specs.declared.lists.ConsignmentPage.{ConsignmentPage}
@@ -90,7 +90,7 @@ abbrev pub HasConsignments : ConsignmentPage → ConsignmentPage → List sql.Ro
 HasConsignments start it given =
     (it.kind ≡ start.kind)
     × ((lines : List ListLine) → given ≡ map shown_line lines
-    → HasValues it.page (map (data_of start.kind) (runs lines).0) × (option_map seen_listed it.consignment ≡ (runs lines).1))
+    → HasTexts it.page (map (text_of start.kind) (runs lines).0) × (option_map seen_listed it.consignment ≡ (runs lines).1))
 
 -- what head office is shown of the consignments that aren't received, by sender, addressee and number: the list that `office_look Transit` has
 abbrev pub under_way : Books → List (ℕ × ℕ × ℕ × List ℕ)

@@ -72,19 +72,20 @@ fn first_place(rows: &[Row]) -> Result<u64, StoreFault>
     }
 }
 
+const SELECT_PLACE: &str = "SELECT place FROM consignment ORDER BY place DESC LIMIT 1";
+
 /// The place of the last consignment of the chain, or 0 where there is none. Places count from 1 without a gap, so it
 /// is how many there are.
 pub fn last_place<S: Alter>(tx: &mut Transaction<'_, S>) -> Result<u64, StoreFault>
     ensures { DoesInside S.Store tx.old.conn tx.new.conn result
         (λ last. Finds (λ books. last ≡ length books.consignments)) }
 {
-    let rows = query(
-        tx,
-        "SELECT place FROM consignment ORDER BY place DESC LIMIT 1",
-        &[],
-    )?;
+    let rows = query(tx, SELECT_PLACE, &[])?;
     first_place(rows.as_slice())
 }
+
+const SELECT_HEADER: &str =
+    "SELECT source, addressee, number, place, received FROM consignment WHERE source = ?1 AND addressee = ?2 AND number = ?3";
 
 /// The consignment, without its lines, if there is one of the key.
 pub fn header_at<S: Alter>(
@@ -97,7 +98,7 @@ pub fn header_at<S: Alter>(
 {
     query_one(
         tx,
-        "SELECT source, addressee, number, place, received FROM consignment WHERE source = ?1 AND addressee = ?2 AND number = ?3",
+        SELECT_HEADER,
         &[
             key.source.get().to_sql(),
             key.addressee.get().to_sql(),
@@ -106,18 +107,20 @@ pub fn header_at<S: Alter>(
     )
 }
 
+const INSERT_HEADER: &str =
+    "INSERT INTO consignment (source, addressee, number, place, received) VALUES (?1, ?2, ?3, ?4, ?5)";
+
 /// Adds the consignment, with no line yet. After a fault the transaction may be rolled back.
 pub fn put_header<S: Alter>(tx: &mut Transaction<'_, S>, row: &HeaderRow) -> Result<(), StoreFault>
     ensures { DoesInside S.Store tx.old.conn tx.new.conn result
         (λ _. Stores (λ _. ⊤)
         (λ books. record books { consignments = books.consignments ++ opened (seen_header row.now) ∷ [] })) }
 {
-    execute(
-        tx,
-        "INSERT INTO consignment (source, addressee, number, place, received) VALUES (?1, ?2, ?3, ?4, ?5)",
-        &row.values(),
-    )
+    execute(tx, INSERT_HEADER, &row.values())
 }
+
+const UPDATE_RECEIVED: &str =
+    "UPDATE consignment SET received = 1 WHERE source = ?1 AND addressee = ?2 AND number = ?3";
 
 /// Sets that the consignment is received. One that isn't there is not made. After a fault the transaction may be
 /// rolled back.
@@ -131,7 +134,7 @@ pub fn set_received<S: Alter>(
 {
     execute(
         tx,
-        "UPDATE consignment SET received = 1 WHERE source = ?1 AND addressee = ?2 AND number = ?3",
+        UPDATE_RECEIVED,
         &[
             key.source.get().to_sql(),
             key.addressee.get().to_sql(),

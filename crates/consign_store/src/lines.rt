@@ -67,6 +67,9 @@ impl LineRow {
     }
 }
 
+const SELECT_LINES: &str =
+    "SELECT source, addressee, number, line, film, origin_branch, origin_copy, state FROM consignment_line WHERE source = ?1 AND addressee = ?2 AND number = ?3 ORDER BY line";
+
 /// The lines of the consignment, in their order. After a fault the transaction may be rolled back.
 pub fn lines_of<S: Alter>(
     alloc: Global,
@@ -80,7 +83,7 @@ pub fn lines_of<S: Alter>(
     query_all(
         alloc,
         tx,
-        "SELECT source, addressee, number, line, film, origin_branch, origin_copy, state FROM consignment_line WHERE source = ?1 AND addressee = ?2 AND number = ?3 ORDER BY line",
+        SELECT_LINES,
         &[
             key.source.get().to_sql(),
             key.addressee.get().to_sql(),
@@ -89,17 +92,19 @@ pub fn lines_of<S: Alter>(
     )
 }
 
+const INSERT_LINE: &str =
+    "INSERT INTO consignment_line (source, addressee, number, line, film, origin_branch, origin_copy, state) VALUES (?1, ?2, ?3, ?4, ?5, ?6, ?7, ?8)";
+
 /// Adds the line behind those that its consignment has. After a fault the transaction may be rolled back.
 pub fn put_line<S: Alter>(tx: &mut Transaction<'_, S>, row: &LineRow) -> Result<(), StoreFault>
     ensures { DoesInside S.Store tx.old.conn tx.new.conn result
         (λ _. Stores (IsNextLine (seen_line row.now)) (with_line (seen_line row.now))) }
 {
-    execute(
-        tx,
-        "INSERT INTO consignment_line (source, addressee, number, line, film, origin_branch, origin_copy, state) VALUES (?1, ?2, ?3, ?4, ?5, ?6, ?7, ?8)",
-        &row.values(),
-    )
+    execute(tx, INSERT_LINE, &row.values())
 }
+
+const UPDATE_LINE: &str =
+    "UPDATE consignment_line SET state = ?5 WHERE source = ?1 AND addressee = ?2 AND number = ?3 AND line = ?4";
 
 /// Sets what became of the line. One that isn't there is not made. After a fault the transaction may be rolled back.
 pub fn set_line<S: Alter>(
@@ -114,7 +119,7 @@ pub fn set_line<S: Alter>(
 {
     execute(
         tx,
-        "UPDATE consignment_line SET state = ?5 WHERE source = ?1 AND addressee = ?2 AND number = ?3 AND line = ?4",
+        UPDATE_LINE,
         &[
             key.source.get().to_sql(),
             key.addressee.get().to_sql(),

@@ -1,21 +1,21 @@
 //! The lists of consignments, row by row, outside any transaction: neighbouring rows of one join belong to one
 //! consignment, and a first line begins the next.
 
-ghost use Rattle.std.specs.Prelude.{◌≡◌, false, List, [], ◌∷◌, ◌++◌, Option, Some, IfOk, OnOk, map, option_map, string_bytes};
-ghost use Rattle.serde_json.specs.Data.{Data};
+ghost use Rattle.std.specs.Prelude.{◌≡◌, List, [], ◌∷◌, ◌++◌, Option, Some, IfOk, OnOk, map, option_map, string_bytes};
 ghost use Rattle.serde_json.specs.View.{view};
-ghost use Rattle.serde_json.specs.Written.{has_float};
 ghost use Rattle.sqlite.specs.Held.{state};
 ghost use Rattle.sqlite.specs.State.{HasCleanDisk};
 ghost use Rattle.sql_rows.specs.Calls.{StaysSame};
 ghost use Rattle.shop_model.specs.Json.{array};
+ghost use Rattle.shop_model.specs.Values.{Text};
 ghost use Rattle.shop_model.specs.Books.{Books, shop_of};
 ghost use Rattle.shop_model.specs.Machine.{ArrivalsAre, SentAre, TransitIs};
 ghost use Rattle.shop_model.specs.Answers.{shown_text};
 ghost use Rattle.shop_schema.specs.Shop.{Holds};
 ghost use Rattle.shop_schema.specs.Held.{IsHeld};
 ghost use Rattle.shop_views.specs.Consignments.{Listed, seen_listed};
-ghost use Rattle.shop_views.specs.Page.{HasValues};
+ghost use Rattle.shop_views.specs.Lists.{IsRow};
+ghost use Rattle.shop_views.specs.Page.{HasTexts};
 ghost use Rattle.consign_store.specs.Listed.{under_way, ListLine, shown_line, is_first, films_of, begun, with_film, take_line, closed, data_of, text_of, HasConsignments};
 
 use serde_json::Value;
@@ -78,8 +78,7 @@ fn with_film(it: ListedConsignment, row: &Row) -> Result<ListedConsignment, Stor
 
 /// The consignment as the list has it.
 fn value_of(alloc: Global, kind: ListKind, it: &ListedConsignment) -> Result<Value, AllocError>
-    ensures value { IfOk result (λ v. view v ≡ data_of kind (seen_listed it.now)) }
-    ensures no_float { IfOk result (λ v. has_float (view v) ≡ false) }
+    ensures { IfOk result (λ v. IsRow (data_of kind) (text_of kind) (seen_listed it.now) (view v)) }
 {
     match kind {
         ListKind::Arrivals => arrival_row(alloc, it),
@@ -95,8 +94,8 @@ fn add(
     it: ListedConsignment,
     page: &mut ListPage,
 ) -> Result<(), AllocError>
-    ensures { OnOk result ((values : List Data) → HasValues page.old values
-        → HasValues page.new (values ++ data_of kind (seen_listed it) ∷ [])) }
+    ensures { OnOk result ((texts : List Text) → HasTexts page.old texts
+        → HasTexts page.new (texts ++ text_of kind (seen_listed it) ∷ [])) }
 {
     let value = value_of(alloc, kind, &it)?;
     page.add(&value)
@@ -112,8 +111,8 @@ fn next(
     page: &mut ListPage,
 ) -> Result<ListedConsignment, StoreFault>
     ensures { IfOk result (λ now. (line : ListLine) (done : List Listed) → row.now ≡ shown_line line
-        → HasValues page.old (map (data_of kind) done)
-        → HasValues page.new (map (data_of kind) (take_line (done, option_map seen_listed it) line).0)
+        → HasTexts page.old (map (text_of kind) done)
+        → HasTexts page.new (map (text_of kind) (take_line (done, option_map seen_listed it) line).0)
         × (Some (seen_listed now) ≡ (take_line (done, option_map seen_listed it) line).1)) }
 {
     let Some(it) = it else {
@@ -148,7 +147,7 @@ impl TakesRows for ConsignmentPage {
 
 /// The text of the list with the last consignment.
 fn finish(taker: ConsignmentPage) -> Result<String, AllocError>
-    ensures { IfOk result (λ s. (done : List Listed) → HasValues taker.page (map (data_of taker.kind) done)
+    ensures { IfOk result (λ s. (done : List Listed) → HasTexts taker.page (map (text_of taker.kind) done)
         → string_bytes s ≡ array (map (text_of taker.kind) (closed (done, option_map seen_listed taker.consignment)))) }
 {
     let ConsignmentPage {
@@ -178,6 +177,9 @@ fn empty(alloc: Global, kind: ListKind) -> ConsignmentPage
     }
 }
 
+const SELECT_ARRIVALS: &str =
+    "SELECT c.source, c.addressee, c.number, c.received, l.line, l.film FROM consignment AS c LEFT JOIN consignment_line AS l ON l.source = c.source AND l.addressee = c.addressee AND l.number = c.number WHERE c.addressee = ?1 ORDER BY c.place, l.line";
+
 /// The arrivals of the branch in the order of their dispatch, received ones too, as the text of a list. The database
 /// stays as it was, unless the store fails, which commits nothing.
 pub fn arrivals<S: Alter>(
@@ -191,14 +193,12 @@ pub fn arrivals<S: Alter>(
     ensures same { StaysSame S.Store conn.old conn.new result }
 {
     let mut taker = empty(alloc, ListKind::Arrivals);
-    each_row(
-        conn,
-        "SELECT c.source, c.addressee, c.number, c.received, l.line, l.film FROM consignment AS c LEFT JOIN consignment_line AS l ON l.source = c.source AND l.addressee = c.addressee AND l.number = c.number WHERE c.addressee = ?1 ORDER BY c.place, l.line",
-        &[branch.get().to_sql()],
-        &mut taker,
-    )?;
+    each_row(conn, SELECT_ARRIVALS, &[branch.get().to_sql()], &mut taker)?;
     Ok(finish(taker)?)
 }
+
+const SELECT_SENT: &str =
+    "SELECT c.source, c.addressee, c.number, c.received, l.line, l.film FROM consignment AS c LEFT JOIN consignment_line AS l ON l.source = c.source AND l.addressee = c.addressee AND l.number = c.number WHERE c.source = ?1 ORDER BY c.place, l.line";
 
 /// What the branch sent, in the order of dispatch, as the text of a list. The database stays as it was, unless the
 /// store fails, which commits nothing.
@@ -213,14 +213,12 @@ pub fn sent<S: Alter>(
     ensures same { StaysSame S.Store conn.old conn.new result }
 {
     let mut taker = empty(alloc, ListKind::Sent);
-    each_row(
-        conn,
-        "SELECT c.source, c.addressee, c.number, c.received, l.line, l.film FROM consignment AS c LEFT JOIN consignment_line AS l ON l.source = c.source AND l.addressee = c.addressee AND l.number = c.number WHERE c.source = ?1 ORDER BY c.place, l.line",
-        &[branch.get().to_sql()],
-        &mut taker,
-    )?;
+    each_row(conn, SELECT_SENT, &[branch.get().to_sql()], &mut taker)?;
     Ok(finish(taker)?)
 }
+
+const SELECT_TRANSIT: &str =
+    "SELECT c.source, c.addressee, c.number, c.received, l.line, l.film FROM consignment AS c LEFT JOIN consignment_line AS l ON l.source = c.source AND l.addressee = c.addressee AND l.number = c.number WHERE c.received = 0 ORDER BY c.source, c.addressee, c.number, l.line";
 
 /// All consignments of the chain that aren't received, by sender, addressee and number, as the text of a list. The
 /// database stays as it was, unless the store fails, which commits nothing.
@@ -231,11 +229,6 @@ pub fn transit<S: Alter>(alloc: Global, conn: &mut Connection<S>) -> Result<Stri
     ensures same { StaysSame S.Store conn.old conn.new result }
 {
     let mut taker = empty(alloc, ListKind::Transit);
-    each_row(
-        conn,
-        "SELECT c.source, c.addressee, c.number, c.received, l.line, l.film FROM consignment AS c LEFT JOIN consignment_line AS l ON l.source = c.source AND l.addressee = c.addressee AND l.number = c.number WHERE c.received = 0 ORDER BY c.source, c.addressee, c.number, l.line",
-        &[],
-        &mut taker,
-    )?;
+    each_row(conn, SELECT_TRANSIT, &[], &mut taker)?;
     Ok(finish(taker)?)
 }

@@ -18,6 +18,9 @@ use sqlite::types::ToSql;
 use sqlite::{Alter, Transaction};
 use std::alloc::Global;
 
+const SELECT_COPIES: &str =
+    "SELECT branch, number, film, state, origin_branch, origin_copy FROM copy WHERE origin_branch = ?1 AND origin_copy = ?2";
+
 /// The copies of all branches that have the mark, in any order. After a fault the transaction may be rolled back.
 pub fn copies_marked<S: Alter>(
     alloc: Global,
@@ -32,10 +35,13 @@ pub fn copies_marked<S: Alter>(
     query_all(
         alloc,
         tx,
-        "SELECT branch, number, film, state, origin_branch, origin_copy FROM copy WHERE origin_branch = ?1 AND origin_copy = ?2",
+        SELECT_COPIES,
         &[mark.branch.get().to_sql(), mark.copy.get().to_sql()],
     )
 }
+
+const SELECT_MARKED: &str =
+    "SELECT source, addressee, number, line, film, origin_branch, origin_copy, state FROM consignment_line WHERE origin_branch = ?1 AND origin_copy = ?2";
 
 /// The lines of all consignments that have the mark, in any order. After a fault the transaction may be rolled back.
 pub fn lines_marked<S: Alter>(
@@ -51,7 +57,7 @@ pub fn lines_marked<S: Alter>(
     query_all(
         alloc,
         tx,
-        "SELECT source, addressee, number, line, film, origin_branch, origin_copy, state FROM consignment_line WHERE origin_branch = ?1 AND origin_copy = ?2",
+        SELECT_MARKED,
         &[mark.branch.get().to_sql(), mark.copy.get().to_sql()],
     )
 }

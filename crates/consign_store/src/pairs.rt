@@ -25,6 +25,9 @@ fn first_number(rows: &[Row]) -> Result<ConsignmentNo, StoreFault>
     }
 }
 
+const UPSERT_PAIR: &str =
+    "INSERT INTO pair_count (source, addressee, last) VALUES (?1, ?2, 1) ON CONFLICT (source, addressee) DO UPDATE SET last = last + 1 RETURNING last";
+
 /// The next number of the pair, which counts the consignments of the sender to the addressee: the first brings the
 /// pair's row. After a fault the transaction may be rolled back.
 pub fn take_pair<S: Alter>(
@@ -38,7 +41,7 @@ pub fn take_pair<S: Alter>(
 {
     let rows = query(
         tx,
-        "INSERT INTO pair_count (source, addressee, last) VALUES (?1, ?2, 1) ON CONFLICT (source, addressee) DO UPDATE SET last = last + 1 RETURNING last",
+        UPSERT_PAIR,
         &[source.get().to_sql(), addressee.get().to_sql()],
     )?;
     first_number(rows.as_slice())

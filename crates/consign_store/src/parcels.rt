@@ -1,6 +1,7 @@
 //! Whole consignments: what a dispatch adds, and what a receipt sets.
 
-ghost use Rattle.std.specs.Prelude.{◌≡◌, ◌≤◌, [], ◌∷◌, ◌++◌, length, map};
+ghost use Rattle.std.specs.Prelude.{◌≡◌, ◌≤◌, ◌==◌, [], ◌∷◌, ◌++◌, length, map};
+ghost use Rattle.std.specs.List.{list_any};
 ghost use Rattle.sql_rows.specs.Calls.{DoesInside, DoesWithin};
 ghost use Rattle.shop_model.specs.Rows.{mem, update_where};
 ghost use Rattle.shop_model.specs.Books.{is_consignment, checked};
@@ -66,23 +67,25 @@ pub fn put_consignment<S: Alter>(
     put_lines(tx, key, lines.as_slice())
 }
 
+fn has_line(lines: &[LineNo], line: u32) -> bool
+    ensures { result ≡ list_any (λ it. it == line) lines.now }
+{
+    lines.iter().any(|it| it.get() == line)
+}
+
 /// Whether the line is among them.
-fn is_among(lines: &[LineNo], line: LineNo) -> bool
+#[tactic(auto, using(crate::proofs::ParcelSteps::any_mem))]
+fn is_among(lines: &[LineNo], line: u32) -> bool
     ensures { result ≡ mem line lines.now }
 {
-    for other in lines {
-        if other.get() == line.get() {
-            return true;
-        }
-    }
-    false
+    has_line(lines, line)
 }
 
 /// What becomes of the line at the receipt.
 fn state_after(missing: &[LineNo], line: LineNo) -> LineState
     ensures { seen_line_state result ≡ state_at missing.now line }
 {
-    if is_among(missing, line) {
+    if is_among(missing, line.get()) {
         LineState::Missing
     } else {
         LineState::Arrived

@@ -1,6 +1,7 @@
 //! Where a mark is.
 
-ghost use Rattle.std.specs.Prelude.{◌≡◌, filter, slice_get};
+ghost use Rattle.std.specs.Prelude.{◌≡◌};
+ghost use Rattle.std.specs.List.{find};
 ghost use Rattle.sql_rows.specs.Calls.{DoesInside};
 ghost use Rattle.shop_model.specs.Machine.{Shows};
 ghost use Rattle.shop_model.specs.Office.{place_of};
@@ -16,28 +17,30 @@ use sql_rows::StoreFault;
 use sqlite::{Alter, Transaction};
 use std::alloc::Global;
 
+fn is_copy_here(row: &CopyRow) -> bool
+    ensures { result ≡ is_here row.now }
+{
+    matches!(row.state, CopyState::Here)
+}
+
 /// The first copy that is here.
 fn first_here(rows: &[CopyRow]) -> Option<CopyRow>
-    ensures { slice_get (filter is_here rows.now) 0 ≡ result }
+    ensures { result ≡ find is_here rows.now }
 {
-    for row in rows {
-        if let CopyState::Here = row.state {
-            return Some(*row);
-        }
-    }
-    None
+    rows.iter().copied().find(|row| is_copy_here(row))
+}
+
+fn is_line_under_way(row: &LineRow) -> bool
+    ensures { result ≡ is_under_way row.now }
+{
+    matches!(row.state, LineState::UnderWay)
 }
 
 /// The first line that is under way.
 fn first_under_way(rows: &[LineRow]) -> Option<LineRow>
-    ensures { slice_get (filter is_under_way rows.now) 0 ≡ result }
+    ensures { result ≡ find is_under_way rows.now }
 {
-    for row in rows {
-        if let LineState::UnderWay = row.state {
-            return Some(*row);
-        }
-    }
-    None
+    rows.iter().copied().find(|row| is_line_under_way(row))
 }
 
 /// Where the mark is, of which there is at most one copy that is here, and one line that is under way. After a fault

@@ -1,5 +1,5 @@
 -- What a change of the books makes of their own counts: where the rows of one kind of one branch alone grow, its count alone does.
-use Rattle.shop_schema.proofs.Common.{◌≡◌, ◌+◌, ◌≤◌, ◌==◌, ◌&&◌, ℕ, suc, List, [], ◌∷◌, ◌++◌, map, filter, length, true, false, Bool, cond, not, Some, None, refl, sym, ap, subst, ◌∙◌, arith, is_none, AllByRecursion, nat_tests, filter-append, length_push, Moment, Row, Owned, is_of, is_row, of, owned_by, numbered, set_row, Branch, Customer, Payment, Rental, Text, Kept, Books, BookCopy, more_yes, more_no, length_map, is_count, count_in, count_of, branch_counts, office_count, counts_of, raise, raised, is_open, out_of, is_out_by, put_out, drop_out}
+use Rattle.shop_schema.proofs.Common.{◌≡◌, ◌+◌, ◌≤◌, ◌==◌, ◌&&◌, ℕ, suc, List, [], ◌∷◌, ◌++◌, map, filter, length, true, false, Bool, cond, not, Some, None, refl, sym, ap, subst, ◌∙◌, arith, is_none, AllByRecursion, nat_tests, filter-append, map-flat_map, length_push, Moment, Row, Owned, is_of, is_row, of, owned_by, numbered, set_row, Customer, Payment, Rental, Text, Kept, Books, BookCopy, more_yes, more_no, same_if, length_map, is_count, count_in, count_of, branch_counts, office_count, counts_of, pairs_of, Count, Out, raise, raised, is_open, out_of, is_out_by, put_out, drop_out}
 use Rattle.std.specs.Prelude.{flat_map}
 use Rattle.std.proofs.lemmas.List.{length-append}
 use Rattle.shop_schema.proofs.Lasts.{turned}
@@ -8,41 +8,59 @@ use Rattle.shop_ledger.specs.declared.counts.CountKind.TheVariants as kind
 use Rattle.shop_ledger.specs.Counted.{kind_number}
 use Rattle.shop_ledger.proofs.CountsOf.{not_office}
 
--- the branch's count of the kind has grown by so many, and no other has
-abbrev pub GrowsBy : ℕ → ℕ → ℕ → Books → Books → Type 0
-GrowsBy b k m old new = (a : ℕ) (kind : CountKind) → count_in (kind_number kind) a new ≡ cond (a == b && kind_number kind == k) (count_in (kind_number kind) a old + m) (count_in (kind_number kind) a old)
+-- the counts of books in which the branch has so many rows of the kind more, and each other count is as it was
+module _ (b k m : ℕ) (old new : Books) (outs : List Out) (low : 1 ≤ b) (branches : new.catalogue.branches ≡ old.catalogue.branches) (office : new.catalogue.kept ≡ old.catalogue.kept)
+    (out : map out_of (filter is_open new.rentals) ≡ outs) (pairs : pairs_of new.consignments ≡ pairs_of old.consignments)
+    (its : (a : ℕ) → count_in k a new ≡ cond (a == b && true) (count_in k a old + m) (count_in k a old))
+    (others : (kind : CountKind) (a : ℕ) → (kind_number kind == k) ≡ false → count_in (kind_number kind) a new ≡ count_in (kind_number kind) a old) where
+  abbrev more : Count → Count
+  more c = cond (is_count b k c) (raised m c) c
 
-module _ (b k m : ℕ) (old new : Books) (low : 1 ≤ b) (branches : new.catalogue.branches ≡ old.catalogue.branches) (office : new.catalogue.kept ≡ old.catalogue.kept) (grows : GrowsBy b k m old new) where
-  grown : (a : ℕ) (kind : CountKind) → count_of new a (kind_number kind) ≡ cond (a == b && kind_number kind == k) (raised m (count_of old a (kind_number kind))) (count_of old a (kind_number kind))
-  grown a kind = go (a == b && kind_number kind == k) (grows a kind)
+  grown : (a : ℕ) (kind : CountKind) → count_of new a (kind_number kind) ≡ more (count_of old a (kind_number kind))
+  grown a kind = ap (λ l. record { caller = a; kind = kind_number kind; last = l }) (go (kind_number kind == k) refl) ∙ told (a == b && kind_number kind == k)
     where
-      go : (t : Bool) → count_in (kind_number kind) a new ≡ cond t (count_in (kind_number kind) a old + m) (count_in (kind_number kind) a old)
-          → count_of new a (kind_number kind) ≡ cond t (raised m (count_of old a (kind_number kind))) (count_of old a (kind_number kind))
-      go true e = ap (λ n. record { caller = a; kind = kind_number kind; last = n }) e
-      go false e = ap (λ n. record { caller = a; kind = kind_number kind; last = n }) e
+      n : ℕ
+      n = count_in (kind_number kind) a old
 
-  office_row : office_count new ≡ cond (0 == b && 4 == k) (raised m (office_count old)) (office_count old)
-  office_row = go (0 == b) (not_office b low)
-    where
-      go : (t : Bool) → t ≡ false → office_count new ≡ cond (t && 4 == k) (raised m (office_count old)) (office_count old)
-      go true e = cc
-      go false e = ap (λ kept. record { caller = 0; kind = 4; last = length kept }) office
+      none : (t : Bool) → n ≡ cond (t && false) (n + m) n
+      none true = refl
+      none false = refl
 
-  all_grown : (its : List (ℕ × Branch)) → flat_map (branch_counts new) its ≡ map (λ c. cond (is_count b k c) (raised m c) c) (flat_map (branch_counts old) its)
-  all_grown [] = refl
-  all_grown (it ∷ its) =
-      λ i. grown it.0 kind.Customers i ∷ grown it.0 kind.Copies i ∷ grown it.0 kind.Rentals i ∷ grown it.0 kind.Payments i ∷ grown it.0 kind.Kept i ∷ all_grown its i
+      go : (t : Bool) → (kind_number kind == k) ≡ t → count_in (kind_number kind) a new ≡ cond (a == b && t) (n + m) n
+      go true is = subst (λ j. count_in j a new ≡ cond (a == b && true) (count_in j a old + m) (count_in j a old)) (sym (same_if (kind_number kind) k is)) (its a)
+      go false isnt = others kind a isnt ∙ none (a == b)
 
-  pub counters_grown : (counts_of new).counters ≡ (raise b k m (counts_of old)).counters
-  counters_grown = λ i. office_row i ∷ (ap (λ (bs : List Branch). flat_map (branch_counts new) (numbered bs)) branches ∙ all_grown (numbered old.catalogue.branches)) i
+      told : (t : Bool) → record { caller = a; kind = kind_number kind; last = cond t (n + m) n } ≡ cond t (raised m (count_of old a (kind_number kind))) (count_of old a (kind_number kind))
+      told true = refl
+      told false = refl
+
+  office_row : office_count new ≡ more (office_count old)
+  office_row = ap (λ kept. record { caller = 0; kind = 4; last = length kept }) office ∙ ap (λ t. cond (t && 4 == k) (raised m (office_count old)) (office_count old)) (sym (not_office b low))
+
+  all_grown : flat_map (branch_counts new) (numbered new.catalogue.branches) ≡ map more (flat_map (branch_counts old) (numbered old.catalogue.branches))
+  all_grown =
+      (λ i. flat_map (λ it. grown it.0 kind.Customers i ∷ grown it.0 kind.Copies i ∷ grown it.0 kind.Rentals i ∷ grown it.0 kind.Payments i ∷ grown it.0 kind.Kept i ∷ []) (numbered (branches i)))
+      ∙ sym (map-flat_map more (branch_counts old) (numbered old.catalogue.branches))
+
+  pub counts_grown : counts_of new ≡ record (raise b k m (counts_of old)) { outs = outs }
+  counts_grown = λ i. record { counters = office_row i ∷ all_grown i; outs = out i; pairs = pairs i }
+
+-- the same where each count is as it was
+module _ (old new : Books) (outs : List Out) (branches : new.catalogue.branches ≡ old.catalogue.branches) (office : new.catalogue.kept ≡ old.catalogue.kept)
+    (out : map out_of (filter is_open new.rentals) ≡ outs) (pairs : pairs_of new.consignments ≡ pairs_of old.consignments) (same : (n a : ℕ) → count_in n a new ≡ count_in n a old) where
+  still : (a n : ℕ) → count_of new a n ≡ count_of old a n
+  still a n = ap (λ l. record { caller = a; kind = n; last = l }) (same n a)
+
+  pub counts_still : counts_of new ≡ record (counts_of old) { outs = outs }
+  counts_still = λ i. record {
+    counters = record { caller = 0; kind = 4; last = length (office i) } ∷ flat_map (λ it. still it.0 0 i ∷ still it.0 1 i ∷ still it.0 2 i ∷ still it.0 3 i ∷ still it.0 4 i ∷ []) (numbered (branches i));
+    outs = out i;
+    pairs = pairs i;
+  }
 
 -- ---- rows put last
 
-same_count : (t : Bool) (m n : ℕ) → n ≡ cond (t && false) (n + m) n
-same_count true m n = refl
-same_count false m n = refl
-
-pub one_kept : (b : ℕ) (x : Kept) (rows : List (Owned Kept)) (a : ℕ) → length (owned_by a (rows ++ record { owner = b; it = x } ∷ [])) ≡ cond (a == b && true) (length (owned_by a rows) + 1) (length (owned_by a rows))
+one_kept : (b : ℕ) (x : Kept) (rows : List (Owned Kept)) (a : ℕ) → length (owned_by a (rows ++ record { owner = b; it = x } ∷ [])) ≡ cond (a == b && true) (length (owned_by a rows) + 1) (length (owned_by a rows))
 one_kept b x rows a = go (a == b) refl
   where
     go : (t : Bool) → (a == b) ≡ t → length (owned_by a (rows ++ record { owner = b; it = x } ∷ [])) ≡ cond (t && true) (length (owned_by a rows) + 1) (length (owned_by a rows))
@@ -51,14 +69,17 @@ one_kept b x rows a = go (a == b) refl
 
 -- a kept command
 pub kept_counted : (b : ℕ) (x : Kept) (books : Books) → 1 ≤ b → counts_of (record books { kept = books.kept ++ record { owner = b; it = x } ∷ [] }) ≡ raise b 4 1 (counts_of books)
-kept_counted b x books low = λ i. record { counters = counters_grown b 4 1 books (record books { kept = books.kept ++ record { owner = b; it = x } ∷ [] }) low refl refl grows i; outs = (counts_of books).outs; pairs = (counts_of books).pairs }
+kept_counted b x books low = counts_grown b 4 1 books with_row (counts_of books).outs low refl refl refl refl (one_kept b x books.kept) others
   where
-    grows : GrowsBy b 4 1 books (record books { kept = books.kept ++ record { owner = b; it = x } ∷ [] })
-    grows a kind.Customers = same_count (a == b) 1 _
-    grows a kind.Copies = same_count (a == b) 1 _
-    grows a kind.Rentals = same_count (a == b) 1 _
-    grows a kind.Payments = same_count (a == b) 1 _
-    grows a kind.Kept = one_kept b x books.kept a
+    with_row : Books
+    with_row = record books { kept = books.kept ++ record { owner = b; it = x } ∷ [] }
+
+    others : (kind : CountKind) (a : ℕ) → (kind_number kind == 4) ≡ false → count_in (kind_number kind) a with_row ≡ count_in (kind_number kind) a books
+    others kind.Customers a e = refl
+    others kind.Copies a e = refl
+    others kind.Rentals a e = refl
+    others kind.Payments a e = refl
+    others kind.Kept a e = cc
 
 -- ---- many rows put last
 
@@ -72,7 +93,7 @@ of_all b (row ∷ more) a all false e =
     let no : (row.branch == a) ≡ false = subst (λ n. (n == a) ≡ false) (sym all.0) (turned a b false e) in
     ap (λ u. length (cond u (row ∷ filter (is_of a) more) (filter (is_of a) more))) no ∙ of_all b more a all.1 false e
 
-pub many_put : {A : Type 0} (b : ℕ) (rows more : List (Row A)) (a : ℕ) → AllByRecursion (λ (row : Row A). row.branch ≡ b) more
+many_put : {A : Type 0} (b : ℕ) (rows more : List (Row A)) (a : ℕ) → AllByRecursion (λ (row : Row A). row.branch ≡ b) more
     → length (of a (rows ++ more)) ≡ cond (a == b && true) (length (of a rows) + length more) (length (of a rows))
 many_put {A} b rows more a all = go (a == b) (of_all b more a all (a == b) refl)
   where
@@ -90,54 +111,25 @@ many_put {A} b rows more a all = go (a == b) (of_all b more a all (a == b) refl)
 -- copies that are imported
 pub copies_counted : (b : ℕ) (more : List (Row BookCopy)) (lots : List (Owned Text)) (books : Books) → 1 ≤ b → AllByRecursion (λ (row : Row BookCopy). row.branch ≡ b) more
     → counts_of (record books { copies = books.copies ++ more; lots = lots }) ≡ raise b 1 (length more) (counts_of books)
-copies_counted b more lots books low all =
-    λ i. record { counters = counters_grown b 1 (length more) books (record books { copies = books.copies ++ more; lots = lots }) low refl refl grows i; outs = (counts_of books).outs; pairs = (counts_of books).pairs }
-  where
-    grows : GrowsBy b 1 (length more) books (record books { copies = books.copies ++ more; lots = lots })
-    grows a kind.Customers = same_count (a == b) (length more) _
-    grows a kind.Copies = many_put b books.copies more a all
-    grows a kind.Rentals = same_count (a == b) (length more) _
-    grows a kind.Payments = same_count (a == b) (length more) _
-    grows a kind.Kept = same_count (a == b) (length more) _
+copies_counted b more lots books low all = counts_grown b 1 (length more) books (record books { copies = books.copies ++ more; lots = lots }) _ low refl refl refl refl (λ a. many_put b books.copies more a all) (λ kind a isnt. rw isnt)
 
 -- one row, whatever its number is
 pub customer_row_counted : (b : ℕ) (row : Row Customer) (books : Books) → 1 ≤ b → row.branch ≡ b → counts_of (record books { customers = books.customers ++ row ∷ [] }) ≡ raise b 0 1 (counts_of books)
-customer_row_counted b row books low own = λ i. record { counters = counters_grown b 0 1 books (record books { customers = books.customers ++ row ∷ [] }) low refl refl grows i; outs = (counts_of books).outs; pairs = (counts_of books).pairs }
-  where
-    grows : GrowsBy b 0 1 books (record books { customers = books.customers ++ row ∷ [] })
-    grows a kind.Customers = many_put b books.customers (row ∷ []) a (own, tt)
-    grows a kind.Copies = same_count (a == b) 1 _
-    grows a kind.Rentals = same_count (a == b) 1 _
-    grows a kind.Payments = same_count (a == b) 1 _
-    grows a kind.Kept = same_count (a == b) 1 _
+customer_row_counted b row books low own = counts_grown b 0 1 books (record books { customers = books.customers ++ row ∷ [] }) _ low refl refl refl refl (λ a. many_put b books.customers (row ∷ []) a (own, tt)) (λ kind a isnt. rw isnt)
 
 pub payment_row_counted : (b : ℕ) (row : Row Payment) (books : Books) → 1 ≤ b → row.branch ≡ b → counts_of (record books { payments = books.payments ++ row ∷ [] }) ≡ raise b 3 1 (counts_of books)
-payment_row_counted b row books low own = λ i. record { counters = counters_grown b 3 1 books (record books { payments = books.payments ++ row ∷ [] }) low refl refl grows i; outs = (counts_of books).outs; pairs = (counts_of books).pairs }
-  where
-    grows : GrowsBy b 3 1 books (record books { payments = books.payments ++ row ∷ [] })
-    grows a kind.Customers = same_count (a == b) 1 _
-    grows a kind.Copies = same_count (a == b) 1 _
-    grows a kind.Rentals = same_count (a == b) 1 _
-    grows a kind.Payments = many_put b books.payments (row ∷ []) a (own, tt)
-    grows a kind.Kept = same_count (a == b) 1 _
+payment_row_counted b row books low own = counts_grown b 3 1 books (record books { payments = books.payments ++ row ∷ [] }) _ low refl refl refl refl (λ a. many_put b books.payments (row ∷ []) a (own, tt)) (λ kind a isnt. rw isnt)
 
 pub rental_row_counted : (b : ℕ) (row : Row Rental) (books : Books) → 1 ≤ b → row.branch ≡ b → row.it.returned ≡ None
     → counts_of (record books { rentals = books.rentals ++ row ∷ [] }) ≡ put_out (record { branch = b; copy = row.it.copy; rental = row.number }) (raise b 2 1 (counts_of books))
-rental_row_counted b row books low own not_back = λ i. record { counters = counters_grown b 2 1 books (record books { rentals = books.rentals ++ row ∷ [] }) low refl refl grows i; outs = outs_more i; pairs = (counts_of books).pairs }
+rental_row_counted b row books low own not_back = counts_grown b 2 1 books (record books { rentals = books.rentals ++ row ∷ [] }) _ low refl refl outs_more refl (λ a. many_put b books.rentals (row ∷ []) a (own, tt)) (λ kind a isnt. rw isnt)
   where
-    grows : GrowsBy b 2 1 books (record books { rentals = books.rentals ++ row ∷ [] })
-    grows a kind.Customers = same_count (a == b) 1 _
-    grows a kind.Copies = same_count (a == b) 1 _
-    grows a kind.Rentals = many_put b books.rentals (row ∷ []) a (own, tt)
-    grows a kind.Payments = same_count (a == b) 1 _
-    grows a kind.Kept = same_count (a == b) 1 _
-
     outs_more : map out_of (filter is_open (books.rentals ++ row ∷ [])) ≡ map out_of (filter is_open books.rentals) ++ record { branch = b; copy = row.it.copy; rental = row.number } ∷ []
     outs_more = more_yes out_of is_open books.rentals row (ap is_none not_back) ∙ ap (λ (n : ℕ). map out_of (filter is_open books.rentals) ++ record { branch = n; copy = row.it.copy; rental = row.number } ∷ []) own
 
 -- ---- rows that are set
 
-pub set_keeps : {A : Type 0} (b n : ℕ) (f : A → A) (rows : List (Row A)) (a : ℕ) → length (of a (set_row b n f rows)) ≡ length (of a rows)
+set_keeps : {A : Type 0} (b n : ℕ) (f : A → A) (rows : List (Row A)) (a : ℕ) → length (of a (set_row b n f rows)) ≡ length (of a rows)
 set_keeps {A} b n f [] a = refl
 set_keeps {A} b n f (row ∷ rows) a = go (is_row b n row) (set_keeps b n f rows a)
   where
@@ -152,40 +144,13 @@ set_keeps {A} b n f (row ∷ rows) a = go (is_row b n row) (set_keeps b n f rows
     go true more = step (row.branch == a) (f row.it) row.it more
     go false more = step (row.branch == a) row.it row.it more
 
-module _ (old new : Books) (branches : new.catalogue.branches ≡ old.catalogue.branches) (office : new.catalogue.kept ≡ old.catalogue.kept)
-    (same : (a : ℕ) (kind : CountKind) → count_in (kind_number kind) a new ≡ count_in (kind_number kind) a old) where
-  still : (a : ℕ) (kind : CountKind) → count_of new a (kind_number kind) ≡ count_of old a (kind_number kind)
-  still a kind = ap (λ n. record { caller = a; kind = kind_number kind; last = n }) (same a kind)
-
-  all_still : (its : List (ℕ × Branch)) → flat_map (branch_counts new) its ≡ flat_map (branch_counts old) its
-  all_still [] = refl
-  all_still (it ∷ its) = λ i. still it.0 kind.Customers i ∷ still it.0 kind.Copies i ∷ still it.0 kind.Rentals i ∷ still it.0 kind.Payments i ∷ still it.0 kind.Kept i ∷ all_still its i
-
-  pub counters_still : (counts_of new).counters ≡ (counts_of old).counters
-  counters_still =
-      λ i. record { caller = 0; kind = 4; last = length (office i) } ∷ (ap (λ (bs : List Branch). flat_map (branch_counts new) (numbered bs)) branches ∙ all_still (numbered old.catalogue.branches)) i
-
 -- a customer who is set
 pub active_counted : (b n : ℕ) (f : Customer → Customer) (books : Books) → counts_of (record books { customers = set_row b n f books.customers }) ≡ counts_of books
-active_counted b n f books = λ i. record { counters = counters_still books (record books { customers = set_row b n f books.customers }) refl refl same i; outs = (counts_of books).outs; pairs = (counts_of books).pairs }
-  where
-    same : (a : ℕ) (kind : CountKind) → count_in (kind_number kind) a (record books { customers = set_row b n f books.customers }) ≡ count_in (kind_number kind) a books
-    same a kind.Customers = set_keeps b n f books.customers a
-    same a kind.Copies = refl
-    same a kind.Rentals = refl
-    same a kind.Payments = refl
-    same a kind.Kept = refl
+active_counted b n f books = counts_still books (record books { customers = set_row b n f books.customers }) _ refl refl refl refl (λ k a. rw (set_keeps b n f books.customers a))
 
 -- a copy that is set
 pub state_counted : (b n : ℕ) (f : BookCopy → BookCopy) (books : Books) → counts_of (record books { copies = set_row b n f books.copies }) ≡ counts_of books
-state_counted b n f books = λ i. record { counters = counters_still books (record books { copies = set_row b n f books.copies }) refl refl same i; outs = (counts_of books).outs; pairs = (counts_of books).pairs }
-  where
-    same : (a : ℕ) (kind : CountKind) → count_in (kind_number kind) a (record books { copies = set_row b n f books.copies }) ≡ count_in (kind_number kind) a books
-    same a kind.Customers = refl
-    same a kind.Copies = set_keeps b n f books.copies a
-    same a kind.Rentals = refl
-    same a kind.Payments = refl
-    same a kind.Kept = refl
+state_counted b n f books = counts_still books (record books { copies = set_row b n f books.copies }) _ refl refl refl refl (λ k a. rw (set_keeps b n f books.copies a))
 
 -- ---- a copy that comes back
 
@@ -214,15 +179,7 @@ outs_left b n x m (row ∷ rows) all = go (is_row b n row) refl (is_open row) re
 
 pub returned_counted : (b n x : ℕ) (m : Moment) (books : Books) → AllByRecursion (IsItsRental b n x) books.rentals
     → counts_of (record books { rentals = set_row b n (back m) books.rentals }) ≡ drop_out b x n (counts_of books)
-returned_counted b n x m books all =
-    λ i. record { counters = counters_still books (record books { rentals = set_row b n (back m) books.rentals }) refl refl same i; outs = outs_left b n x m books.rentals all i; pairs = (counts_of books).pairs }
-  where
-    same : (a : ℕ) (kind : CountKind) → count_in (kind_number kind) a (record books { rentals = set_row b n (back m) books.rentals }) ≡ count_in (kind_number kind) a books
-    same a kind.Customers = refl
-    same a kind.Copies = refl
-    same a kind.Rentals = set_keeps b n (back m) books.rentals a
-    same a kind.Payments = refl
-    same a kind.Kept = refl
+returned_counted b n x m books all = counts_still books (record books { rentals = set_row b n (back m) books.rentals }) _ refl refl (outs_left b n x m books.rentals all) refl (λ k a. rw (set_keeps b n (back m) books.rentals a))
 
 -- where the rental of the number is found with its copy, it is its rental
 abbrev HasCopy : ℕ → ℕ → ℕ → Row Rental → Type 0

@@ -68,8 +68,8 @@ read_copies old new b rows seen numbers h same read books holds held =
     let copy : Row Rental → ℕ = λ row. row.it.copy in
     let outs : List (Row Rental) = filter (is_of b) (filter is_open books.rentals) in
     let rise = outs_rise b books held in
-    let found = shows_copies old new b rows books holds.schema_is h holds.stands (rise_differ outs rise) in
-    let shown : rows ≡ map (λ row. number_value (copy row) ∷ []) outs = found ∙ ap (map (λ row. number_value (copy row) ∷ [])) (rise_sorted outs rise) in
+    let found = shows_copies old new b rows books holds.schema_is h holds.stands (rise_differ (λ row. row.number) outs rise) in
+    let shown : rows ≡ map (λ row. number_value (copy row) ∷ []) outs = found ∙ ap (map (λ row. number_value (copy row) ∷ [])) (rise_sorted (λ row. row.number) outs rise) in
     let firsts : map number_value numbers ≡ map number_value (map copy outs) =
     read ∙ ap (map (λ row. column row 0)) (same ∙ shown) ∙ map-map (λ row. column row 0) (λ row. number_value (copy row) ∷ []) outs ∙ sym (map-map number_value copy outs) in (
       still_holds shop_schema StandsFor SELECT_COPIES_OUT.now (number_value b ∷ []) old new select_copies_means.plain rows h books holds,

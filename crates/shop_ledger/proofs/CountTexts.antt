@@ -10,7 +10,7 @@ use Rattle.sql_rows.proofs.Drops.{drops_row}
 use Rattle.shop_schema.proofs.Stands.{stands_but, rows_of, with_rows}
 use Rattle.shop_schema.proofs.Listed.{tallies_put}
 use Rattle.shop_ledger.specs.declared.counts.TheConstants.{SELECT_COUNT, UPDATE_COUNT, SELECT_OUT, SELECT_COPIES_OUT, INSERT_OUT, DELETE_OUT}
-use Rattle.shop_ledger.proofs.Equals.{of_one, of_two, equals}
+use Rattle.shop_ledger.proofs.Equals.{of_one, of_two, of_three}
 
 -- ---- counts
 
@@ -95,9 +95,6 @@ unfolding understood everything
 tallies_put_out old new o =
     tallies_put 19 out_copy_table (record { place = refl; uncounted = refl; unstamped = refl }) refl INSERT_OUT.now (record { is = refl; plain = (refl, refl) }) (out_columns o) refl refl refl (λ id. refl) (put_out o)
     (λ counts books. ap (λ rows. with_rows 19 rows (rows_of counts books)) (map_push out_columns counts.outs o)) old new
-
-abbrev pub of_three : List Term
-of_three = equals 0 (1 ∷ 2 ∷ 3 ∷ [])
 
 pub out_by_test : (b x n : ℕ) (o : Out) → (number_test 0 b (out_columns o) && (number_test 1 x (out_columns o) && (number_test 2 n (out_columns o) && true))) ≡ is_out_by b x n o
 out_by_test b x n o = three_tested _ _ _ (number_tested o.branch b) (number_tested o.copy x) (number_tested o.rental n)

@@ -1,5 +1,5 @@
 -- The counts of the books themselves: which row has which, and what a new row makes of them.
-use Rattle.shop_schema.proofs.Common.{◌≡◌, ◌+◌, ◌<◌, ◌≤◌, ◌^◌, ◌==◌, ◌&&◌, ℕ, suc, List, [], ◌∷◌, ◌++◌, map, filter, length, true, false, Bool, cond, Some, refl, sym, ap, subst, ◌∙◌, arith, IsPermutation, slice_get, AllByRecursion, nat_tests, column, all-slice_get, PicksOne, number_value, same_number, of, numbered, Branch, Books, unmarked, same_if, length_map, IsHeld, Count, Counts, is_count, count_in, branch_counts, office_count, counts_of, State, StandsWith, AreTermed, Holds, HoldsWith, all-permutation}
+use Rattle.shop_schema.proofs.Common.{◌≡◌, ◌+◌, ◌<◌, ◌≤◌, ◌^◌, ◌==◌, ◌&&◌, ℕ, suc, List, [], ◌∷◌, ◌++◌, map, filter, length, true, false, Bool, cond, Some, refl, sym, ap, subst, ◌∙◌, arith, IsPermutation, slice_get, AllByRecursion, all_map, all_weaker, cases_Bool, inl, inr, nat_tests, column, all-slice_get, PicksOne, number_value, same_number, of, numbered, Branch, Books, unmarked, same_if, length_map, IsHeld, Count, Counts, is_count, count_in, branch_counts, office_count, counts_of, State, StandsWith, AreTermed, Holds, HoldsWith, all-permutation}
 use Rattle.std.specs.Prelude.{flat_map}
 use Rattle.sqlite_value.specs.Order as sql
 use Rattle.shop_schema.proofs.Stands.{with_own, for_own}
@@ -44,37 +44,35 @@ counts_right b k books low = (λ h. absurd (office_apart b k low h), branches_ri
 abbrev last_value : Count → sql.Row
 last_value c = number_value c.last ∷ []
 
-picked_right : (b k : ℕ) (books : Books) (cs : List Count) → AllByRecursion (IsRight b k books) cs → AllByRecursion (λ vs. vs ≡ number_value (count_in k b books) ∷ []) (map last_value (filter (is_count b k) cs))
-picked_right b k books [] all = tt
-picked_right b k books (c ∷ cs) all = go (is_count b k c) refl (picked_right b k books cs all.1)
-  where
-    go : (t : Bool) → is_count b k c ≡ t → AllByRecursion (λ vs. vs ≡ number_value (count_in k b books) ∷ []) (map last_value (filter (is_count b k) cs))
-        → AllByRecursion (λ vs. vs ≡ number_value (count_in k b books) ∷ []) (map last_value (cond t (c ∷ filter (is_count b k) cs) (filter (is_count b k) cs)))
-    go true e more = (ap (λ n. number_value n ∷ []) (all.0 e), more)
-    go false e more = more
+-- what holds of each that passes
+kept_all : {X : Type 0} (P : X → Type 0) (p : X → Bool) (xs : List X) → AllByRecursion (λ x. p x ≡ true → P x) xs → AllByRecursion P (filter p xs)
+kept_all P p [] all = tt
+kept_all P p (x ∷ xs) all = elim (cases_Bool (p x)) [
+  | inl is ↦ rw is (all.0 is, kept_all P p xs all.1)
+  | inr isnt ↦ rw isnt (kept_all P p xs all.1)
+]
+
+-- whatever is told of the counts of the kind is so of the books'
+all_told : {Y : Type 0} (f : Count → Y) (g : ℕ → Y) → ((c : Count) → f c ≡ g c.last) → (b k : ℕ) (books : Books) → 1 ≤ b
+    → AllByRecursion (λ y. y ≡ g (count_in k b books)) (map f (filter (is_count b k) (counts_of books).counters))
+all_told f g same b k books low =
+    let counters = (counts_of books).counters in
+    all_map _ f (filter (is_count b k) counters)
+    (all_weaker (λ (c : Count). c.last ≡ count_in k b books) _ (λ c is. same c ∙ ap g is) (filter (is_count b k) counters) (kept_all _ (is_count b k) counters (counts_right b k books low)))
 
 -- the first row tells it
 pub told_count : (b k : ℕ) (books : Books) (rows : List sql.Row) (row : sql.Row) (n : ℕ) → 1 ≤ b → IsPermutation (map last_value (filter (is_count b k) (counts_of books).counters)) rows
     → slice_get rows 0 ≡ Some row → column row 0 ≡ number_value n → n ≡ count_in k b books
 told_count b k books rows row n low same some is =
     let P : sql.Row → Type 0 = λ vs. vs ≡ number_value (count_in k b books) ∷ [] in
-    let all = all-permutation P _ rows same (picked_right b k books (counts_of books).counters (counts_right b k books low)) in
+    let all = all-permutation P _ rows same (all_told last_value (λ last. number_value last ∷ []) (λ c. refl) b k books low) in
     let one : row ≡ number_value (count_in k b books) ∷ [] = all-slice_get P rows 0 row some all in
     same_number _ _ (sym is ∙ ap (λ r. column r 0) one)
-
-picked_more : (b k m : ℕ) (books : Books) (cs : List Count) → AllByRecursion (IsRight b k books) cs → AllByRecursion (λ n. n ≡ count_in k b books + m) (map (λ (c : Count). c.last + m) (filter (is_count b k) cs))
-picked_more b k m books [] all = tt
-picked_more b k m books (c ∷ cs) all = go (is_count b k c) refl (picked_more b k m books cs all.1)
-  where
-    go : (t : Bool) → is_count b k c ≡ t → AllByRecursion (λ n. n ≡ count_in k b books + m) (map (λ (c : Count). c.last + m) (filter (is_count b k) cs))
-        → AllByRecursion (λ n. n ≡ count_in k b books + m) (map (λ (c : Count). c.last + m) (cond t (c ∷ filter (is_count b k) cs) (filter (is_count b k) cs)))
-    go true e more = (ap (λ n. n + m) (all.0 e), more)
-    go false e more = more
 
 -- what so many more of the count are
 pub told_more : (b k m : ℕ) (books : Books) (n : ℕ) → 1 ≤ b → map (λ (c : Count). c.last + m) (filter (is_count b k) (counts_of books).counters) ≡ n ∷ [] → n ≡ count_in k b books + m
 told_more b k m books n low is =
-    let all : AllByRecursion (λ p. p ≡ count_in k b books + m) (n ∷ []) = subst (AllByRecursion (λ p. p ≡ count_in k b books + m)) is (picked_more b k m books (counts_of books).counters (counts_right b k books low)) in
+    let all : AllByRecursion (λ p. p ≡ count_in k b books + m) (n ∷ []) = subst (AllByRecursion (λ p. p ≡ count_in k b books + m)) is (all_told (λ c. c.last + m) (λ last. last + m) (λ c. refl) b k books low) in
     all.0
 
 -- ---- there is one of each kind
@@ -94,13 +92,11 @@ per_branch kind.Kept b books it rest false e = rw e refl
 
 as_many : (kind : CountKind) (b : ℕ) (books : Books) (its : List (ℕ × Branch)) → length (filter (is_count b (kind_number kind)) (flat_map (branch_counts books) its)) ≡ length (filter (λ (it : ℕ × Branch). it.0 == b) its)
 as_many kind b books [] = refl
-as_many kind b books (it ∷ its) = go (it.0 == b) (per_branch kind b books it (flat_map (branch_counts books) its) (it.0 == b) refl) (as_many kind b books its)
-  where
-    go : (t : Bool) → length (filter (is_count b (kind_number kind)) (branch_counts books it ++ flat_map (branch_counts books) its)) ≡ cond t (suc (length (filter (is_count b (kind_number kind)) (flat_map (branch_counts books) its)))) (length (filter (is_count b (kind_number kind)) (flat_map (branch_counts books) its)))
-        → length (filter (is_count b (kind_number kind)) (flat_map (branch_counts books) its)) ≡ length (filter (λ (it : ℕ × Branch). it.0 == b) its)
-        → length (filter (is_count b (kind_number kind)) (branch_counts books it ++ flat_map (branch_counts books) its)) ≡ length (cond t (it ∷ filter (λ (it : ℕ × Branch). it.0 == b) its) (filter (λ (it : ℕ × Branch). it.0 == b) its))
-    go true e more = e ∙ ap suc more
-    go false e more = e ∙ more
+as_many kind b books (it ∷ its) =
+    let mine = length (filter (is_count b (kind_number kind)) (flat_map (branch_counts books) its)) in
+    per_branch kind b books it (flat_map (branch_counts books) its) (it.0 == b) refl
+    ∙ elim (it.0 == b) as (λ t. cond t (suc mine) mine ≡ length (cond t (it ∷ filter (λ (it : ℕ × Branch). it.0 == b) its) (filter (λ (it : ℕ × Branch). it.0 == b) its)))
+    [ true ↦ ap suc (as_many kind b books its) | false ↦ as_many kind b books its ]
 
 without_office : (b k : ℕ) (books : Books) (rest : List Count) → 1 ≤ b → filter (is_count b k) (office_count books ∷ rest) ≡ filter (is_count b k) rest
 without_office b k books rest low = ap (λ s. cond (s && 4 == k) (office_count books ∷ filter (is_count b k) rest) (filter (is_count b k) rest)) (not_office b low)

@@ -11,3 +11,6 @@ of_one = equals 0 (1 ∷ [])
 
 abbrev pub of_two : List Term
 of_two = equals 0 (1 ∷ 2 ∷ [])
+
+abbrev pub of_three : List Term
+of_three = equals 0 (1 ∷ 2 ∷ 3 ∷ [])

@@ -1,17 +1,20 @@
 -- Kept commands, as SQL has them: those of a branch, and those of head office, whose caller is 0, which is no branch's number.
-use Rattle.shop_schema.proofs.Common.{◌≡◌, ◌≤◌, ◌==◌, ◌&&◌, ℕ, List, [], ◌∷◌, ◌++◌, map, filter, length, append_assoc, Bool, true, false, cond, Some, None, Ok, refl, sym, ap, subst, ◌∙◌, arith, IsPermutation, ⊤, slice_get, AllByRecursion, bytes_eq, nat_tests, IsPermutation-sym, IsPermutation-trans, IsPermutation-to_front, IsPermutation-middle, filter-append, map-id, map_push, Blob, column, Binary, Term, col, op2, Compare, Eq, Values, Insert, State, ExecutesInside, map-map, filter-map, filter_same, Means, HasRows, PicksOne, columns_of, number_value, length-map, Selects, plain_query, number_test, number_tested, text_test, text_tested, two_tested, projects_one, still_holds, has_put, Owned, owned_by, Command, OfficeCommand, Kept, OfficeKept, Books, head, shop_schema, kept_table, kept_columns, office_kept_columns, kept_rows, command_form, office_command_form, IsHeld, IsNumber, IsKept, StandsFor, Holds, Reads, Writes, values}
+use Rattle.shop_schema.proofs.Common.{◌≡◌, ◌≤◌, ◌==◌, ◌&&◌, ℕ, List, [], ◌∷◌, ◌++◌, map, filter, length, append_assoc, Bool, true, false, Some, None, Ok, refl, sym, ap, subst, ◌∙◌, arith, IsPermutation, ⊤, slice_get, AllByRecursion, bytes_eq, nat_tests, IsPermutation-sym, IsPermutation-trans, IsPermutation-to_front, IsPermutation-middle, filter-append, filter_none, all-map, all_map, all_weaker, IsPermutation-same, map-id, map_push, Blob, column, Binary, Term, col, op2, Compare, Eq, Values, Insert, State, ExecutesInside, map-map, filter-map, filter_same, Means, HasRows, PicksOne, number_value, length-map, Selects, plain_query, number_test, number_tested, text_test, text_tested, two_tested, projects_one, still_holds, Owned, owned_by, Kept, OfficeKept, Books, head, shop_schema, kept_table, kept_columns, office_kept_columns, kept_rows, command_form, office_command_form, IsHeld, IsNumber, IsKept, StandsFor, Holds, Reads, Writes, Counts, values}
 use Rattle.std.proofs.lemmas.List.{append-nil}
 use Rattle.sqlite.specs.declared.types.Value.TheVariants.{Text}
 use Rattle.sqlite_value.specs.Order as sql
 use Rattle.sqlite_tied.specs.Compute.{everything}
 use Rattle.sqlite.specs.Listing.{understood}
 use Rattle.sqlite.specs.State.{Shown}
-use Rattle.shop_schema.proofs.Stands.{stands_but}
+use Rattle.shop_schema.proofs.Stands.{rows_of, with_rows}
+use Rattle.shop_schema.proofs.Lists.{filter_twice}
 use Rattle.shop_schema.proofs.FirstRows.{first_none, first_some}
 use Rattle.shop_schema.proofs.Different.{different_once}
 use Rattle.shop_ledger.specs.declared.kept.TheConstants.{SELECT_KEPT, INSERT_KEPT}
 use Rattle.shop_ledger.specs.declared.kept.Owner.{Owner}
 use Rattle.shop_ledger.specs.declared.kept.Owner.TheVariants as owner
+use Rattle.shop_ledger.proofs.Puts.{puts_row}
+use Rattle.shop_ledger.proofs.CountsOf.{not_office}
 use Rattle.shop_ledger.specs.Seen.{stored_kept, stored_office_kept, owner_number, IsOwner, kept_under, Keeps}
 
 insert_kept_means : Means shop_schema INSERT_KEPT.now (Insert 17 (Values (values 4) 5))
@@ -24,60 +27,40 @@ put_between first last row =
     subst (IsPermutation ((first ++ last) ++ row ∷ [])) (sym (append_assoc first (row ∷ []) last))
     (IsPermutation-trans _ _ _ (IsPermutation-to_front (first ++ last) row) (IsPermutation-sym _ _ (IsPermutation-middle first row last)))
 
-module _ (old new : State) (b : ℕ) (command : Command) (key form reply : List ℕ) where
-  abbrev kept_row : Owned Kept
-  kept_row = record { owner = b; it = record { command = command; reply = reply } }
-
-  abbrev with_row : Books → Books
-  with_row books = record books { kept = books.kept ++ kept_row ∷ [] }
-
-  row_put : (rows : List sql.Row) (kept : List (Owned Kept)) (office : List OfficeKept) → HasRows 4 rows (kept_rows kept office ++ kept_columns kept_row ∷ []) → HasRows 4 rows (kept_rows (kept ++ kept_row ∷ []) office)
-  row_put rows kept office has =
-      subst (λ (first : List sql.Row). IsPermutation (map (columns_of 4) rows) (first ++ map office_kept_columns office)) (sym (map_push kept_columns kept kept_row))
-      (IsPermutation-trans _ _ _ has (put_between (map kept_columns kept) (map office_kept_columns office) (kept_columns kept_row)))
-
-  puts_kept : (count : ℕ) → command.key ≡ key → command_form command ≡ form → ExecutesInside 0 INSERT_KEPT.now (number_value b ∷ Text key ∷ Blob form ∷ Text reply ∷ []) old new (Ok count) → Writes old new (λ _. ⊤) with_row
-  puts_kept count is_key is_form h counts books holds given =
-      let ran : ExecutesInside 0 INSERT_KEPT.now (kept_columns kept_row) old new (Ok count) = subst (λ (row : sql.Row). ExecutesInside 0 INSERT_KEPT.now row old new (Ok count)) (λ i. number_value b ∷ Text (sym is_key i) ∷ Blob (sym is_form i) ∷ Text reply ∷ []) h in
-      let done = has_put shop_schema INSERT_KEPT.now 17 kept_table (values 4) 4 insert_kept_means (record { place = refl; uncounted = refl; unstamped = refl }) (kept_columns kept_row) (kept_columns kept_row) old new count ran refl refl refl (λ id. refl) holds.schema_is in
-      let rows = row_put _ books.kept books.catalogue.kept (done.rows _ holds.stands.kept) in
-      record { schema_is = done.schema_is; keyed = done.keyed holds.keyed; stands = stands_but 17 kept_table refl refl counts counts books (with_row books) _ refl old.now.trees new.now.trees done.others holds.stands rows }
-
-module _ (old new : State) (command : OfficeCommand) (key form reply : List ℕ) where
-  abbrev office_row : OfficeKept
-  office_row = record { command = command; reply = reply }
-
-  abbrev with_office_row : Books → Books
-  with_office_row books = record books { catalogue = record books.catalogue { kept = books.catalogue.kept ++ office_row ∷ [] } }
-
-  office_row_put : (rows : List sql.Row) (kept : List (Owned Kept)) (office : List OfficeKept) → HasRows 4 rows (kept_rows kept office ++ office_kept_columns office_row ∷ []) → HasRows 4 rows (kept_rows kept (office ++ office_row ∷ []))
-  office_row_put rows kept office has =
-      subst (λ (put : List sql.Row). HasRows 4 rows put)
-      (append_assoc (map kept_columns kept) (map office_kept_columns office) (office_kept_columns office_row ∷ []) ∙ ap (λ l. map kept_columns kept ++ l) (sym (map_push office_kept_columns office office_row))) has
-
-  puts_office_kept : (count : ℕ) → command.key ≡ key → office_command_form command ≡ form → ExecutesInside 0 INSERT_KEPT.now (number_value 0 ∷ Text key ∷ Blob form ∷ Text reply ∷ []) old new (Ok count) → Writes old new (λ _. ⊤) with_office_row
-  puts_office_kept count is_key is_form h counts books holds given =
-      let ran : ExecutesInside 0 INSERT_KEPT.now (office_kept_columns office_row) old new (Ok count) = subst (λ (row : sql.Row). ExecutesInside 0 INSERT_KEPT.now row old new (Ok count)) (λ i. number_value 0 ∷ Text (sym is_key i) ∷ Blob (sym is_form i) ∷ Text reply ∷ []) h in
-      let done = has_put shop_schema INSERT_KEPT.now 17 kept_table (values 4) 4 insert_kept_means (record { place = refl; uncounted = refl; unstamped = refl }) (office_kept_columns office_row) (office_kept_columns office_row) old new count ran refl refl refl (λ id. refl) holds.schema_is in
-      let rows = office_row_put _ books.kept books.catalogue.kept (done.rows _ holds.stands.kept) in
-      record { schema_is = done.schema_is; keyed = done.keyed holds.keyed; stands = stands_but 17 kept_table refl refl counts counts books (with_office_row books) _ refl old.now.trees new.now.trees done.others holds.stands rows }
+-- whoever's it is
+puts_kept : (old new : State) (caller : ℕ) (key its form its_form reply : List ℕ) (count : ℕ) → its ≡ key → its_form ≡ form → (change : Books → Books) (now : Books → List sql.Row)
+    → ((counts : Counts) (books : Books) → ⊤ → (rows_of counts (change books) ≡ with_rows 17 (now books) (rows_of counts books))
+    × IsPermutation (kept_rows books.kept books.catalogue.kept ++ (number_value caller ∷ Text its ∷ Blob its_form ∷ Text reply ∷ []) ∷ []) (now books))
+    → ExecutesInside 0 INSERT_KEPT.now (number_value caller ∷ Text key ∷ Blob form ∷ Text reply ∷ []) old new (Ok count) → Writes old new (λ _. ⊤) change
+puts_kept old new caller key its form its_form reply count is_key is_form change now changes h =
+    puts_row 17 kept_table (record { place = refl; uncounted = refl; unstamped = refl }) refl INSERT_KEPT.now (values 4) insert_kept_means _ (number_value caller ∷ Text its ∷ Blob its_form ∷ Text reply ∷ []) refl refl refl (λ id. refl)
+    (λ _. ⊤) change now changes old new count
+    (subst (λ (row : sql.Row). ExecutesInside 0 INSERT_KEPT.now row old new (Ok count)) (λ i. number_value caller ∷ Text (sym is_key i) ∷ Blob (sym is_form i) ∷ Text reply ∷ []) h)
 
 pub puts_owned : (owner : Owner) (old new : State) (key form reply : List ℕ) (count : ℕ)
     → ExecutesInside 0 INSERT_KEPT.now (number_value (owner_number owner) ∷ Text key ∷ Blob form ∷ Text reply ∷ []) old new (Ok count) → Keeps owner key form reply old new
-puts_owned owner.Office old new key form reply count h = λ command is_key is_form. puts_office_kept old new command key form reply count is_key is_form h
-puts_owned (owner.Branch b) old new key form reply count h = λ command is_key is_form. puts_kept old new b command key form reply count is_key is_form h
+puts_owned owner.Office old new key form reply count h = λ command is_key is_form.
+    let row : OfficeKept = record { command = command; reply = reply } in
+    puts_kept old new 0 key command.key form (office_command_form command) reply count is_key is_form _ (λ books. kept_rows books.kept (books.catalogue.kept ++ row ∷ []))
+    (λ counts books given. (
+      refl,
+      IsPermutation-same _ _ (append_assoc (map kept_columns books.kept) (map office_kept_columns books.catalogue.kept) _ ∙ ap (λ l. map kept_columns books.kept ++ l) (sym (map_push office_kept_columns books.catalogue.kept row))),
+    )) h
+puts_owned (owner.Branch b) old new key form reply count h = λ command is_key is_form.
+    let row : Owned Kept = record { owner = b; it = record { command = command; reply = reply } } in
+    puts_kept old new b key command.key form (command_form command) reply count is_key is_form _ (λ books. kept_rows (books.kept ++ row ∷ []) books.catalogue.kept)
+    (λ counts books given. (
+      refl,
+      subst (λ (first : List sql.Row). IsPermutation (kept_rows books.kept books.catalogue.kept ++ kept_columns row ∷ []) (first ++ map office_kept_columns books.catalogue.kept)) (sym (map_push kept_columns books.kept row))
+          (put_between (map kept_columns books.kept) (map office_kept_columns books.catalogue.kept) (kept_columns row)),
+    )) h
 
 -- ---- reads: the rows themselves are the values that the table stands for
 
 -- no row of head office is a branch's
 none_of_office : (b : ℕ) → 1 ≤ b → (test : sql.Row → Bool) (office : List OfficeKept) → filter (λ vs. number_test 0 b vs && test vs) (map office_kept_columns office) ≡ []
-none_of_office b low test [] = refl
-none_of_office b low test (kept ∷ office) =
-    ap (λ t. cond (t && test (office_kept_columns kept)) (office_kept_columns kept ∷ filter (λ vs. number_test 0 b vs && test vs) (map office_kept_columns office)) (filter (λ vs. number_test 0 b vs && test vs) (map office_kept_columns office)))
-    (number_tested 0 b ∙ other) ∙ none_of_office b low test office
-  where
-    other : (0 == b) ≡ false
-    other = grind (arith, nat_tests)
+none_of_office b low test office =
+    filter_none _ _ (all-map (λ vs. (number_test 0 b vs && test vs) ≡ false) office_kept_columns (λ it. ap (λ t. t && test (office_kept_columns it)) (number_tested 0 b ∙ not_office b low)) office)
 
 -- so the rows that pass are those of the branch's commands that do
 kept_picked : (b : ℕ) → 1 ≤ b → (test : sql.Row → Bool) (p : Kept → Bool) → ((row : Owned Kept) → (number_test 0 b (kept_columns row) && test (kept_columns row)) ≡ (row.owner == b && p row.it))
@@ -91,29 +74,17 @@ kept_picked b low test p tests_are kept office =
 
 -- what a branch has kept that passes
 owned_picked : (b : ℕ) (p : Kept → Bool) (kept : List (Owned Kept)) → map (λ (row : Owned Kept). row.it) (filter (λ row. row.owner == b && p row.it) kept) ≡ filter p (owned_by b kept)
-owned_picked b p [] = refl
-owned_picked b p (row ∷ kept) = go (row.owner == b) (owned_picked b p kept)
-  where
-    go : (t : Bool) → map (λ (it : Owned Kept). it.it) (filter (λ it. it.owner == b && p it.it) kept) ≡ filter p (owned_by b kept)
-        → map (λ (it : Owned Kept). it.it) (cond (t && p row.it) (row ∷ filter (λ it. it.owner == b && p it.it) kept) (filter (λ it. it.owner == b && p it.it) kept))
-        ≡ filter p (map (λ (it : Owned Kept). it.it) (cond t (row ∷ filter (λ it. it.owner == b) kept) (filter (λ it. it.owner == b) kept)))
-    go true more = further (p row.it) more
-      where
-        further : (u : Bool) → map (λ (it : Owned Kept). it.it) (filter (λ it. it.owner == b && p it.it) kept) ≡ filter p (owned_by b kept)
-            → map (λ (it : Owned Kept). it.it) (cond u (row ∷ filter (λ it. it.owner == b && p it.it) kept) (filter (λ it. it.owner == b && p it.it) kept)) ≡ cond u (row.it ∷ filter p (owned_by b kept)) (filter p (owned_by b kept))
-        further true same = ap (λ l. row.it ∷ l) same
-        further false same = same
-    go false more = more
-
-not_office : (b : ℕ) → IsNumber b → (b == 0) ≡ false
-not_office b is = grind (arith, nat_tests)
+owned_picked b p kept =
+    ap (map (λ (row : Owned Kept). row.it)) (filter_twice (λ row. row.owner == b) (λ row. p row.it) kept) ∙ sym (filter-map p (λ (row : Owned Kept). row.it) (filter (λ row. row.owner == b) kept))
 
 -- no row of a branch is head office's
 none_of_branches : (test : sql.Row → Bool) (kept : List (Owned Kept)) → AllByRecursion IsKept kept → filter (λ vs. number_test 0 0 vs && test vs) (map kept_columns kept) ≡ []
-none_of_branches test [] all = refl
-none_of_branches test (row ∷ kept) all =
-    ap (λ t. cond (t && test (kept_columns row)) (kept_columns row ∷ filter (λ vs. number_test 0 0 vs && test vs) (map kept_columns kept)) (filter (λ vs. number_test 0 0 vs && test vs) (map kept_columns kept)))
-    (number_tested row.owner 0 ∙ not_office row.owner all.0.0) ∙ none_of_branches test kept all.1
+none_of_branches test kept all =
+    filter_none _ _ (all_map (λ vs. (number_test 0 0 vs && test vs) ≡ false) kept_columns kept
+    (all_weaker IsKept _ (λ row is. ap (λ t. t && test (kept_columns row)) (number_tested row.owner 0 ∙ another row.owner is.0)) kept all))
+  where
+    another : (b : ℕ) → IsNumber b → (b == 0) ≡ false
+    another b is = grind (arith, nat_tests)
 
 -- so the rows that pass are those of head office's commands that do
 office_picked : (test : sql.Row → Bool) (p : OfficeKept → Bool) → ((it : OfficeKept) → (number_test 0 0 (office_kept_columns it) && test (office_kept_columns it)) ≡ p it)

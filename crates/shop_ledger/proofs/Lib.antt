@@ -1,6 +1,7 @@
 pub mod Rising
 pub mod Doing
 pub mod Equals
+pub mod Puts
 pub mod Fews
 pub mod BranchTexts
 pub mod KeptTexts

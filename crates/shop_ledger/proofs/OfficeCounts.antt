@@ -1,17 +1,17 @@
 -- What head office's commands make of the books' own counts, and its count of kept commands, whose caller is 0.
-use Rattle.shop_schema.proofs.Common.{◌≡◌, ◌+◌, ◌-◌, ◌<◌, ◌≤◌, ◌^◌, ◌==◌, ◌&&◌, ℕ, List, [], ◌∷◌, ◌++◌, map, filter, length, true, false, Bool, cond, not, Some, None, refl, sym, ap, subst, ◌∙◌, arith, true≢false, IsPermutation, slice_get, AllByRecursion, list_all, and_parts, nat_tests, length_push, All-push, State, column, all-slice_get, number_value, still_holds, same_number, Row, Owned, at, lacks, is_empty, set_at, numbered, numbered_from, Branch, Customer, Rental, Payment, OfficeAct, AddCountry, AddCity, AddLanguage, AddCategory, AddActor, AddFilm, PriceFilm, WithdrawFilm, AddCast, AddBranch, AddStaff, StaffLeaves, SetManager, ChooseRule, OfficeCommand, Kept, OfficeKept, Catalogue, office_acted, office_text, office_done, has_row, HasOwners, Books, BookCopy, same_if, more_no, length_map, numbered_push, Count, Counts, is_count, branch_counts, office_count, counts_of, raise, raised, add_count, new_count, with_branch, IsHeld, shop_schema, StandsFor, AreTermed, Holds, HoldsWith, Reads, all-permutation}
+use Rattle.shop_schema.proofs.Common.{◌≡◌, ◌+◌, ◌-◌, ◌<◌, ◌≤◌, ◌^◌, ◌==◌, ◌&&◌, ℕ, List, [], ◌∷◌, ◌++◌, map, filter, length, true, false, cond, not, Some, None, refl, sym, ap, subst, ◌∙◌, arith, true≢false, IsPermutation, slice_get, AllByRecursion, list_all, nat_tests, length_push, All-push, State, column, all-slice_get, number_value, still_holds, same_number, Row, Owned, at, lacks, is_empty, set_at, numbered, numbered_from, Branch, Customer, Rental, Payment, OfficeAct, AddCountry, AddBranch, SetManager, OfficeCommand, Kept, OfficeKept, Catalogue, office_acted, office_text, office_done, has_row, HasOwners, Books, BookCopy, same_if, more_no, length_map, numbered_push, Count, Counts, is_count, branch_counts, office_count, counts_of, raise, raised, add_count, new_count, with_branch, IsHeld, shop_schema, StandsFor, AreTermed, Holds, HoldsWith, Reads, all-permutation, Customers, CopyRows, Rentals, Payments, all_from_test, all_weaker, filter_none, cases_Bool, inl, inr}
 use Rattle.std.specs.Prelude.{flat_map}
 use Rattle.sqlite.specs.State.{Shown}
-use Rattle.sqlite_value.specs.Order as sql
 use Rattle.shop_schema.proofs.Lists.{flat_map_push}
 use Rattle.shop_ledger.specs.declared.counts.TheConstants.{SELECT_COUNT}
-use Rattle.shop_ledger.specs.declared.counts.CountKind.TheVariants as kind
 use Rattle.shop_ledger.specs.declared.counts.Count.{Count as TheCount}
 use Rattle.shop_ledger.specs.declared.counts.Count.TheVariants.{OfficeKeys, Of}
 use Rattle.shop_ledger.specs.Counted.{kind_number, caller_of, kind_of, counted, IsCount, CountsOnce, office_grown, office_counted}
 use Rattle.shop_ledger.proofs.CountTexts.{select_count_means, shows_counts}
 use Rattle.shop_ledger.proofs.CountsOf.{held_once, agreed}
 use Rattle.shop_ledger.proofs.CountLemmas.{read_count}
+use Rattle.sqlite_value.specs.Order as sql
+use Rattle.shop_ledger.specs.declared.counts.CountKind.TheVariants as kind
 
 -- ---- no count of a branch is head office's
 
@@ -29,8 +29,7 @@ apart : (k : ℕ) (c : Count) → IsBranchs c → is_count 0 k c ≡ false
 apart k c low = ap (λ t. t && c.kind == k) (not_office c.caller low)
 
 none_picked : (cs : List Count) → AllByRecursion IsBranchs cs → filter (is_count 0 4) cs ≡ []
-none_picked [] all = refl
-none_picked (c ∷ cs) all = ap (λ t. cond t (c ∷ filter (is_count 0 4) cs) (filter (is_count 0 4) cs)) (apart 4 c all.0) ∙ none_picked cs all.1
+none_picked cs all = filter_none (is_count 0 4) cs (all_weaker IsBranchs _ (λ c low. apart 4 c low) cs all)
 
 none_raised : (cs : List Count) → AllByRecursion IsBranchs cs → map (λ c. cond (is_count 0 4 c) (raised 1 c) c) cs ≡ cs
 none_raised [] all = refl
@@ -91,25 +90,22 @@ lacks_next n (x ∷ xs) more = ap (λ t. is_empty (cond t (x ∷ []) (at (n - 1)
     other = grind (arith, nat_tests)
 
 pub none_of : {X : Type 0} (owner : X → ℕ) (branches : List Branch) (b : ℕ) → lacks branches b ≡ true → (xs : List X) → list_all (λ x. has_row branches (owner x)) xs ≡ true → filter (λ x. owner x == b) xs ≡ []
-none_of owner branches b lacking [] all = refl
-none_of {X} owner branches b lacking (x ∷ xs) all =
-    let parts = and_parts (has_row branches (owner x)) (list_all (λ y. has_row branches (owner y)) xs) all in
-    go (owner x == b) refl parts.0 (none_of owner branches b lacking xs parts.1)
+none_of {X} owner branches b lacking xs all = filter_none _ xs (all_weaker _ _ away xs (all_from_test (λ x. has_row branches (owner x)) xs all))
   where
-    go : (t : Bool) → (owner x == b) ≡ t → has_row branches (owner x) ≡ true → filter (λ y. owner y == b) xs ≡ [] → cond t (x ∷ filter (λ y. owner y == b) xs) (filter (λ y. owner y == b) xs) ≡ []
-    go true is there more =
-        let its : has_row branches b ≡ true = subst (λ n. has_row branches n ≡ true) (same_if (owner x) b is) there in
-        absurd (true≢false (sym its ∙ ap not lacking))
-    go false isnt there more = more
+    away : (x : X) → has_row branches (owner x) ≡ true → (owner x == b) ≡ false
+    away x there = elim (cases_Bool (owner x == b)) [
+      | inl is ↦ absurd (true≢false (sym (subst (λ n. has_row branches n ≡ true) (same_if (owner x) b is) there) ∙ ap not lacking))
+      | inr isnt ↦ isnt
+    ]
 
 new_counts : (books : Books) (b : ℕ) (branch : Branch) → lacks books.catalogue.branches b ≡ true → HasOwners books.catalogue.branches books
     → branch_counts books (b, branch) ≡ new_count b 0 ∷ new_count b 1 ∷ new_count b 2 ∷ new_count b 3 ∷ new_count b 4 ∷ []
 new_counts books b branch lacking owners =
     let branches = books.catalogue.branches in
-    let customers = ap (λ (rows : List (Row Customer)). length (map (λ (row : Row Customer). row.it) rows)) (none_of (λ (row : Row Customer). row.branch) branches b lacking books.customers owners.customers) in
-    let copies = ap (λ (rows : List (Row BookCopy)). length (map (λ (row : Row BookCopy). row.it) rows)) (none_of (λ (row : Row BookCopy). row.branch) branches b lacking books.copies owners.copies) in
-    let rentals = ap (λ (rows : List (Row Rental)). length (map (λ (row : Row Rental). row.it) rows)) (none_of (λ (row : Row Rental). row.branch) branches b lacking books.rentals owners.rentals) in
-    let payments = ap (λ (rows : List (Row Payment)). length (map (λ (row : Row Payment). row.it) rows)) (none_of (λ (row : Row Payment). row.branch) branches b lacking books.payments owners.payments) in
+    let customers = ap (λ (rows : List (Row Customer)). length (map (λ (row : Row Customer). row.it) rows)) (none_of (λ (row : Row Customer). row.branch) branches b lacking books.customers (owners.rows Customers)) in
+    let copies = ap (λ (rows : List (Row BookCopy)). length (map (λ (row : Row BookCopy). row.it) rows)) (none_of (λ (row : Row BookCopy). row.branch) branches b lacking books.copies (owners.rows CopyRows)) in
+    let rentals = ap (λ (rows : List (Row Rental)). length (map (λ (row : Row Rental). row.it) rows)) (none_of (λ (row : Row Rental). row.branch) branches b lacking books.rentals (owners.rows Rentals)) in
+    let payments = ap (λ (rows : List (Row Payment)). length (map (λ (row : Row Payment). row.it) rows)) (none_of (λ (row : Row Payment). row.branch) branches b lacking books.payments (owners.rows Payments)) in
     let kept = ap (λ (rows : List (Owned Kept)). length (map (λ (row : Owned Kept). row.it) rows)) (none_of (λ (row : Owned Kept). row.owner) branches b lacking books.kept owners.kept) in
     λ i. record { caller = b; kind = 0; last = customers i } ∷ record { caller = b; kind = 1; last = copies i } ∷ record { caller = b; kind = 2; last = rentals i }
     ∷ record { caller = b; kind = 3; last = payments i } ∷ record { caller = b; kind = 4; last = kept i } ∷ []
@@ -134,45 +130,19 @@ branch_put books branch owners =
 
 branch_set : (books : Books) (k n : ℕ) (f : Branch → Branch) (branches : List Branch) → flat_map (branch_counts books) (numbered_from k (set_at n f branches)) ≡ flat_map (branch_counts books) (numbered_from k branches)
 branch_set books k n f [] = refl
-branch_set books k n f (branch ∷ branches) = go (n == 1) (branch_set books (k + 1) (n - 1) f branches)
-  where
-    go : (hit : Bool) → flat_map (branch_counts books) (numbered_from (k + 1) (set_at (n - 1) f branches)) ≡ flat_map (branch_counts books) (numbered_from (k + 1) branches)
-        → flat_map (branch_counts books) (numbered_from k (cond hit (f branch ∷ branches) (branch ∷ set_at (n - 1) f branches))) ≡ flat_map (branch_counts books) (numbered_from k (branch ∷ branches))
-    go true more = refl
-    go false more = ap (λ (cs : List Count). branch_counts books (k, branch) ++ cs) more
+branch_set books k n f (branch ∷ branches) =
+    elim (n == 1) as (λ hit. flat_map (branch_counts books) (numbered_from k (cond hit (f branch ∷ branches) (branch ∷ set_at (n - 1) f branches))) ≡ flat_map (branch_counts books) (numbered_from k (branch ∷ branches)))
+    [ true ↦ refl | false ↦ ap (λ (cs : List Count). branch_counts books (k, branch) ++ cs) (branch_set books (k + 1) (n - 1) f branches) ]
 
 pub office_rows_counted : (act : OfficeAct) (books : Books) → HasOwners books.catalogue.branches books
     → counts_of (record books { catalogue = office_acted act books.catalogue }) ≡ office_grown act (length books.catalogue.branches + 1) (counts_of books)
-office_rows_counted (AddCountry name) books owners = refl
-office_rows_counted (AddCity city) books owners = refl
-office_rows_counted (AddLanguage name) books owners = refl
-office_rows_counted (AddCategory name) books owners = refl
-office_rows_counted (AddActor actor) books owners = refl
-office_rows_counted (AddFilm film) books owners = refl
-office_rows_counted (PriceFilm film rate) books owners = refl
-office_rows_counted (WithdrawFilm film) books owners = refl
-office_rows_counted (AddCast cast) books owners = refl
 office_rows_counted (AddBranch branch) books owners = λ i. record { counters = branch_put books (record branch { manager = None }) owners i; outs = (counts_of books).outs; pairs = (counts_of books).pairs }
-office_rows_counted (AddStaff staff) books owners = refl
-office_rows_counted (StaffLeaves staff) books owners = refl
 office_rows_counted (SetManager b staff) books owners = λ i. record { counters = office_count books ∷ branch_set books 1 b (λ r. record r { manager = Some staff }) books.catalogue.branches i; outs = (counts_of books).outs; pairs = (counts_of books).pairs }
-office_rows_counted (ChooseRule rule) books owners = refl
+office_rows_counted act books owners = refl
 
 pub kept_stays : (act : OfficeAct) (it : Catalogue) → (office_acted act it).kept ≡ it.kept
 kept_stays (AddCountry name) it = refl
-kept_stays (AddCity city) it = refl
-kept_stays (AddLanguage name) it = refl
-kept_stays (AddCategory name) it = refl
-kept_stays (AddActor actor) it = refl
-kept_stays (AddFilm film) it = refl
-kept_stays (PriceFilm film rate) it = refl
-kept_stays (WithdrawFilm film) it = refl
-kept_stays (AddCast cast) it = refl
-kept_stays (AddBranch branch) it = refl
-kept_stays (AddStaff staff) it = refl
-kept_stays (StaffLeaves staff) it = refl
-kept_stays (SetManager b staff) it = refl
-kept_stays (ChooseRule rule) it = refl
+kept_stays act it = refl
 
 -- with the key that is kept, head office's count is one more than with the rows alone
 pub office_counted_raised : (command : OfficeCommand) (books : Books)
@@ -197,17 +167,5 @@ office_counts_agreed s command books owners termed holds =
 
 -- and with the rows alone the counts are such as one more key is taken of
 pub office_grown_once : (act : OfficeAct) (b : ℕ) (books : Books) → 1 ≤ b → IsHeld books → CountsOnce 0 kind.Kept (office_grown act b (counts_of books))
-office_grown_once (AddCountry name) b books low held = office_once books held
-office_grown_once (AddCity city) b books low held = office_once books held
-office_grown_once (AddLanguage name) b books low held = office_once books held
-office_grown_once (AddCategory name) b books low held = office_once books held
-office_grown_once (AddActor actor) b books low held = office_once books held
-office_grown_once (AddFilm film) b books low held = office_once books held
-office_grown_once (PriceFilm film rate) b books low held = office_once books held
-office_grown_once (WithdrawFilm film) b books low held = office_once books held
-office_grown_once (AddCast cast) b books low held = office_once books held
 office_grown_once (AddBranch branch) b books low held = branch_once b books low held
-office_grown_once (AddStaff staff) b books low held = office_once books held
-office_grown_once (StaffLeaves staff) b books low held = office_once books held
-office_grown_once (SetManager place staff) b books low held = office_once books held
-office_grown_once (ChooseRule rule) b books low held = office_once books held
+office_grown_once act b books low held = office_once books held

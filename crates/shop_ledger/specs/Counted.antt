@@ -2,7 +2,7 @@
 use Rattle.std.specs.Prelude.{ℕ, ◌≤◌, ◌<◌, ◌^◌, ⊤, length}
 use Rattle.std.specs.List.{AllByRecursion}
 use Rattle.sql_rows.specs.Rows.{PicksOne}
-use Rattle.shop_model.specs.Values.{OfficeAct, AddCountry, AddCity, AddLanguage, AddCategory, AddActor, AddFilm, PriceFilm, WithdrawFilm, AddCast, AddBranch, AddStaff, StaffLeaves, SetManager, ChooseRule}
+use Rattle.shop_model.specs.Values.{OfficeAct, AddBranch}
 use Rattle.shop_model.specs.Books.{Books}
 use Rattle.shop_schema.specs.Counts.{Counts, is_count, count_in, raise, with_branch, is_out_by, customers_kind, copies_kind, rentals_kind, payments_kind, kept_kind}
 use Rattle.shop_ledger.specs.declared.counts.CountKind.{CountKind}
@@ -47,20 +47,8 @@ IsOutBy b copy rental counts = PicksOne (is_out_by b copy rental) counts.outs
 
 -- how the rows of a command of head office change the counts: a new branch, whose number is b, has its five counts, which are zero
 abbrev pub office_grown : OfficeAct → ℕ → Counts → Counts
-office_grown (AddCountry name) b counts = counts
-office_grown (AddCity city) b counts = counts
-office_grown (AddLanguage name) b counts = counts
-office_grown (AddCategory name) b counts = counts
-office_grown (AddActor actor) b counts = counts
-office_grown (AddFilm film) b counts = counts
-office_grown (PriceFilm film rate) b counts = counts
-office_grown (WithdrawFilm film) b counts = counts
-office_grown (AddCast cast) b counts = counts
 office_grown (AddBranch branch) b counts = with_branch b counts
-office_grown (AddStaff staff) b counts = counts
-office_grown (StaffLeaves staff) b counts = counts
-office_grown (SetManager branch staff) b counts = counts
-office_grown (ChooseRule rule) b counts = counts
+office_grown act b counts = counts
 
 -- how the command does: there is a kept key more
 abbrev pub office_counted : OfficeAct → ℕ → Counts → Counts

@@ -1,16 +1,11 @@
 -- Rows of a branch, in the order of their numbers and by these.
-use Rattle.shop_schema.proofs.Common.{◌≡◌, ◌<◌, ◌==◌, ◌+◌, ◌-◌, ℕ, List, [], ◌∷◌, ◌++◌, length, false, ap, refl, ◌∙◌, arith, is_eq, is_lt, inl, inr, AllByRecursion, nat_cmp, cases_Bool, nat_tests, IsAscending, Row, at, is_of, of, differ_test, IsRow}
-use Rattle.shop_ledger.proofs.Rising.{Rise}
+use Rattle.shop_schema.proofs.Common.{◌≡◌, ◌<◌, ◌==◌, ◌+◌, ◌-◌, ℕ, List, [], ◌∷◌, ◌++◌, length, false, ap, refl, ◌∙◌, arith, is_eq, is_lt, inl, inr, AllByRecursion, nat_cmp, cases_Bool, nat_tests, Row, at, is_of, of, differ_test, IsRow}
 
 pub not_equal : (m n : ℕ) → m < n → is_eq (nat_cmp m n) ≡ false
 not_equal m n h = grind (arith, nat_tests)
 
 pub not_less : (m n : ℕ) → m < n → is_lt (nat_cmp n m) ≡ false
 not_less m n h = grind (arith, nat_tests)
-
-pub ascend : {A : Type 0} (xs : List (Row A)) → Rise xs → IsAscending (λ (x y : Row A). x.number < y.number) xs
-ascend [] r = tt
-ascend (x ∷ xs) r = (r.0, ascend xs r.1)
 
 pub at_behind : {A : Type 0} (before after : List A) (x : A) → at (length before + 1) (before ++ x ∷ after) ≡ x ∷ []
 at_behind [] after x = refl

@@ -1,5 +1,5 @@
 -- A table of the branches' rows, each with its branch and its number there: what a SELECT says of it, and what an UPDATE of one row makes of it.
-use Rattle.shop_schema.proofs.Common.{◌≡◌, ◌≤◌, ◌&&◌, ℕ, zero, suc, List, [], ◌∷◌, map, filter, drop, length, Bool, true, cond, Ok, Err, Result, refl, sym, ap, subst, ◌∙◌, arith, Vec, IfOk, IfSome, option_to_list, AllByRecursion, list_all, Global, map-id, Value, Int, column, ascending, Binary, rowid, Term, col, eval_all, holds, Query, output, cast, cast_all, cast_row, Update, State, ExecutesInside, sort_by, update_where, map-map, all-filter, all_map, Means, by, PicksOne, columns_from, columns_of, number_value, StoreFault, are_kept, id_of, length-map, number_test, two_tested, test_of, unmapped_kind, still_holds, writes_by, Selects, plain_query, selects_one, selects_sorted, sets_row, Row, is_of, is_row, of, at, set_row, AreNumbered, Books, row_at, IsHeld, IsRow, shop_schema, StandsFor, StandsWith, Holds, Reads, Writes, counts_of, cols}
+use Rattle.shop_schema.proofs.Common.{◌≡◌, ◌≤◌, ◌&&◌, ℕ, zero, suc, List, [], ◌∷◌, map, filter, drop, length, Bool, true, cond, Ok, refl, sym, ap, subst, ◌∙◌, arith, IfSome, option_to_list, AllByRecursion, list_all, map-id, Value, Int, column, ascending, Binary, rowid, Term, col, eval_all, holds, Query, output, cast, cast_all, cast_row, Update, State, ExecutesInside, sort_by, update_where, map-map, all-filter, all_map, Means, by, PicksOne, columns_from, columns_of, number_value, are_kept, id_of, length-map, number_test, two_tested, test_of, unmapped_kind, still_holds, writes_by, Selects, plain_query, selects_one, selects_sorted, sets_row, Row, is_of, is_row, of, at, set_row, AreNumbered, Books, row_at, IsHeld, IsRow, shop_schema, StandsFor, StandsWith, Holds, Reads, Writes, counts_of, cols}
 use Rattle.std.specs.Prelude.{Option, Some, None, take, option_map}
 use Rattle.sqlite_value.specs.Order as sql
 use Rattle.sqlite_schema.specs.declared.schema.Kind.TheVariants as kind
@@ -29,12 +29,12 @@ replaced (suc n) y (x ∷ xs) = x ∷ replaced n y xs
 abbrev pub set_terms : ℕ → ℕ → List Term
 set_terms width at = col 1 0 ∷ col 1 0 ∷ replaced at (col 0 2) (cols 1 1 width)
 
-take_few : {X : Type 0} (xs : List X) → length xs ≤ 1 → take 1 xs ≡ xs
+pub take_few : {X : Type 0} (xs : List X) → length xs ≤ 1 → take 1 xs ≡ xs
 take_few [] few = refl
 take_few (x ∷ []) few = refl
 take_few (x ∷ y ∷ xs) few = absurd (omega (arith, few))
 
-option_list : {X Y : Type 0} (f : X → Y) (o : Option X) → option_to_list (option_map f o) ≡ map f (option_to_list o)
+pub option_list : {X Y : Type 0} (f : X → Y) (o : Option X) → option_to_list (option_map f o) ≡ map f (option_to_list o)
 option_list f None = refl
 option_list f (Some x) = refl
 
@@ -68,16 +68,14 @@ module _ {A : Type 0} (t : BranchRows A) where
 
   module _ {R : Type 0} (seen : R → Row A) (text : List ℕ) where
     abbrev pub ReadsOne : Type 1
-    ReadsOne = (old new : State) (b n : ℕ) (rows slice : List sql.Row) (r : Result (Option R) StoreFault) → Shown text (number_value b ∷ number_value n ∷ []) old new rows → slice ≡ rows
-        → IfOk r (λ o. map (λ x. columns (seen x)) (option_to_list o) ≡ take 1 slice) → IfOk r (λ o. IfSome o (λ x. IsRow t.Fits (seen x)))
-        → IfOk r (λ o. Reads old new (λ books. option_to_list (option_map (λ x. (seen x).it) o) ≡ at n (of b (items books))))
+    ReadsOne = (old new : State) (b n : ℕ) (rows : List sql.Row) (o : Option R) → Shown text (number_value b ∷ number_value n ∷ []) old new rows
+        → map (λ x. columns (seen x)) (option_to_list o) ≡ take 1 rows → IfSome o (λ x. IsRow t.Fits (seen x)) → Reads old new (λ books. option_to_list (option_map (λ x. (seen x).it) o) ≡ at n (of b (items books)))
 
     -- `only` is `refl`
     pub reads_one : Selects shop_schema text one_query
         → ((b n : ℕ) (r : sql.Row) → cond (list_all (holds ((number_value b ∷ number_value n ∷ []) ∷ r ∷ [])) of_two) (output one_query ((number_value b ∷ number_value n ∷ []) ∷ r ∷ []) ∷ []) []
         ≡ cond (has_key b n (columns_of wide r)) (([], columns_of wide r) ∷ []) []) → ReadsOne
-    reads_one means only old new b n rows slice (Err e) h same read kind = tt
-    reads_one means only old new b n rows slice (Ok o) h same read kind = λ books holds held.
+    reads_one means only old new b n rows o h read kind = λ books holds held.
         let counted = t.counted books held b in
         let few : PicksOne (is_row b n) (items books) = picks_row b (items books) counted n in
         let found : rows ≡ map columns (filter (is_row b n) (items books)) =
@@ -86,7 +84,7 @@ module _ {A : Type 0} (t : BranchRows A) where
         let short : length rows ≤ 1 = subst (λ (k : ℕ). k ≤ 1) (sym (ap length found ∙ length-map columns (filter (is_row b n) (items books)))) few in
         let one : map seen (option_to_list o) ≡ filter (is_row b n) (items books) =
         unmapped_kind columns (IsRow t.Fits) t.one _ _ (some_seen (IsRow t.Fits) seen o kind) (all-filter (IsRow t.Fits) (is_row b n) (items books) (t.valued books held))
-        (map-map columns seen (option_to_list o) ∙ read ∙ ap (take 1) same ∙ take_few rows short ∙ found) in (
+        (map-map columns seen (option_to_list o) ∙ read ∙ take_few rows short ∙ found) in (
           still_holds shop_schema StandsFor text _ old new means.plain rows h books holds,
           option_list (λ (x : R). (seen x).it) o ∙ sym (map-map (λ (row : Row A). row.it) seen (option_to_list o)) ∙ ap (map (λ (row : Row A). row.it)) one
               ∙ row_at (λ (it : A). it) b n (items books) counted ∙ ap (at n) (map-id (of b (items books))),
@@ -102,34 +100,32 @@ module _ {A : Type 0} (t : BranchRows A) where
       pub reads_sorted : ((row : Row A) → test (columns row) ≡ p row)
           → ((r : sql.Row) → cond (list_all (holds (params ∷ r ∷ [])) tests) (output sorted_query (params ∷ r ∷ []) ∷ []) [] ≡ cond (test (columns_of wide r)) ((column (columns_of wide r) 1 ∷ [], columns_of wide r) ∷ []) [])
           → ((books : Books) → IsHeld books → Rise (filter p (items books)))
-          → (old new : State) (rows slice : List sql.Row) (all : List R) → Shown text params old new rows → slice ≡ rows → map (λ x. columns (seen x)) all ≡ slice → AllByRecursion (λ x. IsRow t.Fits (seen x)) all
+          → (old new : State) (rows : List sql.Row) (all : List R) → Shown text params old new rows → map (λ x. columns (seen x)) all ≡ rows → AllByRecursion (λ x. IsRow t.Fits (seen x)) all
           → (books : Books) → Holds old books → IsHeld books → Holds new books × (map seen all ≡ filter p (items books))
-      reads_sorted tested only rises old new rows slice all h same read kinds books holds held =
+      reads_sorted tested only rises old new rows all h read kinds books holds held =
           let rise = rises books held in
-          let sorted : sort_by (by (λ (row : Row A). row.number)) (filter p (items books)) ≡ filter p (items books) = rise_sorted (filter p (items books)) rise in
+          let sorted : sort_by (by (λ (row : Row A). row.number)) (filter p (items books)) ≡ filter p (items books) = rise_sorted (λ (row : Row A). row.number) (filter p (items books)) rise in
           let found : rows ≡ map columns (sort_by (by (λ (row : Row A). row.number)) (filter p (items books))) =
           selects_sorted shop_schema text tree wide tests (cols 1 1 wide) 1 means params old new rows holds.schema_is h columns (items books)
-          (stood t.rows (counts_of books) books old.now.trees (with_own old.now.trees books holds.stands)) (own_rows old.now.trees tree) test p tested only (λ row. row.number) (λ row. (t.begins row).1) (rise_differ (filter p (items books)) rise) in (
+          (stood t.rows (counts_of books) books old.now.trees (with_own old.now.trees books holds.stands)) (own_rows old.now.trees tree) test p tested only (λ row. row.number) (λ row. (t.begins row).1) (rise_differ (λ (row : Row A). row.number) (filter p (items books)) rise) in (
             still_holds shop_schema StandsFor text params old new means.plain rows h books holds,
             unmapped_kind columns (IsRow t.Fits) t.one _ _ (all_map (IsRow t.Fits) seen all kinds) (all-filter (IsRow t.Fits) p (items books) (t.valued books held))
-                (map-map columns seen all ∙ read ∙ same ∙ found ∙ ap (map columns) sorted),
+                (map-map columns seen all ∙ read ∙ found ∙ ap (map columns) sorted),
           )
 
   module _ {R : Type 0} (seen : R → Row A) (text : List ℕ) where
     -- those of a branch whose rows pass a test
     abbrev pub ReadsWhich : sql.Row → ℕ → (A → Bool) → Type 1
-    ReadsWhich params b which = (old new : State) (rows slice : List sql.Row) (r : Result (Vec R Global) StoreFault) → Shown text params old new rows → slice ≡ rows
-        → IfOk r (λ all. map (λ x. columns (seen x)) all.items ≡ slice) → IfOk r (λ all. AllByRecursion (λ x. IsRow t.Fits (seen x)) all.items)
-        → IfOk r (λ all. Reads old new (λ books. map (λ x. (seen x).it) all.items ≡ filter which (of b (items books))))
+    ReadsWhich params b which = (old new : State) (rows : List sql.Row) (all : List R) → Shown text params old new rows → map (λ x. columns (seen x)) all ≡ rows → AllByRecursion (λ x. IsRow t.Fits (seen x)) all
+        → Reads old new (λ books. map (λ x. (seen x).it) all ≡ filter which (of b (items books)))
 
     -- `tested` says that of a row's columns the filter is the test; `only` is `refl`
     pub reads_which : (tests : List Term) → Selects shop_schema text (sorted_query tests) → (params : sql.Row) (b : ℕ) (test : sql.Row → Bool) (which : A → Bool) → ((row : Row A) → test (columns row) ≡ of_which which b row)
         → ((r : sql.Row) → cond (list_all (holds (params ∷ r ∷ [])) tests) (output (sorted_query tests) (params ∷ r ∷ []) ∷ []) [] ≡ cond (test (columns_of wide r)) ((column (columns_of wide r) 1 ∷ [], columns_of wide r) ∷ []) [])
         → ReadsWhich params b which
-    reads_which tests means params b test which tested only old new rows slice (Err e) h same read kinds = tt
-    reads_which tests means params b test which tested only old new rows slice (Ok all) h same read kinds = λ books holds held.
-        let found = reads_sorted tests seen text means params test (of_which which b) tested only (λ books held. which_rise which b (items books) (t.counted books held b)) old new rows slice all.items h same read kinds books holds held in
-        (found.0, sym (map-map (λ (row : Row A). row.it) seen all.items) ∙ ap (map (λ (row : Row A). row.it)) found.1 ∙ which_are which b (items books) (t.counted books held b))
+    reads_which tests means params b test which tested only old new rows all h read kinds = λ books holds held.
+        let found = reads_sorted tests seen text means params test (of_which which b) tested only (λ books held. which_rise which b (items books) (t.counted books held b)) old new rows all h read kinds books holds held in
+        (found.0, sym (map-map (λ (row : Row A). row.it) seen all) ∙ ap (map (λ (row : Row A). row.it)) found.1 ∙ which_are which b (items books) (t.counted books held b))
 
   -- ---- an UPDATE of one column of one row
 

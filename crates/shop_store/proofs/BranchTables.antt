@@ -1,69 +1,51 @@
 -- The tables of the branches' rows, as lists of the books.
-use Rattle.shop_schema.proofs.Common.{refl, Owned, Text, Customer, Rental, Terms, Payment, BookCopy, customer_table, copy_table, rental_table, rental_terms_table, payment_table, lot_table, customer_columns, copy_columns, rental_columns, terms_columns, payment_columns, lot_columns, IsCustomer, IsCopy, IsRental, IsTerms, IsPayment}
+use Rattle.shop_schema.proofs.Common.{refl, Owned, Text, Customer, Rental, Terms, Payment, BookCopy, customer_table, copy_table, rental_table, rental_terms_table, payment_table, lot_table, customer_columns, copy_columns, rental_columns, terms_columns, payment_columns, lot_columns, IsCustomer, IsCopy, IsRental, IsTerms, IsPayment, CopyRows, Customers, Payments, Rentals, TermRows, ◌≡◌, ℕ, AllByRecursion, column, number_value, Books, Row, is_of, AreNumbered, IsHeld, IsRow, TableOf}
 use Rattle.shop_schema.proofs.Listed.{Plain, listed}
 use Rattle.shop_schema.proofs.OneRow.{same_row}
-use Rattle.shop_schema.proofs.ShopTables as table
 use Rattle.shop_store.proofs.BranchRows.{BranchRows}
+use Rattle.shop_schema.proofs.ShopTables as table
+
+-- rows that fit, by their table and what holds of them in all books that tables can hold
+abbrev branch_rows : {A : Type 0} (Fits : A → Type 0) (rows : Plain (Row A)) → TableOf rows.columns (IsRow Fits)
+    → ((row : Row A) → (column (rows.columns row) 0 ≡ number_value row.branch) × (column (rows.columns row) 1 ≡ number_value row.number))
+    → ((books : Books) → IsHeld books → AllByRecursion (IsRow Fits) (rows.part.items books)) → ((books : Books) → IsHeld books → (b : ℕ) → AreNumbered (is_of b) (λ row. row.number) (rows.part.items books))
+    → BranchRows A
+branch_rows Fits rows table begins valued counted = record { rows = rows; Fits = Fits; one = same_row table; begins = begins; valued = valued; counted = counted }
 
 abbrev pub customers : BranchRows Customer
-customers = record {
-  rows =
-      listed 10 customer_table customer_columns (λ books. books.customers) (λ xs books. record books { customers = xs })
-      (record { place = refl; uncounted = refl; unstamped = refl }) refl (λ counts books. refl) (λ counts xs books. refl) (λ xs books. refl) (λ xs ys books. refl);
-  Fits = IsCustomer;
-  one = same_row table.customers;
-  begins = λ row. (refl, refl);
-  valued = λ books held. held.values.customers;
-  counted = λ books held. held.numbers.customers;
-}
+customers =
+    branch_rows IsCustomer
+    (listed 10 customer_table customer_columns (λ books. books.customers) (λ xs books. record books { customers = xs })
+    (record { place = refl; uncounted = refl; unstamped = refl }) refl (λ counts books. refl) (λ counts xs books. refl) (λ xs books. refl) (λ xs ys books. refl))
+    table.customers (λ row. (refl, refl)) (λ books held. held.values.rows Customers) (λ books held. held.numbers.rows Customers)
 
 abbrev pub copies : BranchRows BookCopy
-copies = record {
-  rows =
-      listed 11 copy_table copy_columns (λ books. books.copies) (λ xs books. record books { copies = xs })
-      (record { place = refl; uncounted = refl; unstamped = refl }) refl (λ counts books. refl) (λ counts xs books. refl) (λ xs books. refl) (λ xs ys books. refl);
-  Fits = IsCopy;
-  one = same_row table.copies;
-  begins = λ row. (refl, refl);
-  valued = λ books held. held.values.copies;
-  counted = λ books held. held.numbers.copies;
-}
+copies =
+    branch_rows IsCopy
+    (listed 11 copy_table copy_columns (λ books. books.copies) (λ xs books. record books { copies = xs })
+    (record { place = refl; uncounted = refl; unstamped = refl }) refl (λ counts books. refl) (λ counts xs books. refl) (λ xs books. refl) (λ xs ys books. refl))
+    table.copies (λ row. (refl, refl)) (λ books held. held.values.rows CopyRows) (λ books held. held.numbers.rows CopyRows)
 
 abbrev pub rentals : BranchRows Rental
-rentals = record {
-  rows =
-      listed 12 rental_table rental_columns (λ books. books.rentals) (λ xs books. record books { rentals = xs })
-      (record { place = refl; uncounted = refl; unstamped = refl }) refl (λ counts books. refl) (λ counts xs books. refl) (λ xs books. refl) (λ xs ys books. refl);
-  Fits = IsRental;
-  one = same_row table.rentals;
-  begins = λ row. (refl, refl);
-  valued = λ books held. held.values.rentals;
-  counted = λ books held. held.numbers.rentals;
-}
+rentals =
+    branch_rows IsRental
+    (listed 12 rental_table rental_columns (λ books. books.rentals) (λ xs books. record books { rentals = xs })
+    (record { place = refl; uncounted = refl; unstamped = refl }) refl (λ counts books. refl) (λ counts xs books. refl) (λ xs books. refl) (λ xs ys books. refl))
+    table.rentals (λ row. (refl, refl)) (λ books held. held.values.rows Rentals) (λ books held. held.numbers.rows Rentals)
 
 abbrev pub terms : BranchRows Terms
-terms = record {
-  rows =
-      listed 21 rental_terms_table terms_columns (λ books. books.terms) (λ xs books. record books { terms = xs })
-      (record { place = refl; uncounted = refl; unstamped = refl }) refl (λ counts books. refl) (λ counts xs books. refl) (λ xs books. refl) (λ xs ys books. refl);
-  Fits = IsTerms;
-  one = same_row table.terms;
-  begins = λ row. (refl, refl);
-  valued = λ books held. held.values.terms;
-  counted = λ books held. held.numbers.terms;
-}
+terms =
+    branch_rows IsTerms
+    (listed 21 rental_terms_table terms_columns (λ books. books.terms) (λ xs books. record books { terms = xs })
+    (record { place = refl; uncounted = refl; unstamped = refl }) refl (λ counts books. refl) (λ counts xs books. refl) (λ xs books. refl) (λ xs ys books. refl))
+    table.terms (λ row. (refl, refl)) (λ books held. held.values.rows TermRows) (λ books held. held.numbers.rows TermRows)
 
 abbrev pub payments : BranchRows Payment
-payments = record {
-  rows =
-      listed 13 payment_table payment_columns (λ books. books.payments) (λ xs books. record books { payments = xs })
-      (record { place = refl; uncounted = refl; unstamped = refl }) refl (λ counts books. refl) (λ counts xs books. refl) (λ xs books. refl) (λ xs ys books. refl);
-  Fits = IsPayment;
-  one = same_row table.payments;
-  begins = λ row. (refl, refl);
-  valued = λ books held. held.values.payments;
-  counted = λ books held. held.numbers.payments;
-}
+payments =
+    branch_rows IsPayment
+    (listed 13 payment_table payment_columns (λ books. books.payments) (λ xs books. record books { payments = xs })
+    (record { place = refl; uncounted = refl; unstamped = refl }) refl (λ counts books. refl) (λ counts xs books. refl) (λ xs books. refl) (λ xs ys books. refl))
+    table.payments (λ row. (refl, refl)) (λ books held. held.values.rows Payments) (λ books held. held.numbers.rows Payments)
 
 abbrev pub lots : Plain (Owned Text)
 lots =

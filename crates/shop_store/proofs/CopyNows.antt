@@ -1,5 +1,5 @@
 -- What the text of how a copy stands shows of the books: the copy's row, joined with that of its open rental.
-use Rattle.shop_schema.proofs.Common.{◌≡◌, ◌≤◌, ◌==◌, ℕ, List, [], ◌∷◌, map, filter, length, Bool, true, false, cond, Option, Some, None, refl, sym, ap, ◌∙◌, arith, append-nil, slice_get, IfSome, option_to_list, flat_map, and_parts, nat_tests, Null, or_null, column, Trees, Term, col, Query, Join, inner, left, end, Output, overlay, State, map-map, IsPermutation-same, columns_of, number_value, Selects, answers, kept_as_map, number_tested, same_number, two_tested, joined_query, are_equal, or_blank, shown_of, left_pair, joined_rows, still_holds, Row, at, is_row, of, Books, BookCopy, head, shop_of, unmarked, row_at, shop_schema, copy_columns, out_columns, state_value, Out, is_out, counts_of, IsHeld, StandsFor, Holds, Reads, seen_state}
+use Rattle.shop_schema.proofs.Common.{◌≡◌, ◌≤◌, ◌==◌, ℕ, List, [], ◌∷◌, map, filter, length, Bool, true, false, cond, Option, Some, None, refl, sym, ap, ◌∙◌, arith, append-nil, slice_get, IfSome, option_to_list, flat_map, and_parts, nat_tests, Null, or_null, column, Trees, Term, col, Query, Join, inner, left, end, Output, overlay, State, map-map, IsPermutation-same, columns_of, number_value, Selects, answers, kept_as_map, number_tested, same_number, two_tested, joined_query, are_equal, or_blank, shown_of, left_pair, joined_rows, still_holds, Row, at, is_row, of, Books, BookCopy, head, shop_of, unmarked, row_at, shop_schema, copy_columns, out_columns, state_value, Out, is_out, counts_of, IsHeld, StandsFor, Holds, Reads, seen_state, CopyRows}
 use Rattle.std.specs.Prelude.{option_map}
 use Rattle.sqlite_value.specs.Order as sql
 use Rattle.sqlite_tied.specs.Compute.{everything}
@@ -87,7 +87,7 @@ module _ (old new : State) (b n : ℕ) (rows slice : List sql.Row) (h : Shown SE
   still = still_holds shop_schema StandsFor SELECT_NOW.now _ old new now_means.plain rows h
 
   picks : (books : Books) → IsHeld books → length (copies_in books) ≤ 1
-  picks books held = picks_row b books.copies (held.numbers.copies b) n
+  picks books held = picks_row b books.copies (held.numbers.rows CopyRows b) n
 
   shows_now : (books : Books) → Holds old books → IsHeld books → rows ≡ map (shown_with (outs_in books)) (copies_in books)
   shows_now books holds held =
@@ -103,7 +103,7 @@ module _ (old new : State) (b n : ℕ) (rows slice : List sql.Row) (h : Shown SE
   Says found books = (option_to_list (option_map seen_copy_now found) ≡ at n (shop_of b books).copies) × IfSome found (λ it. option_to_list it.out ≡ open_of n (of b books.rentals))
 
   in_shop : (books : Books) → IsHeld books → map (λ (c : Row BookCopy). unmarked c.it) (copies_in books) ≡ at n (shop_of b books).copies
-  in_shop books held = row_at unmarked b n books.copies (held.numbers.copies b)
+  in_shop books held = row_at unmarked b n books.copies (held.numbers.rows CopyRows b)
 
   rental_told : (outs : List Out) → length outs ≤ 1 → (out : Option ℕ) → or_null (λ (o : Out). number_value o.rental) (head outs) ≡ or_null number_value out → option_to_list out ≡ map (λ (o : Out). o.rental) outs
   rental_told [] few None is = refl

@@ -1,5 +1,5 @@
 -- What is read of a film by its number, with all its columns.
-use Rattle.shop_schema.proofs.Common.{◌≡◌, ◌≤◌, ◌-◌, ◌==◌, ℕ, List, [], ◌∷◌, Bool, true, false, cond, map, length, refl, ap, ◌∙◌, arith, Ok, Err, Result, IfOk, option_to_list, State, number_value, StoreFault, at, Film, film_columns, Reads, cols, Selects, shop_schema}
+use Rattle.shop_schema.proofs.Common.{at_one, inl, inr, ◌≡◌, ◌≤◌, ℕ, List, [], ◌∷◌, map, length, refl, ap, ◌∙◌, arith, option_to_list, State, number_value, at, Film, film_columns, Reads, cols, Selects, shop_schema}
 use Rattle.std.specs.Prelude.{Option, Some, None, take, option_map}
 use Rattle.sqlite_value.specs.Order as sql
 use Rattle.sqlite_tied.specs.Compute.{everything}
@@ -25,12 +25,10 @@ columns_read row = film_columns (row.number, seen_film_row row)
 
 -- a number picks one row at most
 at_short : {A : Type 0} (n : ℕ) (xs : List A) → length (at n xs) ≤ 1
-at_short n [] = omega arith
-at_short n (x ∷ xs) = go (n == 1) (at_short (n - 1) xs)
-  where
-    go : (b : Bool) → length (at (n - 1) xs) ≤ 1 → length (cond b (x ∷ []) (at (n - 1) xs)) ≤ 1
-    go true more = omega arith
-    go false more = more
+at_short n xs = elim (at_one n xs) [
+  | inl none ↦ rw none (omega arith)
+  | inr one ↦ rw one.1 (omega arith)
+]
 
 -- the columns of the row that was read are those of the film
 film_of : (n : ℕ) (o : Option FilmRow) (rows : List Film) → length rows ≤ 1 → map columns_read (option_to_list o) ≡ take 1 (map (λ x. film_columns (n, x)) rows)
@@ -43,12 +41,10 @@ film_of n (Some row) (x ∷ []) few is =
     ap (λ (it : ℕ × Film). it.1 ∷ []) (same_film (row.number, seen_film_row row) (n, x) columns)
 film_of n o (x ∷ y ∷ rows) few is = absurd (omega (arith, few))
 
-pub read_row : (old new : State) (n : ℕ) (rows slice : List sql.Row) (r : Result (Option FilmRow) StoreFault) → Shown SELECT_FILM.now (number_value n ∷ []) old new rows → 1 ≤ n → slice ≡ rows
-    → IfOk r (λ o. map columns_read (option_to_list o) ≡ take 1 slice)
-    → IfOk r (λ o. Reads old new (λ books. option_to_list (option_map seen_film_row o) ≡ at n books.catalogue.films))
-read_row old new n rows slice (Err e) h low same read = tt
-read_row old new n rows slice (Ok o) h low same read = λ books holds held.
+pub read_row : (old new : State) (n : ℕ) (rows : List sql.Row) (o : Option FilmRow) → Shown SELECT_FILM.now (number_value n ∷ []) old new rows → 1 ≤ n → map columns_read (option_to_list o) ≡ take 1 rows
+    → Reads old new (λ books. option_to_list (option_map seen_film_row o) ≡ at n books.catalogue.films)
+read_row old new n rows o h low read = λ books holds held.
     let found = shows_shared films SELECT_FILM.now (cols 1 1 12) select_row_means (λ vs. vs) select_row_shows old new n rows h low books holds in (
       still films SELECT_FILM.now (cols 1 1 12) select_row_means (λ vs. vs) select_row_shows old new n rows h low books holds,
-      film_of n o (at n books.catalogue.films) (at_short n books.catalogue.films) (read ∙ ap (take 1) (same ∙ found)),
+      film_of n o (at n books.catalogue.films) (at_short n books.catalogue.films) (read ∙ ap (take 1) found),
     )

@@ -17,7 +17,6 @@ pub mod CopyNows
 pub mod Ascending
 pub mod OnRentals
 pub mod OnRule
-pub mod OnTerms
 pub mod WithTerms
 pub mod OnTermed
 pub mod OnPayments

@@ -1,5 +1,5 @@
 -- What the texts of customers say and make of the books.
-use Rattle.shop_schema.proofs.Common.{◌≡◌, ◌&&◌, ℕ, List, [], ◌∷◌, map, filter, Bool, true, Some, None, Ok, refl, sym, ap, ◌∙◌, slice_get, column, col, State, ExecutesInside, number_value, flag_value, Selects, plain_query, number_test, number_tested, same_flag, two_tested, projects_one, still_holds, Row, at, is_row, of, set_row, Customer, Books, head, map_at, row_at, shop_schema, customer_columns, IsHeld, StandsFor, Holds, Reads, Writes}
+use Rattle.shop_schema.proofs.Common.{◌≡◌, ◌&&◌, ℕ, List, [], ◌∷◌, map, filter, Bool, true, Some, None, Ok, refl, sym, ap, ◌∙◌, slice_get, column, col, State, ExecutesInside, number_value, flag_value, Selects, plain_query, number_test, number_tested, same_flag, two_tested, projects_one, still_holds, Row, at, is_row, of, set_row, Customer, Books, head, map_at, row_at, shop_schema, customer_columns, IsHeld, StandsFor, Holds, Reads, Writes, Customers}
 use Rattle.sqlite_value.specs.Order as sql
 use Rattle.sqlite_tied.specs.Compute.{everything}
 use Rattle.sqlite.specs.Listing.{understood}
@@ -44,10 +44,10 @@ module _ (old new : State) (b n : ℕ) (rows slice : List sql.Row) (h : Shown SE
   shows_active books holds held =
       projects_one shop_schema SELECT_ACTIVE.now 23 10 of_two (col 1 9 ∷ []) active_means _ old new rows holds.schema_is h customer_columns books.customers holds.stands.customers refl
       (λ vs. number_test 0 b vs && (number_test 1 n vs && true)) (λ vs. column vs 8 ∷ []) (is_row b n)
-      (λ c. two_tested _ _ (number_tested c.branch b) (number_tested c.number n)) (λ r. refl) (picks_row b books.customers (held.numbers.customers b) n)
+      (λ c. two_tested _ _ (number_tested c.branch b) (number_tested c.number n)) (λ r. refl) (picks_row b books.customers (held.numbers.rows Customers b) n)
 
   of_number : (books : Books) → IsHeld books → head (map (λ (c : Row Customer). c.it.active) (found_in books)) ≡ head (map active_of (at n (of b books.customers)))
-  of_number books held = ap head (row_at active_of b n books.customers (held.numbers.customers b) ∙ sym (map_at active_of n (of b books.customers)))
+  of_number books held = ap head (row_at active_of b n books.customers (held.numbers.rows Customers b) ∙ sym (map_at active_of n (of b books.customers)))
 
   -- what the first row tells
   pub read_active : (None ≡ slice_get slice 0 → Reads old new (λ books. None ≡ head (map active_of (at n (of b books.customers)))))

@@ -1,5 +1,5 @@
 -- What the texts of payments say and make of the books.
-use Rattle.shop_schema.proofs.Common.{◌≡◌, ◌==◌, ◌&&◌, ℕ, List, [], ◌∷◌, map, filter, cond, Bool, true, is_lt, Option, Some, None, refl, ◌∙◌, nat_cmp, is_ge, slice_cmp, AllByRecursion, IfOk-weaker, Binary, Term, col, op2, Compare, Eq, Lt, Ge, all-filter, number_value, are_kept, number_test, number_tested, from_test, from_tested, before_test, before_tested, two_tested, Moment, IsMoment, moment_text, is_by, is_earlier, Row, is_of, Payment, IsRow, IsPayment, payment_table, payment_columns}
+use Rattle.shop_schema.proofs.Common.{◌≡◌, ◌==◌, ◌&&◌, ℕ, List, [], ◌∷◌, map, filter, cond, Bool, true, is_lt, Option, Some, None, refl, ◌∙◌, nat_cmp, is_ge, slice_cmp, AllByRecursion, Binary, Term, col, op2, Compare, Eq, Lt, Ge, all-filter, number_value, are_kept, number_test, number_tested, from_test, from_tested, before_test, before_tested, two_tested, Moment, IsMoment, moment_text, is_by, is_earlier, Row, is_of, Payment, IsRow, IsPayment, payment_table, payment_columns, Payments}
 use Rattle.sqlite.specs.declared.types.Value.TheVariants.{Text}
 use Rattle.sqlite_tied.specs.Compute.{everything}
 use Rattle.sqlite.specs.Listing.{understood}
@@ -59,8 +59,6 @@ module _ (start end : Moment) (real : IsMoment start) (also : IsMoment end) wher
       λ i. cond (later_text row.it.paid start is real i && earlier_text row.it.paid end is also i) (row.it ∷ rest i) (rest i)
 
   pub read_between : (b : ℕ) → ReadsWhich payments seen_payment_row SELECT_PAYMENTS_BETWEEN.now (number_value b ∷ Text (moment_text start) ∷ Text (moment_text end) ∷ []) b by_time
-  read_between b old new rows slice r h same read kinds =
-      IfOk-weaker r _ _ (λ all reads books holds held.
-      let found = reads books holds held in
-      (found.0, found.1 ∙ in_time (filter (is_of b) books.payments) (all-filter (IsRow IsPayment) (is_of b) books.payments held.values.payments)))
-      (by_texts (moment_text start) (moment_text end) b old new rows slice r h same read kinds)
+  read_between b old new rows all h read kinds books holds held =
+      let found = by_texts (moment_text start) (moment_text end) b old new rows all h read kinds books holds held in
+      (found.0, found.1 ∙ in_time (filter (is_of b) books.payments) (all-filter (IsRow IsPayment) (is_of b) books.payments (held.values.rows Payments)))

@@ -1,5 +1,5 @@
 -- What the texts of the rule say and make of the books.
-use Rattle.shop_schema.proofs.Common.{◌≡◌, ℕ, List, [], ◌∷◌, true, Some, None, Ok, refl, sym, ap, subst, ◌∙◌, arith, ⊤, slice_get, column, Term, col, Update, State, ExecutesInside, Means, are_kept, same_number, projects_one, still_holds, writes_by, Selects, plain_query, sets_row, Rule, ByCode, ByComment, Books, seen_rule, TellsFirst, shop_schema, chain_rule_table, rule_value, rule_columns, StandsFor, StandsWith, Reads, Writes}
+use Rattle.shop_schema.proofs.Common.{◌≡◌, ℕ, List, [], ◌∷◌, true, Some, Ok, refl, arith, ⊤, column, Term, col, Update, State, ExecutesInside, Means, are_kept, writes_by, plain_query, sets_row, Rule, ByCode, ByComment, Books, seen_rule, TellsFirst, shop_schema, chain_rule_table, rule_value, rule_columns, StandsWith, Reads, Writes}
 use Rattle.std.specs.Prelude.{Option}
 use Rattle.sqlite_value.specs.Order as sql
 use Rattle.sqlite_tied.specs.Compute.{everything}
@@ -8,6 +8,7 @@ use Rattle.sqlite.specs.State.{Shown}
 use Rattle.shop_types.specs.declared.rule.Rule.{Rule as TheRule}
 use Rattle.shop_schema.proofs.Listed.{own_rows}
 use Rattle.shop_schema.proofs.Stands.{stands_but}
+use Rattle.shop_store.proofs.SharedReads.{reads_only}
 use Rattle.shop_store.specs.declared.chain.TheConstants.{SELECT_RULE, UPDATE_RULE}
 
 -- ---- what it is
@@ -15,40 +16,13 @@ use Rattle.shop_store.specs.declared.chain.TheConstants.{SELECT_RULE, UPDATE_RUL
 same_rule : (a b : Rule) → rule_value a ≡ rule_value b → a ≡ b
 same_rule ByCode ByCode h = refl
 same_rule ByComment ByComment h = refl
-same_rule ByCode ByComment h = let none : ◌≡◌ {A = ℕ} 0 1 = same_number 0 1 h in absurd (omega (arith, none))
-same_rule ByComment ByCode h = let none : ◌≡◌ {A = ℕ} 1 0 = same_number 1 0 h in absurd (omega (arith, none))
+same_rule a b h = cc
 
-select_rule_means : Selects shop_schema SELECT_RULE.now (plain_query 59 [] (col 1 1 ∷ []) [])
+pub read_rule : {Fits : sql.Row → TheRule → Type 0} → ((row : sql.Row) (rule : TheRule) → Fits row rule → column row 0 ≡ rule_value (seen_rule rule)) → (old new : State) (rows : List sql.Row)
+    → (found : Option TheRule) (rule : TheRule) → Shown SELECT_RULE.now [] old new rows → TellsFirst Fits rows found → found ≡ Some rule → Reads old new (λ books. seen_rule rule ≡ books.catalogue.rule)
 unfolding understood everything
-select_rule_means = record { names = _; is = refl; plain = (refl, refl); unlisted = refl }
-
-told_rule : (old new : State) (rows slice : List sql.Row) (row : sql.Row) (rule : Rule) → Shown SELECT_RULE.now [] old new rows → slice ≡ rows → Some row ≡ slice_get slice 0 → column row 0 ≡ rule_value rule
-    → Reads old new (λ books. rule ≡ books.catalogue.rule)
-told_rule old new rows slice row rule h same some is books holds held = (
-  still_holds shop_schema StandsFor SELECT_RULE.now [] old new select_rule_means.plain rows h books holds,
-  told (sym (some ∙ ap (λ (rs : List sql.Row). slice_get rs 0) (same ∙ shown))),
-)
-  where
-    its : Rule
-    its = books.catalogue.rule
-
-    shown : rows ≡ (rule_value its ∷ []) ∷ []
-    shown =
-        projects_one shop_schema SELECT_RULE.now 59 1 [] (col 1 1 ∷ []) select_rule_means [] old new rows holds.schema_is h rule_columns (its ∷ []) holds.stands.more.rule_is refl
-        (λ vs. true) (λ vs. column vs 0 ∷ []) (λ t. true) (λ t. refl) (λ r. refl) (omega arith)
-
-    told : slice_get ((rule_value its ∷ []) ∷ []) 0 ≡ Some row → rule ≡ its
-    told e =
-        let one : (rule_value its ∷ []) ≡ row = cc in
-        sym (same_rule its rule (ap (λ (r : sql.Row). column r 0) one ∙ is))
-
--- what the first row tells of it
-pub read_rule : {Fits : sql.Row → TheRule → Type 0} → ((row : sql.Row) (rule : TheRule) → Fits row rule → column row 0 ≡ rule_value (seen_rule rule)) → (old new : State) (rows slice : List sql.Row)
-    → (found : Option TheRule) (rule : TheRule) → Shown SELECT_RULE.now [] old new rows → slice ≡ rows → TellsFirst Fits slice found → found ≡ Some rule → Reads old new (λ books. seen_rule rule ≡ books.catalogue.rule)
-read_rule fits old new rows slice None rule h same told is = let none : ⊥ = cc in absurd none
-read_rule fits old new rows slice (Some it) rule h same told is =
-    let one : it ≡ rule = cc in
-    told_rule old new rows slice told.0 (seen_rule rule) h same told.1 (subst (λ (t : TheRule). column told.0 0 ≡ rule_value (seen_rule t)) one (fits told.0 it told.2))
+read_rule =
+    reads_only SELECT_RULE.now 59 1 0 (record { names = _; is = refl; plain = (refl, refl); unlisted = refl }) (λ r. refl) rule_columns (λ books. books.catalogue.rule) (λ books trees s. s.more.rule_is) same_rule seen_rule
 
 -- ---- another one
 

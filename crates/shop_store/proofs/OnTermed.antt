@@ -1,6 +1,5 @@
 -- What the text of a customer's rentals with their terms shows of the books: the rentals' rows, each joined with that of its terms.
-use Rattle.shop_schema.proofs.Common.{◌≡◌, ◌≤◌, ◌==◌, ℕ, List, [], ◌∷◌, ◌++◌, map, filter, length, Bool, cond, Ok, Err, Result, refl, ap, ◌∙◌, arith, append-nil, Vec, IfOk, flat_map, AllByRecursion, Global, map-id, Null, column, ascending, Key, Binary, Trees, Term, col, Query, Join, inner, left, end, Output, overlay, State, map-map, IsPermutation-same, columns_of, number_value, StoreFault, number_tested, two_tested, joined_query, are_equal, or_blank, shown_of, left_pair, joined_rows, still_holds, Selects, answers, kept_as_map, Row, at, is_row, of, Rental, Terms, Books, shop_of, termed, row_at, shop_schema, rental_columns, terms_columns, IsHeld, StandsFor, Holds, Reads}
-use Rattle.sqlite_value.specs.Order as sql
+use Rattle.shop_schema.proofs.Common.{◌≡◌, ◌≤◌, ◌==◌, ℕ, List, [], ◌∷◌, ◌++◌, map, filter, length, Bool, cond, refl, ap, ◌∙◌, arith, append-nil, flat_map, AllByRecursion, map-id, Null, column, ascending, Key, Binary, Trees, Term, col, Query, Join, inner, left, end, Output, overlay, State, map-map, IsPermutation-same, columns_of, number_value, number_tested, two_tested, joined_query, are_equal, or_blank, shown_of, left_pair, joined_rows, still_holds, Selects, answers, kept_as_map, Row, at, is_row, of, Rental, Terms, Books, shop_of, termed, row_at, shop_schema, rental_columns, terms_columns, IsHeld, StandsFor, Holds, Reads, Rentals, TermRows}
 use Rattle.sqlite_tied.specs.Compute.{everything}
 use Rattle.sqlite.specs.Listing.{understood}
 use Rattle.sqlite.specs.State.{Shown}
@@ -11,6 +10,7 @@ use Rattle.shop_store.specs.declared.termed.TheConstants.{SELECT_TERMED}
 use Rattle.shop_store.specs.declared.termed.TermedRental.{TermedRental}
 use Rattle.shop_store.specs.Seen.{seen_termed, termed_columns, IsTermed}
 use Rattle.shop_store.proofs.WithTerms.{rental_shown, shown_first, rentals_climb, termed_rows, termed_told}
+use Rattle.sqlite_value.specs.Order as sql
 
 abbrev with_terms : Join
 with_terms = left 57 (are_equal (col 2 1) (col 1 1) ∷ are_equal (col 2 2) (col 1 2) ∷ []) end
@@ -66,7 +66,7 @@ module _ (b n : ℕ) (books : Books) (held : IsHeld books) (db : Trees) (s : Sta
 
   termed_brings : shown_of termed_query (overlay db []) with_terms (params ∷ (Null ∷ rental_columns x) ∷ []) ≡ cond passes (termed_output books.terms x ∷ []) []
   termed_brings =
-      let counted = held.numbers.terms x.branch in
+      let counted = held.numbers.rows TermRows x.branch in
       let few = picks_row x.branch books.terms counted x.number in
       left_pair 5 terms_columns (db 57) books.terms s.more.terms_are gives (λ r. refl) (λ t. t.branch) (λ t. t.number) (λ t. refl) (λ t. refl) (λ r. refl) (λ r. refl) x.branch x.number few
       ∙ one_brings (filter (is_row x.branch x.number) books.terms) few
@@ -84,7 +84,7 @@ shows_termed old new b n rows books holds held h =
     (λ x. cond (which x) (out x ∷ []) []) (λ x. IsPermutation-same _ _ (termed_brings b n books held old.now.trees holds.stands x))
     rows (answers shop_schema SELECT_TERMED.now termed_query _ old new holds.schema_is termed_means rows h)
     (map out mine) (IsPermutation-same _ _ (kept_as_map which out books.rentals))
-    (rentals_climb (inner 27 with_terms) termed_tests termed_shows (col 1 2) (shown_of_row books.terms) mine (which_rise (λ (it : Rental). it.customer == n) b books.rentals (held.numbers.rentals b)))
+    (rentals_climb (inner 27 with_terms) termed_tests termed_shows (col 1 2) (shown_of_row books.terms) mine (which_rise (λ (it : Rental). it.customer == n) b books.rentals (held.numbers.rows Rentals b)))
     ∙ map-map (λ (o : Output). o.1) out mine
 
 -- ---- each with the terms under its number
@@ -95,14 +95,13 @@ termed_alike b terms x t own found = (λ i. shown_first (x.it ∷ []) (at x.numb
 -- ---- what is read of the rows
 
 -- the customer's rentals, each with its terms
-pub read_termed : (old new : State) (b n : ℕ) (rows slice : List sql.Row) (r : Result (Vec TermedRental Global) StoreFault) → Shown SELECT_TERMED.now (number_value b ∷ number_value n ∷ []) old new rows
-    → slice ≡ rows → IfOk r (λ all. map (λ x. termed_columns (seen_termed x)) all.items ≡ slice) → IfOk r (λ all. AllByRecursion (λ x. IsTermed (seen_termed x)) all.items)
-    → IfOk r (λ all. Reads old new (λ books. map seen_termed all.items ≡ filter (λ (it : Rental × Terms). it.0.customer == n) (termed (shop_of b books))))
-read_termed old new b n rows slice (Err e) h same read kinds = tt
-read_termed old new b n rows slice (Ok all) h same read kinds = λ books holds held. (
+pub read_termed : (old new : State) (b n : ℕ) (rows : List sql.Row) (all : List TermedRental) → Shown SELECT_TERMED.now (number_value b ∷ number_value n ∷ []) old new rows
+    → map (λ x. termed_columns (seen_termed x)) all ≡ rows → AllByRecursion (λ x. IsTermed (seen_termed x)) all
+    → Reads old new (λ books. map seen_termed all ≡ filter (λ (it : Rental × Terms). it.0.customer == n) (termed (shop_of b books)))
+read_termed old new b n rows all h read kinds = λ books holds held. (
   still_holds shop_schema StandsFor SELECT_TERMED.now _ old new termed_means.plain rows h books holds,
-  termed_told b (λ (it : Rental × Terms). it.0.customer == n) books held all.items kinds
-      (read ∙ same ∙ shows_termed old new b n rows books holds held h
+  termed_told b (λ (it : Rental × Terms). it.0.customer == n) books held all kinds
+      (read ∙ shows_termed old new b n rows books holds held h
       ∙ termed_rows b (λ (it : Rental). it.customer == n) books.terms (shown_of_row books.terms) termed_columns (termed_alike b books.terms) books.rentals [] (of b books.terms) refl
-      (held.numbers.rentals b) (held.termed b)),
+      (held.numbers.rows Rentals b) (held.termed b)),
 )

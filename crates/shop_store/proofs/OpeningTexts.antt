@@ -1,14 +1,13 @@
 -- What each statement of the opening adds, and all of them in turn.
-use Rattle.shop_schema.proofs.Common.{◌≡◌, ◌/◌, ◌-◌, ℕ, suc, List, [], ◌∷◌, codes, map, length, take, get_or, true, Some, None, Ok, refl, sym, subst, ⊤, Value, Null, Term, lit, eval_all, Values, Insert, value_rows, Ghosts, Held, state, State, ExecutesInside, Means, HasRows, columns_of, are_kept, has_put, owned_by, Branch, Books, opening, token_of, river_dawn, north_light, opening_branch, opening_staff, opening_catalogue, opening_books, shop_schema, branch_table, branch_columns, Counts, HoldsWith, first_books}
+use Rattle.shop_schema.proofs.Common.{◌≡◌, ◌/◌, ◌-◌, ℕ, suc, List, [], ◌∷◌, codes, map, length, take, get_or, true, Some, None, Ok, refl, sym, subst, ⊤, Value, Null, Term, lit, eval_all, Values, Insert, value_rows, Ghosts, Held, state, State, ExecutesInside, Means, columns_of, are_kept, owned_by, Branch, Books, opening, token_of, river_dawn, north_light, opening_branch, opening_staff, opening_catalogue, opening_books, shop_schema, branch_table, branch_columns, Counts, HoldsWith, first_books}
 use Rattle.sqlite_value.specs.Order as sql
 use Rattle.sqlite_tied.specs.Compute.{everything}
 use Rattle.sqlite.specs.Listing.{understood}
-use Rattle.shop_schema.proofs.Stands.{stands_but}
 use Rattle.shop_schema.proofs.Listed.{Shared, Plain, width, puts, next_row, IsNext, push}
 use Rattle.shop_schema.proofs.SharedTables.{countries, languages, categories, cities, actors, films, casts, branches, staff}
 use Rattle.shop_store.specs.declared.opening.TheConstants.{ROWS}
 use Rattle.shop_store.specs.Runs.{Runs}
-use Rattle.shop_store.proofs.PutTexts.{one_more}
+use Rattle.shop_store.proofs.PutTexts.{adds_branch}
 
 -- where the statement runs, tables that stand for the first books come to stand for the second ones
 record Goes (text : List ℕ) (a b : Books) : Type 1 where
@@ -48,15 +47,11 @@ module _ (text : List ℕ) (n : ℕ) (x : Branch) where
   abbrev branch_terms : List Term
   branch_terms = literals (branch_columns [] (n, x))
 
-  adds_branch : Means shop_schema text (Insert 8 (Values branch_terms 9)) → value_rows [] 9 (length branch_terms / 9) branch_terms ≡ eval_all branch_terms ([] ∷ []) ∷ []
+  adds_one : Means shop_schema text (Insert 8 (Values branch_terms 9)) → value_rows [] 9 (length branch_terms / 9) branch_terms ≡ eval_all branch_terms ([] ∷ []) ∷ []
       → eval_all branch_terms ([] ∷ []) ≡ Null ∷ branch_columns [] (n, x) → are_kept branch_table.columns (branch_columns [] (n, x)) ≡ true → ((id : Value) → columns_of 8 (id ∷ branch_columns [] (n, x)) ≡ branch_columns [] (n, x))
       → (books : Books) → IsNext branches n books → owned_by n books.lasts ≡ [] → Goes text books (push branches x books)
-  adds_branch means one is kept whole books next none = record {
-    goes = λ counts old new count ran holds.
-        let done = has_put shop_schema text 8 branch_table branch_terms 8 means (record { place = refl; uncounted = refl; unstamped = refl }) [] (branch_columns [] (n, x)) old new count ran one is kept whole holds.schema_is in
-        let rows = subst (HasRows 8 (new.now.trees 18)) (one_more books n x next none) (done.rows _ holds.stands.branches) in
-        record { schema_is = done.schema_is; keyed = done.keyed holds.keyed; stands = stands_but 8 branch_table refl refl counts counts books (push branches x books) _ refl old.now.trees new.now.trees done.others holds.stands rows };
-  }
+  adds_one means one is kept whole books next none =
+      record { goes = λ counts old new count ran holds. adds_branch text branch_terms means [] n x one is kept whole old new count ran counts books holds (next, none) }
 
 -- ---- statements one after another
 
@@ -95,95 +90,57 @@ stage n = opening (record {
   staff = take (n - 18) opening_catalogue.staff;
 })
 
-adds_canada : Goes (text 0) (stage 0) (stage 1)
-unfolding understood everything
-adds_canada = adds countries _ 1 (codes "Canada") (record { is = refl; plain = (refl, refl) }) refl refl refl (λ id. refl) (stage 0) refl
+-- ---- the statements in turn, before others
 
-adds_australia : Goes (text 1) (stage 1) (stage 2)
-unfolding understood everything
-adds_australia = adds countries _ 2 (codes "Australia") (record { is = refl; plain = (refl, refl) }) refl refl refl (λ id. refl) (stage 1) refl
+module _ (counts : Counts) (more : List (List ℕ)) (last : Books) where
+  names_added : Leads more counts (stage 5) last → Leads (text 0 ∷ text 1 ∷ text 2 ∷ text 3 ∷ text 4 ∷ more) counts (stage 0) last
+  unfolding understood everything
+  names_added rest =
+      then (adds countries _ 1 (codes "Canada") (record { is = refl; plain = (refl, refl) }) refl refl refl (λ id. refl) (stage 0) refl)
+      (then (adds countries _ 2 (codes "Australia") (record { is = refl; plain = (refl, refl) }) refl refl refl (λ id. refl) (stage 1) refl)
+      (then (adds languages _ 1 (codes "English") (record { is = refl; plain = (refl, refl) }) refl refl refl (λ id. refl) (stage 2) refl)
+      (then (adds categories _ 1 (codes "Action") (record { is = refl; plain = (refl, refl) }) refl refl refl (λ id. refl) (stage 3) refl)
+      (then (adds categories _ 2 (codes "Comedy") (record { is = refl; plain = (refl, refl) }) refl refl refl (λ id. refl) (stage 4) refl)
+      rest))))
 
-adds_english : Goes (text 2) (stage 2) (stage 3)
-unfolding understood everything
-adds_english = adds languages _ 1 (codes "English") (record { is = refl; plain = (refl, refl) }) refl refl refl (λ id. refl) (stage 2) refl
+  films_added : Leads more counts (stage 12) last → Leads (text 5 ∷ text 6 ∷ text 7 ∷ text 8 ∷ text 9 ∷ text 10 ∷ text 11 ∷ more) counts (stage 5) last
+  unfolding understood everything
+  films_added rest =
+      then (adds actors _ 1 (record { first = codes "ANN"; last = codes "HILL" }) (record { is = refl; plain = (refl, refl) }) refl refl refl (λ id. refl) (stage 5) refl)
+      (then (adds actors _ 2 (record { first = codes "BO"; last = codes "KERR" }) (record { is = refl; plain = (refl, refl) }) refl refl refl (λ id. refl) (stage 6) refl)
+      (then (adds films _ 1 river_dawn (record { is = refl; plain = (refl, refl) }) refl refl refl (λ id. refl) (stage 7) refl)
+      (then (adds films _ 2 north_light (record { is = refl; plain = (refl, refl) }) refl refl refl (λ id. refl) (stage 8) refl)
+      (then (adds_plain casts _ (record { film = 1; actor = 1 }) (record { is = refl; plain = (refl, refl) }) refl refl refl (λ id. refl) (stage 9))
+      (then (adds_plain casts _ (record { film = 1; actor = 2 }) (record { is = refl; plain = (refl, refl) }) refl refl refl (λ id. refl) (stage 10))
+      (then (adds_plain casts _ (record { film = 2; actor = 2 }) (record { is = refl; plain = (refl, refl) }) refl refl refl (λ id. refl) (stage 11))
+      rest))))))
 
-adds_action : Goes (text 3) (stage 3) (stage 4)
-unfolding understood everything
-adds_action = adds categories _ 1 (codes "Action") (record { is = refl; plain = (refl, refl) }) refl refl refl (λ id. refl) (stage 3) refl
+  places_added : Leads more counts (stage 15) last → Leads (text 12 ∷ text 13 ∷ text 14 ∷ more) counts (stage 12) last
+  unfolding understood everything
+  places_added rest =
+      then (adds cities _ 1 (record { name = codes "Lethbridge"; country = 1 }) (record { is = refl; plain = (refl, refl) }) refl refl refl (λ id. refl) (stage 12) refl)
+      (then (adds cities _ 2 (record { name = codes "Woodridge"; country = 2 }) (record { is = refl; plain = (refl, refl) }) refl refl refl (λ id. refl) (stage 13) refl)
+      (then (adds cities _ 3 (record { name = codes "Brisbane"; country = 2 }) (record { is = refl; plain = (refl, refl) }) refl refl refl (λ id. refl) (stage 14) refl)
+      rest))
 
-adds_comedy : Goes (text 4) (stage 4) (stage 5)
-unfolding understood everything
-adds_comedy = adds categories _ 2 (codes "Comedy") (record { is = refl; plain = (refl, refl) }) refl refl refl (λ id. refl) (stage 4) refl
+  branches_added : Leads more counts (stage 18) last → Leads (text 15 ∷ text 16 ∷ text 17 ∷ more) counts (stage 15) last
+  unfolding understood everything
+  branches_added rest =
+      then (adds_one _ 1 (opening_branch 1 (codes "10 High") (Some 1)) (record { is = refl; plain = (refl, refl) }) refl refl refl (λ id. refl) (stage 15) refl refl)
+      (then (adds_one _ 2 (opening_branch 2 (codes "20 High") (Some 2)) (record { is = refl; plain = (refl, refl) }) refl refl refl (λ id. refl) (stage 16) refl refl)
+      (then (adds_one _ 3 (opening_branch 3 (codes "30 High") None) (record { is = refl; plain = (refl, refl) }) refl refl refl (λ id. refl) (stage 17) refl refl)
+      rest))
 
-adds_ann : Goes (text 5) (stage 5) (stage 6)
-unfolding understood everything
-adds_ann = adds actors _ 1 (record { first = codes "ANN"; last = codes "HILL" }) (record { is = refl; plain = (refl, refl) }) refl refl refl (λ id. refl) (stage 5) refl
-
-adds_bo : Goes (text 6) (stage 6) (stage 7)
-unfolding understood everything
-adds_bo = adds actors _ 2 (record { first = codes "BO"; last = codes "KERR" }) (record { is = refl; plain = (refl, refl) }) refl refl refl (λ id. refl) (stage 6) refl
-
-adds_river : Goes (text 7) (stage 7) (stage 8)
-unfolding understood everything
-adds_river = adds films _ 1 river_dawn (record { is = refl; plain = (refl, refl) }) refl refl refl (λ id. refl) (stage 7) refl
-
-adds_north : Goes (text 8) (stage 8) (stage 9)
-unfolding understood everything
-adds_north = adds films _ 2 north_light (record { is = refl; plain = (refl, refl) }) refl refl refl (λ id. refl) (stage 8) refl
-
-adds_cast_1 : Goes (text 9) (stage 9) (stage 10)
-unfolding understood everything
-adds_cast_1 = adds_plain casts _ (record { film = 1; actor = 1 }) (record { is = refl; plain = (refl, refl) }) refl refl refl (λ id. refl) (stage 9)
-
-adds_cast_2 : Goes (text 10) (stage 10) (stage 11)
-unfolding understood everything
-adds_cast_2 = adds_plain casts _ (record { film = 1; actor = 2 }) (record { is = refl; plain = (refl, refl) }) refl refl refl (λ id. refl) (stage 10)
-
-adds_cast_3 : Goes (text 11) (stage 11) (stage 12)
-unfolding understood everything
-adds_cast_3 = adds_plain casts _ (record { film = 2; actor = 2 }) (record { is = refl; plain = (refl, refl) }) refl refl refl (λ id. refl) (stage 11)
-
-adds_lethbridge : Goes (text 12) (stage 12) (stage 13)
-unfolding understood everything
-adds_lethbridge = adds cities _ 1 (record { name = codes "Lethbridge"; country = 1 }) (record { is = refl; plain = (refl, refl) }) refl refl refl (λ id. refl) (stage 12) refl
-
-adds_woodridge : Goes (text 13) (stage 13) (stage 14)
-unfolding understood everything
-adds_woodridge = adds cities _ 2 (record { name = codes "Woodridge"; country = 2 }) (record { is = refl; plain = (refl, refl) }) refl refl refl (λ id. refl) (stage 13) refl
-
-adds_brisbane : Goes (text 14) (stage 14) (stage 15)
-unfolding understood everything
-adds_brisbane = adds cities _ 3 (record { name = codes "Brisbane"; country = 2 }) (record { is = refl; plain = (refl, refl) }) refl refl refl (λ id. refl) (stage 14) refl
-
-adds_branch_1 : Goes (text 15) (stage 15) (stage 16)
-unfolding understood everything
-adds_branch_1 = adds_branch _ 1 (opening_branch 1 (codes "10 High") (Some 1)) (record { is = refl; plain = (refl, refl) }) refl refl refl (λ id. refl) (stage 15) refl refl
-
-adds_branch_2 : Goes (text 16) (stage 16) (stage 17)
-unfolding understood everything
-adds_branch_2 = adds_branch _ 2 (opening_branch 2 (codes "20 High") (Some 2)) (record { is = refl; plain = (refl, refl) }) refl refl refl (λ id. refl) (stage 16) refl refl
-
-adds_branch_3 : Goes (text 17) (stage 17) (stage 18)
-unfolding understood everything
-adds_branch_3 = adds_branch _ 3 (opening_branch 3 (codes "30 High") None) (record { is = refl; plain = (refl, refl) }) refl refl refl (λ id. refl) (stage 17) refl refl
-
-adds_ida : Goes (text 18) (stage 18) (stage 19)
-unfolding understood everything
-adds_ida = adds staff _ 1 (opening_staff 1 (codes "IDA") (codes "LUND")) (record { is = refl; plain = (refl, refl) }) refl refl refl (λ id. refl) (stage 18) refl
-
-adds_jon : Goes (text 19) (stage 19) (stage 20)
-unfolding understood everything
-adds_jon = adds staff _ 2 (opening_staff 2 (codes "JON") (codes "VEGA")) (record { is = refl; plain = (refl, refl) }) refl refl refl (λ id. refl) (stage 19) refl
-
-adds_kim : Goes (text 20) (stage 20) (stage 21)
-unfolding understood everything
-adds_kim = adds staff _ 3 (opening_staff 3 (codes "KIM") (codes "ROSS")) (record { is = refl; plain = (refl, refl) }) refl refl refl (λ id. refl) (stage 20) refl
+  staff_added : Leads more counts (stage 21) last → Leads (text 18 ∷ text 19 ∷ text 20 ∷ more) counts (stage 18) last
+  unfolding understood everything
+  staff_added rest =
+      then (adds staff _ 1 (opening_staff 1 (codes "IDA") (codes "LUND")) (record { is = refl; plain = (refl, refl) }) refl refl refl (λ id. refl) (stage 18) refl)
+      (then (adds staff _ 2 (opening_staff 2 (codes "JON") (codes "VEGA")) (record { is = refl; plain = (refl, refl) }) refl refl refl (λ id. refl) (stage 19) refl)
+      (then (adds staff _ 3 (opening_staff 3 (codes "KIM") (codes "ROSS")) (record { is = refl; plain = (refl, refl) }) refl refl refl (λ id. refl) (stage 20) refl)
+      rest))
 
 pub opening_added : {S : Type 0} (g : Ghosts S) (counts : Counts) (old new : Held S) → Runs g texts old new → HoldsWith counts (state g old) (first_books (token_of 0)) → HoldsWith counts (state g new) opening_books
 opening_added g counts = added.leads g
   where
     added : Leads texts counts (first_books (token_of 0)) opening_books
-    added =
-        then adds_canada (then adds_australia (then adds_english (then adds_action (then adds_comedy (then adds_ann (then adds_bo (then adds_river
-        (then adds_north (then adds_cast_1 (then adds_cast_2 (then adds_cast_3 (then adds_lethbridge (then adds_woodridge (then adds_brisbane
-        (then adds_branch_1 (then adds_branch_2 (then adds_branch_3 (then adds_ida (then adds_jon (then adds_kim (ends counts opening_books)))))))))))))))))))))
+    added = names_added counts _ _ (films_added counts _ _ (places_added counts _ _ (branches_added counts _ _ (staff_added counts _ _ (ends counts opening_books)))))

@@ -1,14 +1,15 @@
 -- What the statements mean, and what they make of the books.
-use Rattle.shop_schema.proofs.Common.{◌≡◌, ◌&&◌, ℕ, pos, List, [], ◌∷◌, ◌++◌, map, true, Option, Some, None, Ok, refl, sym, ap, subst, ◌∙◌, arith, IsPermutation-refl, map_push, Null, Int, Term, lit, col, or_null, Values, Insert, State, ExecutesInside, Means, HasRows, number_value, is_kept, has_put, Moment, owned_by, numbered, Branch, Books, head, shop_schema, chain_table, branch_table, chain_rule_table, chain_columns, branch_columns, moment_value, rule_columns, IsShop, IsKeyed, HaveNoRows, HoldsWith, Writes, first_books, no_counts, cols}
+use Rattle.shop_schema.proofs.Common.{◌≡◌, ◌/◌, ◌&&◌, ℕ, length, Value, eval_all, value_rows, are_kept, columns_of, IsPermutation-same, pos, List, [], ◌∷◌, ◌++◌, map, true, Option, Some, None, Ok, refl, sym, ap, ◌∙◌, arith, IsPermutation-refl, map_push, Null, Int, Term, lit, col, or_null, Values, Insert, State, ExecutesInside, Means, HasRows, number_value, is_kept, has_put, Moment, owned_by, numbered, Branch, Books, head, shop_schema, chain_table, branch_table, chain_rule_table, chain_columns, branch_columns, moment_value, rule_columns, IsShop, IsKeyed, HaveNoRows, HoldsWith, Writes, first_books, no_counts, cols}
 use Rattle.sqlite.specs.declared.types.Value.TheVariants.{Text}
 use Rattle.sqlite_value.specs.Order as sql
 use Rattle.sqlite_tied.specs.Compute.{everything}
 use Rattle.sqlite.specs.Listing.{understood}
 use Rattle.sqlite_schema.specs.declared.schema.Kind.TheVariants as kind
 use Rattle.shop_model.specs.Values as model
-use Rattle.shop_schema.proofs.Stands.{stands_first, stands_but}
+use Rattle.shop_schema.proofs.Stands.{stands_first}
 use Rattle.shop_schema.proofs.Listed.{PutsNext, PutsLast, puts_next, puts_last, next_row, IsNext, push}
 use Rattle.shop_schema.proofs.SharedTables.{countries, languages, categories, cities, actors, films, casts, branches, staff}
+use Rattle.shop_ledger.proofs.Puts.{puts_row}
 use Rattle.shop_store.specs.declared.opening.TheConstants.{INSERT_RULE, INSERT_CHAIN}
 use Rattle.shop_store.specs.declared.puts.TheConstants.{INSERT_COUNTRY, INSERT_LANGUAGE, INSERT_CATEGORY, INSERT_CITY, INSERT_ACTOR, INSERT_FILM, INSERT_CAST, INSERT_BRANCH, INSERT_STAFF}
 use Rattle.shop_store.specs.New.{branch_params, IsRuled}
@@ -107,15 +108,22 @@ branch_means = record { is = refl; plain = (refl, refl) }
 new_branch : (books : Books) (n : ℕ) (x : Branch) → owned_by n books.lasts ≡ [] → branch_columns [] (n, x) ≡ branch_columns books.lasts (n, x)
 new_branch books n x none = ap (λ (ms : List Moment). branch_params n x ++ or_null moment_value (head ms) ∷ []) (sym none)
 
-pub one_more : (books : Books) (n : ℕ) (x : Branch) → IsNext branches n books → owned_by n books.lasts ≡ []
+one_more : (books : Books) (n : ℕ) (x : Branch) → IsNext branches n books → owned_by n books.lasts ≡ []
     → map (branch_columns books.lasts) (numbered books.catalogue.branches) ++ branch_columns [] (n, x) ∷ [] ≡ map (branch_columns books.lasts) (numbered (books.catalogue.branches ++ x ∷ []))
 one_more books n x next none =
     ap (λ (row : sql.Row). map (branch_columns books.lasts) (numbered books.catalogue.branches) ++ row ∷ []) (new_branch books n x none)
     ∙ sym (ap (map (branch_columns books.lasts)) (next_row books.catalogue.branches x n next) ∙ map_push (branch_columns books.lasts) (numbered books.catalogue.branches) (n, x))
 
+-- by any statement; its premises are `refl` where it is known
+pub adds_branch : (text : List ℕ) (terms : List Term) → Means shop_schema text (Insert 8 (Values terms 9)) → (params : sql.Row) (n : ℕ) (x : Branch)
+    → value_rows params 9 (length terms / 9) terms ≡ eval_all terms (params ∷ []) ∷ [] → eval_all terms (params ∷ []) ≡ Null ∷ branch_columns [] (n, x)
+    → are_kept branch_table.columns (branch_columns [] (n, x)) ≡ true → ((id : Value) → columns_of 8 (id ∷ branch_columns [] (n, x)) ≡ branch_columns [] (n, x))
+    → (old new : State) (count : ℕ) → ExecutesInside 0 text params old new (Ok count) → Writes old new (λ books. IsNext branches n books × (owned_by n books.lasts ≡ [])) (push branches x)
+adds_branch text terms means params n x one is kept whole =
+    puts_row 8 branch_table (record { place = refl; uncounted = refl; unstamped = refl }) refl text terms means params (branch_columns [] (n, x)) one is kept whole
+    (λ books. IsNext branches n books × (owned_by n books.lasts ≡ [])) (push branches x) (λ books. map (branch_columns books.lasts) (numbered (books.catalogue.branches ++ x ∷ [])))
+    (λ counts books given. (refl, IsPermutation-same _ _ (one_more books n x given.0 given.1)))
+
 pub puts_branch : (old new : State) (n : ℕ) (x : Branch) (count : ℕ) → ExecutesInside 0 INSERT_BRANCH.now (branch_params n x) old new (Ok count)
     → Writes old new (λ books. IsNext branches n books × (owned_by n books.lasts ≡ [])) (push branches x)
-puts_branch old new n x count h counts books holds given =
-    let done = has_put shop_schema INSERT_BRANCH.now 8 branch_table branch_terms 8 branch_means (record { place = refl; uncounted = refl; unstamped = refl }) (branch_params n x) (branch_columns [] (n, x)) old new count h refl refl (kept_or_null x.manager) (λ id. refl) holds.schema_is in
-    let rows = subst (HasRows 8 (new.now.trees 18)) (one_more books n x given.0 given.1) (done.rows _ holds.stands.branches) in
-    record { schema_is = done.schema_is; keyed = done.keyed holds.keyed; stands = stands_but 8 branch_table refl refl counts counts books (push branches x books) _ refl old.now.trees new.now.trees done.others holds.stands rows }
+puts_branch old new n x = adds_branch INSERT_BRANCH.now branch_terms branch_means (branch_params n x) n x refl refl (kept_or_null x.manager) (λ id. refl) old new

@@ -1,14 +1,16 @@
 -- Whether a branch has a rental of a moment, copy and customer.
-use Rattle.shop_schema.proofs.Common.{◌≡◌, ◌∙◌, inl, inr, refl, sym, ap, ℕ, Bool, true, false, not, List, [], ◌∷◌, map, filter, length, cond, bytes_eq, AllByRecursion, list_any, cases_Bool, bytes_eq-Decides, State, number_value, still_holds, Moment, IsMoment, moment_text, same_moment, Row, is_of, of, Rental, bytes_same, moment_same, shop_schema, IsRow, IsRental, StandsFor, Reads}
+use Rattle.shop_schema.proofs.Common.{◌≡◌, ◌∙◌, inl, inr, refl, sym, ap, ℕ, Bool, true, false, not, List, [], ◌∷◌, length, bytes_eq, AllByRecursion, list_any, cases_Bool, bytes_eq-Decides, State, number_value, Rentals, column, col, number_test, number_tested, text_test, text_tested, two_tested, rental_columns, Moment, IsMoment, moment_text, same_moment, Row, is_of, of, Rental, bytes_same, moment_same, IsRow, IsRental, Reads}
 use Rattle.std.specs.Prelude.{◌==◌, ◌&&◌, ◌||◌}
 use Rattle.std.proofs.lemmas.Bool.{true≢false}
 use Rattle.sqlite.specs.declared.types.Value.TheVariants.{Text}
 use Rattle.sqlite_value.specs.Order as sql
+use Rattle.sqlite_tied.specs.Compute.{everything}
+use Rattle.sqlite.specs.Listing.{understood}
 use Rattle.sqlite.specs.State.{Shown}
 use Rattle.shop_schema.proofs.OneToOne.{one_moment, moment_equal}
 use Rattle.shop_store.specs.declared.rentals.TheConstants.{SELECT_SAME_RENTAL}
-use Rattle.shop_store.proofs.OnRentals.{same_means, is_same, shows_same}
-use Rattle.shop_store.proofs.OnCopies.{more_than_none}
+use Rattle.shop_ledger.proofs.Equals.{equals}
+use Rattle.shop_store.proofs.Whether.{reads_any, any_own}
 
 -- moments are the same where their texts are
 text_of_same : (a m : Moment) → IsMoment a → IsMoment m → bytes_eq (moment_text a) (moment_text m) ≡ same_moment a m
@@ -25,37 +27,33 @@ text_of_same a m p q = elim (cases_Bool (bytes_eq (moment_text a) (moment_text m
   ]
 ]
 
-module _ (b : ℕ) (m : Moment) (x c : ℕ) (real : IsMoment m) where
-  abbrev its : Rental → Bool
-  its it = same_moment it.rented m && it.copy == x && it.customer == c
+abbrev its : Moment → ℕ → ℕ → Rental → Bool
+its m x c it = same_moment it.rented m && it.copy == x && it.customer == c
 
-  nested : (p q r : Bool) → (p && (q && r)) ≡ (p && q && r)
-  nested true q r = refl
-  nested false q r = refl
+-- a rental by all that no two share, the moment by its text
+abbrev is_same : ℕ → List ℕ → ℕ → ℕ → Row Rental → Bool
+is_same b t x c row = row.branch == b && (bytes_eq (moment_text row.it.rented) t && (row.it.copy == x && row.it.customer == c))
 
-  alike : (row : Row Rental) → IsRow IsRental row → is_same b (moment_text m) x c row ≡ (row.branch == b && its row.it)
-  alike row is =
-      ap (λ (t : Bool). row.branch == b && (t && (row.it.copy == x && row.it.customer == c))) (text_of_same row.it.rented m is.2.rented real)
-      ∙ ap (λ (t : Bool). row.branch == b && t) (nested (same_moment row.it.rented m) (row.it.copy == x) (row.it.customer == c))
+-- of rows of moments it is that by the moment
+same_as : (b : ℕ) (m : Moment) (x c : ℕ) → IsMoment m → (rows : List (Row Rental)) → AllByRecursion (IsRow IsRental) rows
+    → list_any (is_same b (moment_text m) x c) rows ≡ list_any (λ row. row.branch == b && its m x c row.it) rows
+same_as b m x c real [] all = refl
+same_as b m x c real (row ∷ rows) all =
+    let text = text_of_same row.it.rented m all.0.2.rented real in
+    λ i. (row.branch == b && (ap (λ (u : Bool). u && (row.it.copy == x && row.it.customer == c)) text ∙ nested (same_moment row.it.rented m) (row.it.copy == x) (row.it.customer == c)) i) || same_as b m x c real rows all.1 i
+  where
+    nested : (p q r : Bool) → (p && (q && r)) ≡ (p && q && r)
+    nested true q r = refl
+    nested false q r = refl
 
-  any_same : (rows : List (Row Rental)) → AllByRecursion (IsRow IsRental) rows → not (length (filter (is_same b (moment_text m) x c) rows) == 0) ≡ list_any its (of b rows)
-  any_same [] all = refl
-  any_same (row ∷ rows) all = go (is_same b (moment_text m) x c row) (row.branch == b) (its row.it) (alike row all.0) refl (any_same rows all.1)
-    where
-      go : (hit own t : Bool) → hit ≡ (own && t) → its row.it ≡ t → not (length (filter (is_same b (moment_text m) x c) rows) == 0) ≡ list_any its (of b rows)
-          → not (length (cond hit (row ∷ filter (is_same b (moment_text m) x c) rows) (filter (is_same b (moment_text m) x c) rows)) == 0)
-          ≡ list_any its (map (λ (it : Row Rental). it.it) (cond own (row ∷ filter (is_of b) rows) (filter (is_of b) rows)))
-      go true true true e q more = more_than_none (length (filter (is_same b (moment_text m) x c) rows)) ∙ sym (ap (λ (v : Bool). v || list_any its (of b rows)) q)
-      go false true false e q more = more ∙ sym (ap (λ (v : Bool). v || list_any its (of b rows)) q)
-      go false false t e q more = more
-      go true true false e q more = absurd (true≢false e)
-      go true false t e q more = absurd (true≢false e)
-      go false true true e q more = absurd (true≢false (sym e))
-
-pub read_same : (old new : State) (b : ℕ) (m : Moment) (x c : ℕ) (has : Bool) (rows : List sql.Row) → IsMoment m
-    → Shown SELECT_SAME_RENTAL.now (number_value b ∷ Text (moment_text m) ∷ number_value x ∷ number_value c ∷ []) old new rows → has ≡ not (length rows == 0)
-    → Reads old new (λ books. has ≡ list_any (λ (it : Rental). same_moment it.rented m && it.copy == x && it.customer == c) (of b books.rentals))
-read_same old new b m x c has rows real h is = λ books holds held. (
-  still_holds shop_schema StandsFor SELECT_SAME_RENTAL.now _ old new same_means.plain rows h books holds,
-  is ∙ ap (λ n. not (n == 0)) (shows_same old new b (moment_text m) x c rows books holds.schema_is h holds.stands) ∙ any_same b m x c real books.rentals held.values.rentals,
-)
+pub read_same : (old new : State) (b : ℕ) (m : Moment) (x c : ℕ) → IsMoment m → (rows : List sql.Row)
+    → Shown SELECT_SAME_RENTAL.now (number_value b ∷ Text (moment_text m) ∷ number_value x ∷ number_value c ∷ []) old new rows
+    → Reads old new (λ books. not (length rows == 0) ≡ list_any (λ (it : Rental). same_moment it.rented m && it.copy == x && it.customer == c) (of b books.rentals))
+unfolding understood everything
+read_same old new b m x c real rows h books holds held =
+    let t : List ℕ = moment_text m in
+    let found =
+    reads_any SELECT_SAME_RENTAL.now 27 7 (equals 0 (1 ∷ 3 ∷ 4 ∷ 5 ∷ [])) (col 1 2 ∷ []) (record { names = _; is = refl; plain = (refl, refl); unlisted = refl }) (λ books. rental_columns) (λ books. books.rentals) (λ books trees s. s.rentals)
+    (number_value b ∷ Text t ∷ number_value x ∷ number_value c ∷ []) (λ vs. number_test 0 b vs && (text_test 2 t vs && (number_test 3 x vs && (number_test 4 c vs && true)))) (λ vs. column vs 1 ∷ []) (is_same b t x c)
+    (λ books row i. number_tested row.branch b i && (text_tested (moment_text row.it.rented) t i && two_tested _ _ (number_tested row.it.copy x) (number_tested row.it.customer c) i)) (λ r. refl) old new rows h books holds held in
+    (found.0, found.1 ∙ same_as b m x c real books.rentals (held.values.rows Rentals) ∙ any_own (is_of b) (λ (row : Row Rental). row.it) (its m x c) books.rentals)

@@ -1,5 +1,6 @@
--- What is read of a shared row by its number.
-use Rattle.shop_schema.proofs.Common.{◌≡◌, ◌≤◌, ◌==◌, ◌&&◌, ℕ, List, [], ◌∷◌, map, length, cond, not, true, Some, None, refl, sym, ap, subst, ◌∙◌, arith, slice_get, list_all, nat_tests, Null, or_null, column, Binary, Term, col, op2, holds, Query, output, Compare, Eq, State, map-map, columns_of, number_value, flag_value, length-map, Selects, plain_query, number_test, one_tested, same_flag, same_or_null, test_of, same_number, projects_one, still_holds, at, is_empty, lacks, numbered, Books, head, shop_schema, StandsFor, Holds, Reads, counts_of}
+-- What is read of a shared row by its number, and of a table's only row.
+use Rattle.shop_schema.proofs.Common.{◌≡◌, ◌≤◌, suc, Trees, HasRows, TellsFirst, ◌==◌, ◌&&◌, ℕ, List, [], ◌∷◌, map, length, cond, not, true, Some, None, refl, sym, ap, subst, ◌∙◌, arith, slice_get, list_all, nat_tests, Null, or_null, column, Binary, Term, col, op2, holds, Query, output, Compare, Eq, State, map-map, columns_of, number_value, flag_value, length-map, Selects, plain_query, number_test, one_tested, same_flag, same_or_null, test_of, same_number, projects_one, still_holds, at, is_empty, lacks, numbered, Books, head, shop_schema, StandsFor, Holds, Reads, counts_of}
+use Rattle.std.specs.Prelude.{Option}
 use Rattle.sqlite_value.specs.Order as sql
 use Rattle.sqlite_tied.specs.Compute.{everything}
 use Rattle.sqlite.specs.Listing.{understood}
@@ -126,3 +127,19 @@ unfolding understood everything
 read_manager old new n rows slice h low =
     reads_first branches SELECT_MANAGER.now (col 1 7 ∷ []) (record { names = _; is = refl; plain = (refl, refl); unlisted = refl }) (λ vs. column vs 6 ∷ []) (λ m r. refl) old new n rows h low
     manager_of (λ row v. column row 0 ≡ or_null number_value v) (λ books x v is. same_or_null number_value number_is_some same_number v x.manager (sym is)) slice
+
+-- ---- a column of a table's only row: `one` says that its values are one to one
+
+pub reads_only : {X V : Type 0} {Fits : sql.Row → V → Type 0} (text : List ℕ) (tree width place : ℕ) → Selects shop_schema text (plain_query tree [] (col 1 (suc place) ∷ []) [])
+    → ((r : sql.Row) → output (plain_query tree [] (col 1 (suc place) ∷ []) []) ([] ∷ r ∷ []) ∷ [] ≡ ([], column (columns_of width r) place ∷ []) ∷ [])
+    → (columns : X → sql.Row) (item : Books → X) → ((books : Books) (trees : Trees) → StandsFor trees books → HasRows width (trees tree) (columns (item books) ∷ []))
+    → ((x y : X) → column (columns x) place ≡ column (columns y) place → x ≡ y) → (told : V → X) → ((row : sql.Row) (v : V) → Fits row v → column row 0 ≡ column (columns (told v)) place)
+    → (old new : State) (rows : List sql.Row) (found : Option V) (v : V) → Shown text [] old new rows → TellsFirst Fits rows found → found ≡ Some v → Reads old new (λ books. told v ≡ item books)
+reads_only {Fits = Fits} text tree width place means only columns item stood one told fits old new rows found v h first is books holds held =
+    let it = subst (TellsFirst Fits rows) is first in
+    let shown : rows ≡ (column (columns (item books)) place ∷ []) ∷ [] =
+    projects_one shop_schema text tree width [] (col 1 (suc place) ∷ []) means [] old new rows holds.schema_is h columns (item books ∷ []) (stood books old.now.trees holds.stands) (own_rows old.now.trees tree)
+    (λ vs. true) (λ vs. column vs place ∷ []) (λ x. true) (λ x. refl) only (omega arith) in
+    let both : Some it.0 ≡ Some (column (columns (item books)) place ∷ []) = it.1 ∙ ap (λ (rs : List sql.Row). slice_get rs 0) shown in
+    let row : it.0 ≡ column (columns (item books)) place ∷ [] = cc in
+    (still_holds shop_schema StandsFor text [] old new means.plain rows h books holds, one (told v) (item books) (sym (fits it.0 v it.2) ∙ ap (λ (r : sql.Row). column r 0) row))

@@ -28,11 +28,19 @@ tells text params one read = does_so one.inside one.says (λ shows seen books ho
 
 any_there : {X : Type 0} (p : X → Bool) (xs : List X) → not (length (filter p xs) == 0) ≡ list_any p xs
 any_there p [] = refl
-any_there {X} p (x ∷ xs) = go (p x) (any_there p xs)
+any_there {X} p (x ∷ xs) =
+    elim (p x) as (λ b. not (length (cond b (x ∷ filter p xs) (filter p xs)) == 0) ≡ (b || list_any p xs))
+    [ true ↦ more_than_none (length (filter p xs)) | false ↦ any_there p xs ]
   where
-    go : (b : Bool) → not (length (filter p xs) == 0) ≡ list_any p xs → not (length (cond b (x ∷ filter p xs) (filter p xs)) == 0) ≡ (b || list_any p xs)
-    go true more = grind (arith, nat_tests)
-    go false more = more
+    more_than_none : (n : ℕ) → not (suc n == 0) ≡ true
+    more_than_none n = grind (arith, nat_tests)
+
+-- among the items of those that pass a test
+pub any_own : {X A : Type 0} (own : X → Bool) (item : X → A) (q : A → Bool) (xs : List X) → list_any (λ x. own x && q (item x)) xs ≡ list_any q (map item (filter own xs))
+any_own own item q [] = refl
+any_own own item q (x ∷ xs) =
+    elim (own x) as (λ b. ((b && q (item x)) || list_any (λ x. own x && q (item x)) xs) ≡ list_any q (map item (cond b (x ∷ filter own xs) (filter own xs))))
+    [ true ↦ ap (λ t. q (item x) || t) (any_own own item q xs) | false ↦ any_own own item q xs ]
 
 any_numbered : {A : Type 0} (q : A → Bool) (k : ℕ) (xs : List A) → list_any (λ (it : ℕ × A). q it.1) (numbered_from k xs) ≡ list_any q xs
 any_numbered q k [] = refl
@@ -84,24 +92,24 @@ abbrev pub ReadsName : ByNumber model.Text → List ℕ → Type 1
 ReadsName t text =
     (old new : State) (name : List ℕ) (rows : List sql.Row) → Shown text (Text name ∷ []) old new rows → Reads old new (λ books. not (length rows == 0) ≡ list_any (bytes_eq name) (t.part.items books))
 
-turned_name : (t : ByNumber model.Text) (old new : State) (name : List ℕ) (found : Bool)
-    → Reads old new (λ books. found ≡ list_any (λ x. bytes_eq x name) (t.part.items books)) → Reads old new (λ books. found ≡ list_any (bytes_eq name) (t.part.items books))
-turned_name t old new name found told books holds held = ((told books holds held).0, (told books holds held).1 ∙ any_turned name (t.part.items books))
+reads_name : (t : ByNumber model.Text) (text : List ℕ) → Selects shop_schema text (with_text t text 1) → ((books : Books) (it : ℕ × model.Text) → column (t.columns books it) 1 ≡ Text it.1)
+    → ((name : List ℕ) (r : sql.Row) → cond (list_all (holds ((Text name ∷ []) ∷ r ∷ [])) (of_text t text 1)) (output (with_text t text 1) ((Text name ∷ []) ∷ r ∷ []) ∷ []) []
+    ≡ cond (text_test 1 name (columns_of (length t.table.columns) r) && true) (([], column (columns_of (length t.table.columns) r) 0 ∷ []) ∷ []) []) → ReadsName t text
+reads_name t text means texts only old new name rows h books holds held =
+    let found = reads_text t text 1 means (λ it. it) texts only old new name rows h books holds held in
+    (found.0, found.1 ∙ any_turned name (t.part.items books))
 
 pub named_country : ReadsName countries SELECT_COUNTRY_NAMED.now
 unfolding understood everything
-named_country old new name rows h =
-    turned_name countries old new name _ (reads_text countries _ 1 (record { names = _; is = refl; plain = (refl, refl); unlisted = refl }) (λ it. it) (λ books it. refl) (λ n r. refl) old new name rows h)
+named_country = reads_name countries _ (record { names = _; is = refl; plain = (refl, refl); unlisted = refl }) (λ books it. refl) (λ n r. refl)
 
 pub named_language : ReadsName languages SELECT_LANGUAGE_NAMED.now
 unfolding understood everything
-named_language old new name rows h =
-    turned_name languages old new name _ (reads_text languages _ 1 (record { names = _; is = refl; plain = (refl, refl); unlisted = refl }) (λ it. it) (λ books it. refl) (λ n r. refl) old new name rows h)
+named_language = reads_name languages _ (record { names = _; is = refl; plain = (refl, refl); unlisted = refl }) (λ books it. refl) (λ n r. refl)
 
 pub named_category : ReadsName categories SELECT_CATEGORY_NAMED.now
 unfolding understood everything
-named_category old new name rows h =
-    turned_name categories old new name _ (reads_text categories _ 1 (record { names = _; is = refl; plain = (refl, refl); unlisted = refl }) (λ it. it) (λ books it. refl) (λ n r. refl) old new name rows h)
+named_category = reads_name categories _ (record { names = _; is = refl; plain = (refl, refl); unlisted = refl }) (λ books it. refl) (λ n r. refl)
 
 pub token_taken : (old new : State) (token : List ℕ) (rows : List sql.Row) → Shown SELECT_WITH_TOKEN.now (Text token ∷ []) old new rows
     → Reads old new (λ books. not (length rows == 0) ≡ list_any (λ (it : Branch). bytes_eq it.token token) books.catalogue.branches)

@@ -1,12 +1,12 @@
 -- What is shown of rentals with their terms, and what is read of it.
-use Rattle.shop_schema.proofs.Common.{◌≡◌, ◌<◌, ◌+◌, ℕ, List, [], ◌∷◌, ◌++◌, length, map, filter, Bool, false, inl, inr, refl, sym, ap, subst, ◌∙◌, arith, append_assoc, is_eq, is_lt, zip, AllByRecursion, cases_Bool, Null, or_null, ascending, Binary, then-Equal, Term, Query, Join, Output, output_cmp, map-map, ascending-map, ascending_weaker, all-filter, all_map, number_value, joined_query, Climbs, unmapped_kind, number_cmp, Row, IsCounted, at, is_of, of, Rental, Terms, Books, shop_of, termed, same_if, moment_value, IsRental, IsTerms, IsHeld}
+use Rattle.shop_schema.proofs.Common.{◌≡◌, ◌<◌, ◌+◌, ℕ, List, [], ◌∷◌, ◌++◌, length, map, filter, Bool, false, inl, inr, refl, sym, ap, subst, ◌∙◌, arith, append_assoc, is_eq, is_lt, zip, AllByRecursion, cases_Bool, Null, or_null, ascending, Binary, then-Equal, Term, Query, Join, Output, output_cmp, map-map, ascending-map, ascending_weaker, all-filter, all_map, number_value, joined_query, Climbs, unmapped_kind, number_cmp, Row, IsCounted, at, is_of, of, Rental, Terms, Books, shop_of, termed, same_if, moment_value, IsRental, IsTerms, IsHeld, Rentals, TermRows}
 use Rattle.std.proofs.lemmas.List.{length-append}
-use Rattle.sqlite_value.specs.Order as sql
 use Rattle.shop_schema.proofs.SameRows.{same_moment_value, same_last}
 use Rattle.shop_ledger.proofs.Rising.{Rise, of_which}
 use Rattle.shop_store.specs.declared.termed.TermedRental.{TermedRental}
 use Rattle.shop_store.specs.Seen.{seen_termed, termed_columns, IsTermed}
-use Rattle.shop_store.proofs.Ascending.{all_of, ascend, at_behind, not_equal, not_less}
+use Rattle.shop_store.proofs.Ascending.{all_of, at_behind, not_equal, not_less}
+use Rattle.sqlite_value.specs.Order as sql
 
 -- ---- what is shown
 
@@ -38,7 +38,7 @@ module _ (from : Join) (tests shows : List Term) (number : Term) (show : Row Ren
   )
 
   pub rentals_climb : (xs : List (Row Rental)) → Rise xs → Climbs asked (map output xs)
-  rentals_climb xs r = ascending-map _ output xs (ascending_weaker (λ (x y : Row Rental). x.number < y.number) _ one_climbs xs (ascend xs r))
+  rentals_climb xs r = ascending-map _ output xs (ascending_weaker (λ (x y : Row Rental). x.number < y.number) _ one_climbs xs r)
 
 -- ---- each with the terms under its number
 
@@ -105,5 +105,5 @@ pub termed_told : (b : ℕ) (q : Rental × Terms → Bool) (books : Books) → I
 termed_told b q books held items kinds is =
     unmapped_kind termed_columns IsTermed same_termed (map seen_termed items) (filter q (termed (shop_of b books))) (all_map IsTermed seen_termed items kinds)
     (all-filter IsTermed q (termed (shop_of b books))
-    (all_termed (of b books.rentals) (of b books.terms) (all_of IsRental b books.rentals held.values.rentals) (all_of IsTerms b books.terms held.values.terms)))
+    (all_termed (of b books.rentals) (of b books.terms) (all_of IsRental b books.rentals (held.values.rows Rentals)) (all_of IsTerms b books.terms (held.values.rows TermRows))))
     (map-map termed_columns seen_termed items ∙ is)

@@ -8,6 +8,7 @@ use Rattle.shop_model.specs.Shop.{Catalogue}
 use Rattle.shop_model.specs.Books.{Caller, Counter, Nobody}
 use Rattle.shop_types.specs.Seen.{seen_film}
 use Rattle.shop_store.specs.declared.films.FilmRow.{FilmRow}
+use Rattle.shop_store.specs.declared.lasts.TheConstants.{SELECT_LAST_COUNTRY, SELECT_LAST_LANGUAGE, SELECT_LAST_CATEGORY, SELECT_LAST_CITY, SELECT_LAST_ACTOR, SELECT_LAST_FILM, SELECT_LAST_BRANCH, SELECT_LAST_STAFF}
 use Rattle.shop_store.specs.declared.lasts.SharedTable.{SharedTable}
 use Rattle.shop_store.specs.declared.lasts.SharedTable.TheVariants as table
 
@@ -41,3 +42,14 @@ how_many table.Actor it = length it.actors
 how_many table.Film it = length it.films
 how_many table.Branch it = length it.branches
 how_many table.Staff it = length it.staff
+
+-- the statement that shows the number of its last row
+abbrev pub last_text : SharedTable → List ℕ
+last_text table.Country = SELECT_LAST_COUNTRY.now
+last_text table.Language = SELECT_LAST_LANGUAGE.now
+last_text table.Category = SELECT_LAST_CATEGORY.now
+last_text table.City = SELECT_LAST_CITY.now
+last_text table.Actor = SELECT_LAST_ACTOR.now
+last_text table.Film = SELECT_LAST_FILM.now
+last_text table.Branch = SELECT_LAST_BRANCH.now
+last_text table.Staff = SELECT_LAST_STAFF.now

@@ -6,7 +6,7 @@ ghost use Rattle.sqlite.specs.State.{Shown};
 ghost use Rattle.sqlite_value.specs.Order.{Row as SqlRow};
 ghost use Rattle.sql_rows.specs.Calls.{DoesInside};
 ghost use Rattle.shop_ledger.specs.Calls.{Finds};
-ghost use Rattle.shop_store.specs.SharedSeen.{IsFirstNumber, how_many};
+ghost use Rattle.shop_store.specs.SharedSeen.{IsFirstNumber, how_many, last_text};
 
 use shop_schema::query_first;
 use sql_rows::{StoreFault, number_at};
@@ -49,6 +49,24 @@ const SELECT_LAST_BRANCH: &str = "SELECT number FROM branch ORDER BY number DESC
 
 const SELECT_LAST_STAFF: &str = "SELECT number FROM staff ORDER BY number DESC LIMIT 1";
 
+impl SharedTable {
+    /// The statement that shows the number of the table's last row.
+    fn last_row(self) -> &'static str
+        ensures { result.now ≡ last_text self }
+    {
+        match self {
+            SharedTable::Country => SELECT_LAST_COUNTRY,
+            SharedTable::Language => SELECT_LAST_LANGUAGE,
+            SharedTable::Category => SELECT_LAST_CATEGORY,
+            SharedTable::City => SELECT_LAST_CITY,
+            SharedTable::Actor => SELECT_LAST_ACTOR,
+            SharedTable::Film => SELECT_LAST_FILM,
+            SharedTable::Branch => SELECT_LAST_BRANCH,
+            SharedTable::Staff => SELECT_LAST_STAFF,
+        }
+    }
+}
+
 /// The number of the table's last row, or 0 where it has none.
 pub fn last_number<S: Alter>(
     tx: &mut Transaction<'_, S>,
@@ -57,14 +75,5 @@ pub fn last_number<S: Alter>(
     ensures { DoesInside S.Store tx.old.conn tx.new.conn result
         (λ last. Finds (λ books. last ≡ how_many table books.catalogue)) }
 {
-    match table {
-        SharedTable::Country => number_shown(tx, SELECT_LAST_COUNTRY),
-        SharedTable::Language => number_shown(tx, SELECT_LAST_LANGUAGE),
-        SharedTable::Category => number_shown(tx, SELECT_LAST_CATEGORY),
-        SharedTable::City => number_shown(tx, SELECT_LAST_CITY),
-        SharedTable::Actor => number_shown(tx, SELECT_LAST_ACTOR),
-        SharedTable::Film => number_shown(tx, SELECT_LAST_FILM),
-        SharedTable::Branch => number_shown(tx, SELECT_LAST_BRANCH),
-        SharedTable::Staff => number_shown(tx, SELECT_LAST_STAFF),
-    }
+    number_shown(tx, table.last_row())
 }

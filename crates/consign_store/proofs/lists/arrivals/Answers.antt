@@ -1,6 +1,6 @@
-use Rattle.shop_schema.proofs.Common.{◌∙◌, ap, filter, array}
+use Rattle.shop_schema.proofs.Common.{◌==◌, ◌∙◌, ap, filter, array}
 use Rattle.consign_store.specs.declared.lists.ListKind.TheVariants.{Arrivals}
-use Rattle.consign_store.proofs.ListTexts.{arrivals_ask, shows_arrivals, is_arrival}
+use Rattle.consign_store.proofs.ListTexts.{arrivals_ask, shows_arrivals}
 use Rattle.consign_store.proofs.ListRuns.{arrivals_text_is}
 use Rattle.consign_store.proofs.ListLines.{list_ends}
 use Rattle.consign_store.proofs.lists.arrivals.Goals as goal
@@ -12,5 +12,5 @@ pub returns-clause-text : goal.returns-clause-text
 returns-clause-text g c clean books holds held =
     let told = c.in_ok-each_row.ensures.took clean in
     let rows = shows_arrivals _ _ c.args.branch _ books holds.schema_is (rw (c.to_sql.ensures, c.get.ensures.value) at told.1) holds.stands held in
-    list_ends _ _ _ _ Arrivals (filter (is_arrival c.args.branch) books.consignments) c.empty-taker.ensures told.2 rows c.in_ok-finish.ensures
+    list_ends _ _ _ _ Arrivals (filter (λ it. it.addressee == c.args.branch) books.consignments) c.empty-taker.ensures told.2 rows c.in_ok-finish.ensures
     ∙ ap array (arrivals_text_is c.args.branch books.consignments held.numbers.consignments)

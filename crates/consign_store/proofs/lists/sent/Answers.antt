@@ -1,6 +1,6 @@
-use Rattle.shop_schema.proofs.Common.{◌∙◌, ap, filter, array}
+use Rattle.shop_schema.proofs.Common.{◌==◌, ◌∙◌, ap, filter, array}
 use Rattle.consign_store.specs.declared.lists.ListKind.TheVariants.{Sent}
-use Rattle.consign_store.proofs.ListTexts.{sent_asks, shows_sent, is_sent}
+use Rattle.consign_store.proofs.ListTexts.{sent_asks, shows_sent}
 use Rattle.consign_store.proofs.ListRuns.{parcels_text_is}
 use Rattle.consign_store.proofs.ListLines.{list_ends}
 use Rattle.consign_store.proofs.lists.sent.Goals as goal
@@ -12,5 +12,5 @@ pub returns-clause-text : goal.returns-clause-text
 returns-clause-text g c clean books holds held =
     let told = c.in_ok-each_row.ensures.took clean in
     let rows = shows_sent _ _ c.args.branch _ books holds.schema_is (rw (c.to_sql.ensures, c.get.ensures.value) at told.1) holds.stands held in
-    list_ends _ _ _ _ Sent (filter (is_sent c.args.branch) books.consignments) c.empty-taker.ensures told.2 rows c.in_ok-finish.ensures
+    list_ends _ _ _ _ Sent (filter (λ it. it.source == c.args.branch) books.consignments) c.empty-taker.ensures told.2 rows c.in_ok-finish.ensures
     ∙ ap array (parcels_text_is c.args.branch books.consignments held.numbers.consignments)

@@ -1,12 +1,11 @@
-use Rattle.std.proofs.Common.{◌≤◌, refl, rules, arith}
+use Rattle.std.proofs.Common.{refl, rules, arith}
 use Rattle.shop_ledger.proofs.Doing.{does_first}
 use Rattle.shop_store.proofs.SharedReads.{read_manager}
 use Rattle.shop_store.proofs.branches.branch_manager.Goals as goal
 
 pub returns : goal.returns
 returns g c =
-    let low : 1 ≤ c.args.branch = omega arith in
     does_first _ _ c.query_first.ensures.inside (rw (c.to_sql.ensures, c.get.ensures.value) at c.query_first.ensures.shown)
     (λ rows these.
-    let read = read_manager _ _ c.args.branch rows rows these low refl in
+    let read = read_manager _ _ c.args.branch rows rows these (omega arith) refl in
     (read.0, λ row it some says. read.1 row it some (search rules)))

@@ -1,4 +1,4 @@
-use Rattle.shop_schema.proofs.Common.{refl, rules, inside_as}
+use Rattle.shop_schema.proofs.Common.{rules, inside_as}
 use Rattle.shop_store.proofs.TokenReads.{read_office_token}
 use Rattle.shop_store.proofs.chain.office_token.Goals as goal
 
@@ -7,5 +7,5 @@ returns-in-Some g c = record {
   inside = inside_as c.in_ok-query_first.ensures.inside;
   says = λ clean.
       let these = c.in_ok-query_first.ensures.shown clean in
-      read_office_token (λ row token says. search rules) _ _ _ _ _ c.in-Some.token these.1 refl these.2 c.in-Some.is;
+      read_office_token (λ row token says. search rules) _ _ _ _ c.in-Some.token these.1 these.2 c.in-Some.is;
 }

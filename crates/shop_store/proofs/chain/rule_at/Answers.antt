@@ -1,4 +1,4 @@
-use Rattle.shop_schema.proofs.Common.{refl, rules, inside_as}
+use Rattle.shop_schema.proofs.Common.{rules, inside_as}
 use Rattle.shop_store.proofs.OnRule.{read_rule}
 use Rattle.shop_store.proofs.chain.rule_at.Goals as goal
 
@@ -7,5 +7,5 @@ returns-in-Some g c = record {
   inside = inside_as c.in_ok-query_first.ensures.inside;
   says = λ clean.
       let these = c.in_ok-query_first.ensures.shown clean in
-      read_rule (λ row rule says. search rules) _ _ _ _ _ c.in-Some.rule these.1 refl these.2 c.in-Some.is;
+      read_rule (λ row rule says. search rules) _ _ _ _ c.in-Some.rule these.1 these.2 c.in-Some.is;
 }

@@ -1,7 +1,6 @@
 use Rattle.shop_ledger.proofs.Doing.{does_so}
-use Rattle.shop_store.specs.Seen.{seen_copy_row}
 use Rattle.shop_store.proofs.OnCopies.{write_copy}
 use Rattle.shop_store.proofs.copies.put_copy.Goals as goal
 
 pub returns : goal.returns
-returns g c = does_so c.execute.ensures.inside (rw c.values.ensures at c.execute.ensures.ran) (λ _ ran. write_copy _ _ (seen_copy_row c.args.row) ran.0 ran.1)
+returns g c = does_so c.execute.ensures.inside (rw c.values.ensures at c.execute.ensures.ran) (λ _ ran. write_copy _ _ _ ran.0 ran.1)

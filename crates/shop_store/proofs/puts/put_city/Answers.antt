@@ -1,7 +1,6 @@
 use Rattle.shop_ledger.proofs.Doing.{does_so}
-use Rattle.shop_store.specs.New.{seen_city}
 use Rattle.shop_store.proofs.PutTexts.{puts_city}
 use Rattle.shop_store.proofs.puts.put_city.Goals as goal
 
 pub returns : goal.returns
-returns g c = does_so c.execute.ensures.inside c.execute.ensures.ran (λ _ ran. puts_city _ _ c.args.city.now.number (seen_city c.args.city.now) ran.0 (rw c.values.ensures at ran.1))
+returns g c = does_so c.execute.ensures.inside c.execute.ensures.ran (λ _ ran. puts_city _ _ _ _ ran.0 (rw c.values.ensures at ran.1))

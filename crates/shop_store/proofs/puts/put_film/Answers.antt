@@ -1,7 +1,6 @@
 use Rattle.shop_ledger.proofs.Doing.{does_so}
-use Rattle.shop_store.specs.New.{seen_film}
 use Rattle.shop_store.proofs.PutTexts.{puts_film}
 use Rattle.shop_store.proofs.puts.put_film.Goals as goal
 
 pub returns : goal.returns
-returns g c = does_so c.execute.ensures.inside c.execute.ensures.ran (λ _ ran. puts_film _ _ c.args.film.now.number (seen_film c.args.film.now) ran.0 (rw c.values.ensures at ran.1))
+returns g c = does_so c.execute.ensures.inside c.execute.ensures.ran (λ _ ran. puts_film _ _ _ _ ran.0 (rw c.values.ensures at ran.1))

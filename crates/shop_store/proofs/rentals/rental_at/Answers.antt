@@ -1,7 +1,6 @@
-use Rattle.shop_schema.proofs.Common.{Ok, refl}
 use Rattle.shop_ledger.proofs.Doing.{does_so}
 use Rattle.shop_store.proofs.OnRentals.{read_rental}
 use Rattle.shop_store.proofs.rentals.rental_at.Goals as goal
 
 pub returns : goal.returns
-returns g c = does_so c.query_one.ensures.inside (rw (c.to_sql.ensures, c.get.ensures.value, c.to_sql-2.ensures, c.get-2.ensures.value) at c.query_one.ensures.shown) (λ x it. read_rental _ _ c.args.branch c.args.number it.0 it.0 (Ok x) it.1 refl it.2 it.3)
+returns g c = does_so c.query_one.ensures.inside (rw (c.to_sql.ensures, c.get.ensures.value, c.to_sql-2.ensures, c.get-2.ensures.value) at c.query_one.ensures.shown) (λ o it. read_rental _ _ c.args.branch c.args.number it.0 o it.1 it.2 it.3)

@@ -1,9 +1,7 @@
-use Rattle.std.proofs.Common.{◌≤◌, arith}
+use Rattle.std.proofs.Common.{arith}
 use Rattle.shop_store.proofs.Whether.{tells}
 use Rattle.shop_store.proofs.SharedReads.{read_category}
 use Rattle.shop_store.proofs.rows.has_category.Goals as goal
 
 pub returns : goal.returns
-returns g c =
-    let low : 1 ≤ c.args.category = omega arith in
-    tells _ _ (rw (c.to_sql.ensures, c.get.ensures.value) at c.shows_row.ensures) (λ rows shown. read_category _ _ c.args.category rows shown low)
+returns g c = tells _ _ (rw (c.to_sql.ensures, c.get.ensures.value) at c.shows_row.ensures) (λ rows shown. read_category _ _ c.args.category rows shown (omega arith))
