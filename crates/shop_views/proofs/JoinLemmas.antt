@@ -16,10 +16,6 @@ joined_texts f separator text slice texts xs is same each =
     is ∙ ap (λ (l : List (String Global)). join_by string_bytes separator l) same
     ∙ join_map string_bytes separator texts ∙ ap (λ (l : List (List ℕ)). join_by (λ (piece : List ℕ). piece) separator l) each ∙ sym (join_map f separator xs)
 
-pub each_itself : (texts : List (List ℕ)) → texts ≡ map (λ (text : List ℕ). text) texts
-each_itself [] = refl
-each_itself (text ∷ texts) = ap (λ (l : List (List ℕ)). text ∷ l) (each_itself texts)
-
 -- what was made of the values so far, with one more
 pub made_more : {X Y Z : Type 0} (seen : Y → Z) (told : X → Z) (xs : List X) (i : ℕ) (x : X) (old new : List Y) (y : Y) → i < length xs → x ≡ get_or xs i x → new ≡ old ++ y ∷ [] → seen y ≡ told x
     → map seen old ≡ map told (take i xs) → map seen new ≡ map told (take (i + 1) xs)

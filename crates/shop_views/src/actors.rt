@@ -1,13 +1,14 @@
 //! Actors as the list of actors shows them, each with the films by category.
 
-ghost use Rattle.std.specs.Prelude.{◌≡◌, codes, false, map, IfOk, string_bytes};
+ghost use Rattle.std.specs.Prelude.{◌≡◌, codes, map, IfOk, string_bytes};
 ghost use Rattle.std.specs.List.{join_by};
 ghost use Rattle.serde_json.specs.View.{view};
-ghost use Rattle.serde_json.specs.Written.{compact_text, has_float};
 ghost use Rattle.shop_model.specs.Values.{Text};
 ghost use Rattle.shop_model.specs.Answers.{listed_actor};
 ghost use Rattle.shop_views.specs.Films.{films_text, seen_actor, actor_data};
 
+use crate::joins::{Told, joined};
+use crate::lists::ListedRow;
 use crate::names::{PersonName, with_between};
 use crate::{Field, object_of};
 use serde_json::Value;
@@ -32,50 +33,22 @@ pub struct ActorRow {
     pub groups: Vec<FilmGroup>,
 }
 
-/// The titles, each as a text of its own.
-fn title_texts(alloc: Global, titles: &[T128]) -> Result<Vec<String>, AllocError>
-    ensures { IfOk result (λ texts. map string_bytes texts.items ≡ titles.now) }
-{
-    let mut texts = Vec::with_capacity(alloc, titles.len())?;
-    for title in titles {
-        texts.push_reserved(String::from_str(alloc, title.as_str())?);
+impl Told for T128 {
+    ghost told = { λ title. title };
+
+    fn text(alloc: Global, it: &T128) -> Result<String, AllocError> {
+        String::from_str(alloc, it.as_str())
     }
-    Ok(texts)
 }
 
-/// The titles in their order, with a comma and a blank between.
-fn joined_titles(alloc: Global, titles: &[T128]) -> Result<String, AllocError>
-    ensures { IfOk result (λ s. string_bytes s ≡ join_by (λ (title : Text). title) (codes ", ") titles.now) }
-{
-    let texts = title_texts(alloc, titles)?;
-    texts.as_slice().join(alloc, ", ")
-}
+/// The films of a category: its name, a colon and the titles, with a comma and a blank between.
+impl Told for FilmGroup {
+    ghost told = { films_text };
 
-/// The films of a category: its name, a colon and the titles.
-fn films_text(alloc: Global, films: &FilmGroup) -> Result<String, AllocError>
-    ensures { IfOk result (λ s. string_bytes s ≡ films_text films.now) }
-{
-    let titles = joined_titles(alloc, films.titles.as_slice())?;
-    with_between(alloc, films.category.as_str(), ": ", titles.as_str())
-}
-
-/// The films of each category, each as a text of its own.
-fn group_texts(alloc: Global, groups: &[FilmGroup]) -> Result<Vec<String>, AllocError>
-    ensures { IfOk result (λ texts. map string_bytes texts.items ≡ map films_text groups.now) }
-{
-    let mut texts = Vec::with_capacity(alloc, groups.len())?;
-    for films in groups {
-        texts.push_reserved(films_text(alloc, films)?);
+    fn text(alloc: Global, it: &FilmGroup) -> Result<String, AllocError> {
+        let titles = joined(alloc, it.titles.as_slice(), ", ")?;
+        with_between(alloc, it.category.as_str(), ": ", titles.as_str())
     }
-    Ok(texts)
-}
-
-/// The films of all categories, with a semicolon and a blank between.
-fn film_info(alloc: Global, groups: &[FilmGroup]) -> Result<String, AllocError>
-    ensures { IfOk result (λ s. string_bytes s ≡ join_by films_text (codes "; ") groups.now) }
-{
-    let texts = group_texts(alloc, groups)?;
-    texts.as_slice().join(alloc, "; ")
 }
 
 /// The actor with that text of the films.
@@ -93,18 +66,14 @@ fn actor_object<'a>(alloc: Global, row: &'a ActorRow, films: &'a str) -> Result<
     )
 }
 
-fn actor_value(alloc: Global, row: &ActorRow) -> Result<Value, AllocError>
-    ensures { IfOk result (λ v. view v ≡ actor_data (seen_actor row.now)) }
-{
-    let films = film_info(alloc, row.groups.as_slice())?;
-    actor_object(alloc, row, films.as_str())
-}
-
 /// An actor of `actor_info`, as an object: who plays in no film has an empty `film_info`.
-pub fn actor_row(alloc: Global, row: &ActorRow) -> Result<Value, AllocError>
-    ensures value { IfOk result (λ v. view v ≡ actor_data (seen_actor row.now)) }
-    ensures text { IfOk result (λ v. compact_text (view v) ≡ listed_actor (seen_actor row.now)) }
-    ensures no_float { IfOk result (λ v. has_float (view v) ≡ false) }
-{
-    actor_value(alloc, row)
+impl ListedRow for ActorRow {
+    ghost json = { λ row. actor_data (seen_actor row) };
+
+    ghost written = { λ row. listed_actor (seen_actor row) };
+
+    fn value(alloc: Global, row: &ActorRow) -> Result<Value, AllocError> {
+        let films = joined(alloc, row.groups.as_slice(), "; ")?;
+        actor_object(alloc, row, films.as_str())
+    }
 }

@@ -2,8 +2,8 @@
 
 ghost use Rattle.std.specs.Prelude.{◌≡◌, false, IfOk};
 ghost use Rattle.serde_json.specs.View.{view};
-ghost use Rattle.serde_json.specs.Written.{compact_text, has_float};
 ghost use Rattle.shop_views.specs.Consignments.{seen_listed, arrival_data, arrival_text, sent_data, sent_text, transit_data, transit_text};
+ghost use Rattle.shop_views.specs.Lists.{IsRow};
 
 use crate::{Field, object_of};
 use serde_json::Value;
@@ -65,27 +65,21 @@ fn transit_value(alloc: Global, it: &ListedConsignment) -> Result<Value, AllocEr
 
 /// The consignment in the list of its addressee's arrivals, as an object.
 pub fn arrival_row(alloc: Global, it: &ListedConsignment) -> Result<Value, AllocError>
-    ensures value { IfOk result (λ v. view v ≡ arrival_data (seen_listed it.now)) }
-    ensures text { IfOk result (λ v. compact_text (view v) ≡ arrival_text (seen_listed it.now)) }
-    ensures no_float { IfOk result (λ v. has_float (view v) ≡ false) }
+    ensures { IfOk result (λ v. IsRow arrival_data arrival_text (seen_listed it.now) (view v)) }
 {
     arrival_value(alloc, it)
 }
 
 /// The consignment in the list of what its sender sent, as an object: whether it is received isn't shown.
 pub fn sent_row(alloc: Global, it: &ListedConsignment) -> Result<Value, AllocError>
-    ensures value { IfOk result (λ v. view v ≡ sent_data (seen_listed it.now)) }
-    ensures text { IfOk result (λ v. compact_text (view v) ≡ sent_text (seen_listed it.now)) }
-    ensures no_float { IfOk result (λ v. has_float (view v) ≡ false) }
+    ensures { IfOk result (λ v. IsRow sent_data sent_text (seen_listed it.now) (view v)) }
 {
     sent_value(alloc, it)
 }
 
 /// The consignment in the list of all that are under way, as an object.
 pub fn transit_row(alloc: Global, it: &ListedConsignment) -> Result<Value, AllocError>
-    ensures value { IfOk result (λ v. view v ≡ transit_data (seen_listed it.now)) }
-    ensures text { IfOk result (λ v. compact_text (view v) ≡ transit_text (seen_listed it.now)) }
-    ensures no_float { IfOk result (λ v. has_float (view v) ≡ false) }
+    ensures { IfOk result (λ v. IsRow transit_data transit_text (seen_listed it.now) (view v)) }
 {
     transit_value(alloc, it)
 }

@@ -1,12 +1,13 @@
 //! Films as the list of films shows them, each with its actors.
 
-ghost use Rattle.std.specs.Prelude.{◌≡◌, false, IfOk};
+ghost use Rattle.std.specs.Prelude.{◌≡◌, IfOk};
 ghost use Rattle.serde_json.specs.View.{view};
-ghost use Rattle.serde_json.specs.Written.{compact_text, has_float};
 ghost use Rattle.shop_model.specs.Answers.{listed_film};
 ghost use Rattle.shop_views.specs.Films.{film_with, seen_film, film_data};
 
-use crate::names::{PersonName, joined_names};
+use crate::joins::joined;
+use crate::lists::ListedRow;
+use crate::names::PersonName;
 use crate::{Field, object_of};
 use serde_json::Value;
 use shop_types::{Minutes, Rating};
@@ -52,18 +53,14 @@ fn film_object<'a>(alloc: Global, row: &'a ListedFilm, actors: &'a str) -> Resul
     )
 }
 
-fn film_value(alloc: Global, row: &ListedFilm) -> Result<Value, AllocError>
-    ensures { IfOk result (λ v. view v ≡ film_data (seen_film row.now)) }
-{
-    let actors = joined_names(alloc, row.actors.as_slice())?;
-    film_object(alloc, row, actors.as_str())
-}
-
 /// A film of `film_list`, as an object: `length` is `null` where it isn't known.
-pub fn film_row(alloc: Global, row: &ListedFilm) -> Result<Value, AllocError>
-    ensures value { IfOk result (λ v. view v ≡ film_data (seen_film row.now)) }
-    ensures text { IfOk result (λ v. compact_text (view v) ≡ listed_film (seen_film row.now)) }
-    ensures no_float { IfOk result (λ v. has_float (view v) ≡ false) }
-{
-    film_value(alloc, row)
+impl ListedRow for ListedFilm {
+    ghost json = { λ row. film_data (seen_film row) };
+
+    ghost written = { λ row. listed_film (seen_film row) };
+
+    fn value(alloc: Global, row: &ListedFilm) -> Result<Value, AllocError> {
+        let actors = joined(alloc, row.actors.as_slice(), ", ")?;
+        film_object(alloc, row, actors.as_str())
+    }
 }

@@ -4,6 +4,7 @@ ghost use Rattle.std.specs.Prelude.{◌≡◌, ◌++◌, codes, map, IfOk, strin
 ghost use Rattle.std.specs.List.{join_by};
 ghost use Rattle.shop_views.specs.Names.{name_text};
 
+use crate::joins::Told;
 use shop_values::T45;
 use std::alloc::{AllocError, Global};
 
@@ -33,21 +34,10 @@ pub(crate) fn full_name(alloc: Global, first: &str, last: &str) -> Result<String
     with_between(alloc, first, " ", last)
 }
 
-/// The names, each as a text of its own.
-fn name_texts(alloc: Global, names: &[PersonName]) -> Result<Vec<String>, AllocError>
-    ensures { IfOk result (λ texts. map string_bytes texts.items ≡ map name_text names.now) }
-{
-    let mut texts = Vec::with_capacity(alloc, names.len())?;
-    for name in names {
-        texts.push_reserved(full_name(alloc, name.first.as_str(), name.last.as_str())?);
-    }
-    Ok(texts)
-}
+impl Told for PersonName {
+    ghost told = { name_text };
 
-/// The names in their order, with a comma and a blank between.
-pub(crate) fn joined_names(alloc: Global, names: &[PersonName]) -> Result<String, AllocError>
-    ensures { IfOk result (λ s. string_bytes s ≡ join_by name_text (codes ", ") names.now) }
-{
-    let texts = name_texts(alloc, names)?;
-    texts.as_slice().join(alloc, ", ")
+    fn text(alloc: Global, it: &PersonName) -> Result<String, AllocError> {
+        full_name(alloc, it.first.as_str(), it.last.as_str())
+    }
 }

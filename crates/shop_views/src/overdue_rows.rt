@@ -1,9 +1,9 @@
-ghost use Rattle.std.specs.Prelude.{◌≡◌, false, IfOk};
+ghost use Rattle.std.specs.Prelude.{◌≡◌, IfOk};
 ghost use Rattle.serde_json.specs.View.{view};
-ghost use Rattle.serde_json.specs.Written.{compact_text, has_float};
 ghost use Rattle.shop_model.specs.Answers.{overdue_text};
 ghost use Rattle.shop_views.specs.Overdue.{overdue_data, seen_overdue};
 
+use crate::lists::ListedRow;
 use crate::names::with_between;
 use crate::{Field, object_of};
 use serde_json::Value;
@@ -38,18 +38,14 @@ fn overdue_object<'a>(
     )
 }
 
-fn overdue_value(alloc: Global, row: &OverdueRow) -> Result<Value, AllocError>
-    ensures { IfOk result (λ v. view v ≡ overdue_data (seen_overdue row.now)) }
-{
-    let customer = with_between(alloc, row.last.as_str(), ", ", row.first.as_str())?;
-    overdue_object(alloc, row, customer.as_str())
-}
-
 /// One rental, as an object.
-pub fn overdue_row(alloc: Global, row: &OverdueRow) -> Result<Value, AllocError>
-    ensures value { IfOk result (λ v. view v ≡ overdue_data (seen_overdue row.now)) }
-    ensures text { IfOk result (λ v. compact_text (view v) ≡ overdue_text (seen_overdue row.now)) }
-    ensures no_float { IfOk result (λ v. has_float (view v) ≡ false) }
-{
-    overdue_value(alloc, row)
+impl ListedRow for OverdueRow {
+    ghost json = { λ row. overdue_data (seen_overdue row) };
+
+    ghost written = { λ row. overdue_text (seen_overdue row) };
+
+    fn value(alloc: Global, row: &OverdueRow) -> Result<Value, AllocError> {
+        let customer = with_between(alloc, row.last.as_str(), ", ", row.first.as_str())?;
+        overdue_object(alloc, row, customer.as_str())
+    }
 }

@@ -1,13 +1,13 @@
 //! A JSON list that is written value by value.
 
-ghost use Rattle.std.specs.Prelude.{◌≡◌, List, [], ◌∷◌, ◌++◌, false, Some, IfOk, OnOk, OnErr, string_bytes};
-ghost use Rattle.serde_json.specs.Data.{Data, array};
-ghost use Rattle.serde_json.specs.View.{view, items_of};
+ghost use Rattle.std.specs.Prelude.{◌≡◌, List, [], ◌∷◌, ◌++◌, false, IfOk, OnOk, OnErr, string_bytes};
+ghost use Rattle.serde_json.specs.View.{view};
 ghost use Rattle.serde_json.specs.Written.{compact_text, has_float};
-ghost use Rattle.shop_model.specs.Machine.{Shown};
-ghost use Rattle.shop_model.specs.Answers.{shown_text};
-ghost use Rattle.shop_views.specs.Page.{opening, closing, HasValues, values_of};
+ghost use Rattle.shop_model.specs.Json.{array};
+ghost use Rattle.shop_model.specs.Values.{Text};
+ghost use Rattle.shop_views.specs.Page.{opening, closing, HasTexts};
 
+use crate::lists::ListedRow;
 use serde_json::Value;
 use std::alloc::{AllocError, Global};
 use std::marker::Model;
@@ -56,7 +56,7 @@ fn closing(some: bool) -> &'static str
 impl ListPage {
     /// The list with no value. It takes no memory.
     pub fn new(alloc: Global) -> ListPage
-        ensures { HasValues result [] }
+        ensures { HasTexts result [] }
     {
         ListPage {
             alloc,
@@ -67,8 +67,8 @@ impl ListPage {
 
     /// Puts the value last. For want of memory the page stays as it was.
     pub fn add(&mut self, value: &Value) -> Result<(), AllocError>
-        ensures added { OnOk result ((values : List Data) → has_float (view value.now) ≡ false
-            → HasValues self.old values → HasValues self.new (values ++ view value.now ∷ [])) }
+        ensures added { OnOk result ((texts : List Text) → has_float (view value.now) ≡ false
+            → HasTexts self.old texts → HasTexts self.new (texts ++ compact_text (view value.now) ∷ [])) }
         ensures same { OnErr result (self.new ≡ self.old) }
     {
         let piece = piece(self.alloc, self.has_items, value)?;
@@ -77,12 +77,18 @@ impl ListPage {
         Ok(())
     }
 
+    /// Puts the row's value last.
+    pub fn add_row<R: ListedRow>(&mut self, row: &R) -> Result<(), AllocError>
+        ensures { OnOk result ((texts : List Text) → HasTexts self.old texts
+            → HasTexts self.new (texts ++ R.ListedRow.written row.now ∷ [])) }
+    {
+        let value = R::value(self.alloc, row)?;
+        self.add(&value)
+    }
+
     /// The text of the whole list.
     pub fn finish(self) -> Result<String, AllocError>
-        ensures text { IfOk result (λ s. (values : List Data) → HasValues self values
-            → string_bytes s ≡ compact_text (array (items_of values))) }
-        ensures shown { IfOk result (λ s. (shown : Shown) (values : List Data) → values_of shown ≡ Some values
-            → HasValues self values → string_bytes s ≡ shown_text shown) }
+        ensures { IfOk result (λ s. (texts : List Text) → HasTexts self texts → string_bytes s ≡ array texts) }
     {
         let ListPage {
             mut text,

@@ -1,11 +1,11 @@
 //! Customers and staff as the lists of people show them.
 
-ghost use Rattle.std.specs.Prelude.{◌≡◌, [], codes, false, if◌then◌else◌, IfOk};
+ghost use Rattle.std.specs.Prelude.{◌≡◌, [], codes, if◌then◌else◌, IfOk};
 ghost use Rattle.serde_json.specs.View.{view};
-ghost use Rattle.serde_json.specs.Written.{compact_text, has_float};
 ghost use Rattle.shop_model.specs.Answers.{listed_customer, person_text};
 ghost use Rattle.shop_views.specs.People.{person_as, seen_customer, seen_staff, customer_data, staff_data};
 
+use crate::lists::ListedRow;
 use crate::names::{PersonName, full_name};
 use crate::{Field, object_of};
 use serde_json::Value;
@@ -78,21 +78,17 @@ fn customer_object<'a>(
     )
 }
 
-fn customer_value(alloc: Global, row: &ListedCustomer) -> Result<Value, AllocError>
-    ensures { IfOk result (λ v. view v ≡ customer_data (seen_customer row.now)) }
-{
-    let names = &row.person.name;
-    let name = full_name(alloc, names.first.as_str(), names.last.as_str())?;
-    customer_object(alloc, row, name.as_str())
-}
-
 /// A customer of `customer_list`, as an object: `id` is the customer's number, and who may not rent has an empty note.
-pub fn customer_row(alloc: Global, row: &ListedCustomer) -> Result<Value, AllocError>
-    ensures value { IfOk result (λ v. view v ≡ customer_data (seen_customer row.now)) }
-    ensures text { IfOk result (λ v. compact_text (view v) ≡ listed_customer (seen_customer row.now)) }
-    ensures no_float { IfOk result (λ v. has_float (view v) ≡ false) }
-{
-    customer_value(alloc, row)
+impl ListedRow for ListedCustomer {
+    ghost json = { λ row. customer_data (seen_customer row) };
+
+    ghost written = { λ row. listed_customer (seen_customer row) };
+
+    fn value(alloc: Global, row: &ListedCustomer) -> Result<Value, AllocError> {
+        let names = &row.person.name;
+        let name = full_name(alloc, names.first.as_str(), names.last.as_str())?;
+        customer_object(alloc, row, name.as_str())
+    }
 }
 
 /// The member of staff by that whole name.
@@ -115,19 +111,15 @@ fn staff_object<'a>(alloc: Global, row: &'a ListedStaff, name: &'a str) -> Resul
     )
 }
 
-fn staff_value(alloc: Global, row: &ListedStaff) -> Result<Value, AllocError>
-    ensures { IfOk result (λ v. view v ≡ staff_data (seen_staff row.now)) }
-{
-    let names = &row.person.name;
-    let name = full_name(alloc, names.first.as_str(), names.last.as_str())?;
-    staff_object(alloc, row, name.as_str())
-}
-
 /// A member of staff of `staff_list`, as an object: `id` is the number of the member of staff.
-pub fn staff_row(alloc: Global, row: &ListedStaff) -> Result<Value, AllocError>
-    ensures value { IfOk result (λ v. view v ≡ staff_data (seen_staff row.now)) }
-    ensures text { IfOk result (λ v. compact_text (view v) ≡ person_text [] (seen_staff row.now)) }
-    ensures no_float { IfOk result (λ v. has_float (view v) ≡ false) }
-{
-    staff_value(alloc, row)
+impl ListedRow for ListedStaff {
+    ghost json = { λ row. staff_data (seen_staff row) };
+
+    ghost written = { λ row. person_text [] (seen_staff row) };
+
+    fn value(alloc: Global, row: &ListedStaff) -> Result<Value, AllocError> {
+        let names = &row.person.name;
+        let name = full_name(alloc, names.first.as_str(), names.last.as_str())?;
+        staff_object(alloc, row, name.as_str())
+    }
 }

@@ -1,11 +1,11 @@
 //! The rows of the two views of sales.
 
-ghost use Rattle.std.specs.Prelude.{◌≡◌, false, IfOk, string_bytes};
+ghost use Rattle.std.specs.Prelude.{◌≡◌, IfOk, string_bytes};
 ghost use Rattle.serde_json.specs.View.{view};
-ghost use Rattle.serde_json.specs.Written.{compact_text, has_float};
 ghost use Rattle.shop_model.specs.Answers.{listed_store, listed_category};
 ghost use Rattle.shop_views.specs.Sales.{manager_text, seen_store, seen_category, store_data, category_data};
 
+use crate::lists::ListedRow;
 use crate::names::{PersonName, full_name, with_between};
 use crate::{Field, object_of};
 use serde_json::Value;
@@ -64,21 +64,17 @@ fn store_object<'a>(
     )
 }
 
-fn store_value(alloc: Global, row: &StoreRow) -> Result<Value, AllocError>
-    ensures { IfOk result (λ v. view v ≡ store_data (seen_store row.now)) }
-{
-    let store = with_between(alloc, row.city.as_str(), ",", row.country.as_str())?;
-    let manager = manager_name(alloc, &row.manager)?;
-    store_object(alloc, store.as_str(), manager.as_str(), row.total)
-}
-
 /// The row of `sales_by_store`, as an object.
-pub fn store_row(alloc: Global, row: &StoreRow) -> Result<Value, AllocError>
-    ensures value { IfOk result (λ v. view v ≡ store_data (seen_store row.now)) }
-    ensures text { IfOk result (λ v. compact_text (view v) ≡ listed_store (seen_store row.now)) }
-    ensures no_float { IfOk result (λ v. has_float (view v) ≡ false) }
-{
-    store_value(alloc, row)
+impl ListedRow for StoreRow {
+    ghost json = { λ row. store_data (seen_store row) };
+
+    ghost written = { λ row. listed_store (seen_store row) };
+
+    fn value(alloc: Global, row: &StoreRow) -> Result<Value, AllocError> {
+        let store = with_between(alloc, row.city.as_str(), ",", row.country.as_str())?;
+        let manager = manager_name(alloc, &row.manager)?;
+        store_object(alloc, store.as_str(), manager.as_str(), row.total)
+    }
 }
 
 fn category_value(alloc: Global, row: &CategoryRow) -> Result<Value, AllocError>
@@ -94,10 +90,12 @@ fn category_value(alloc: Global, row: &CategoryRow) -> Result<Value, AllocError>
 }
 
 /// A row of `sales_by_film_category`, as an object.
-pub fn category_row(alloc: Global, row: &CategoryRow) -> Result<Value, AllocError>
-    ensures value { IfOk result (λ v. view v ≡ category_data (seen_category row.now)) }
-    ensures text { IfOk result (λ v. compact_text (view v) ≡ listed_category (seen_category row.now)) }
-    ensures no_float { IfOk result (λ v. has_float (view v) ≡ false) }
-{
-    category_value(alloc, row)
+impl ListedRow for CategoryRow {
+    ghost json = { λ row. category_data (seen_category row) };
+
+    ghost written = { λ row. listed_category (seen_category row) };
+
+    fn value(alloc: Global, row: &CategoryRow) -> Result<Value, AllocError> {
+        category_value(alloc, row)
+    }
 }

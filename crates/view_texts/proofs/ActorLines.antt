@@ -1,16 +1,16 @@
 -- A row of the actors' join, taken.
 use Rattle.shop_schema.proofs.Common.{◌≡◌, ◌==◌, ℕ, Bool, true, false, cond, List, [], ◌∷◌, ◌++◌, codes, map, Option, Some, None, option_map, refl, sym, ap, subst, ◌∙◌, join_by, map-append, column, number_value, same_number, ActorRow}
-use Rattle.serde_json.specs.Data.{Data}
+use Rattle.shop_model.specs.Answers.{listed_actor}
 use Rattle.sqlite.specs.declared.types.Value.TheVariants.{Text}
 use Rattle.sqlite_value.specs.Order as sql
 use Rattle.shop_model.specs.Values as model
-use Rattle.shop_views.specs.Films.{films_text, actor_data}
-use Rattle.shop_views.specs.Page.{Page, HasValues}
+use Rattle.shop_views.specs.Films.{films_text}
+use Rattle.shop_views.specs.Page.{Page, HasTexts}
 use Rattle.shop_views.specs.declared.actors.FilmGroup.{FilmGroup}
 use Rattle.view_texts.specs.declared.actors.OpenGroup.{OpenGroup}
 use Rattle.view_texts.specs.declared.actors.StartedActor.{StartedActor}
 use Rattle.view_texts.specs.Actors.{ActorLine, Group, Groups, ToldFilm, shown_actor, text_of, told_film, take_film, take_any, every_group, seen_group, seen_open, ActorPart, actor_alone, whole, seen_part, Grouped, closed, take_line, runs}
-use Rattle.view_texts.proofs.PageLines.{split_last}
+use Rattle.sql_rows.proofs.EachLemmas.{split_last}
 use Rattle.view_texts.proofs.PersonLines.{same_words}
 use Rattle.view_texts.proofs.FilmRuns.{join_map}
 use Rattle.view_texts.proofs.ActorRuns.{run_push}
@@ -58,15 +58,15 @@ actor_is row number first last complete at0 at1 at2 none line is =
 -- what an actor under way comes to by a line, and what is on the page then
 abbrev pub Takes : Page → Page → Option StartedActor → StartedActor → ActorLine → List ActorRow → Type 0
 Takes old new held it line actors =
-    HasValues old (map actor_data actors)
-    → HasValues new (map actor_data (take_line (actors, option_map seen_part held) line).0) × (◌≡◌ {A = Option ActorPart} (Some (seen_part it)) (take_line (actors, option_map seen_part held) line).1)
+    HasTexts old (map listed_actor actors)
+    → HasTexts new (map listed_actor (take_line (actors, option_map seen_part held) line).0) × (◌≡◌ {A = Option ActorPart} (Some (seen_part it)) (take_line (actors, option_map seen_part held) line).1)
 
-pushed_actor : (actors : List ActorRow) (row : ActorRow) → map actor_data actors ++ actor_data row ∷ [] ≡ map actor_data (actors ++ row ∷ [])
-pushed_actor actors row = sym (map-append actor_data actors (row ∷ []))
+pushed_actor : (actors : List ActorRow) (row : ActorRow) → map listed_actor actors ++ listed_actor row ∷ [] ≡ map listed_actor (actors ++ row ∷ [])
+pushed_actor actors row = sym (map-append listed_actor actors (row ∷ []))
 
 -- a row of another actor: the one under way goes on the page
 pub other_actor : (old new : Page) (row : sql.Row) (line : ActorLine) (actors : List ActorRow) (number : ℕ) (actor fresh it : StartedActor) → column row 0 ≡ number_value number → row ≡ shown_actor line → (number == actor.number) ≡ false
-    → ((values : List Data) → HasValues old values → HasValues new (values ++ actor_data (whole (seen_part actor)) ∷ []))
+    → ((texts : List model.Text) → HasTexts old texts → HasTexts new (texts ++ listed_actor (whole (seen_part actor)) ∷ []))
     → seen_part fresh ≡ (actor_alone line.0, ([], None)) → seen_part it ≡ ((seen_part fresh).0, take_any (seen_part fresh).1 (option_map told_film line.1))
     → (held : Option StartedActor) → held ≡ Some actor → Takes old new held it line actors
 other_actor old new row line actors number actor fresh it numbered shown other added alone seen held is =
@@ -78,28 +78,28 @@ other_actor old new row line actors number actor fresh it numbered shown other a
     let began : seen_part it ≡ begun = seen ∙ ap (λ (part : ActorPart). (part.0, take_any part.1 (option_map told_film line.1))) alone in
     subst (λ (o : Option StartedActor). Takes old new o it line actors) (sym is)
     (λ on. (
-      subst (HasValues new) (pushed_actor actors (whole (seen_part actor)) ∙ ap (λ (s : Grouped). map actor_data s.0) (sym taken)) (added (map actor_data actors) on),
+      subst (HasTexts new) (pushed_actor actors (whole (seen_part actor)) ∙ ap (λ (s : Grouped). map listed_actor s.0) (sym taken)) (added (map listed_actor actors) on),
       ap Some began ∙ ap (λ (s : Grouped). s.1) (sym taken),
     ))
 
 -- ---- the last actor
 
 -- the page has all actors, once the one under way is on it
-pub last_actor : (old new : Page) (actors : List ActorRow) (actor : StartedActor) → ((values : List Data) → HasValues old values → HasValues new (values ++ actor_data (whole (seen_part actor)) ∷ []))
-    → HasValues old (map actor_data actors) → (held : Option StartedActor) → held ≡ Some actor → HasValues new (map actor_data (closed (actors, option_map seen_part held)))
+pub last_actor : (old new : Page) (actors : List ActorRow) (actor : StartedActor) → ((texts : List model.Text) → HasTexts old texts → HasTexts new (texts ++ listed_actor (whole (seen_part actor)) ∷ []))
+    → HasTexts old (map listed_actor actors) → (held : Option StartedActor) → held ≡ Some actor → HasTexts new (map listed_actor (closed (actors, option_map seen_part held)))
 last_actor old new actors actor added on held is =
-    subst (λ (o : Option StartedActor). HasValues new (map actor_data (closed (actors, option_map seen_part o)))) (sym is) (subst (HasValues new) (pushed_actor actors (whole (seen_part actor))) (added (map actor_data actors) on))
+    subst (λ (o : Option StartedActor). HasTexts new (map listed_actor (closed (actors, option_map seen_part o)))) (sym is) (subst (HasTexts new) (pushed_actor actors (whole (seen_part actor))) (added (map listed_actor actors) on))
 
-pub no_last_actor : (page : Page) (actors : List ActorRow) → HasValues page (map actor_data actors) → (held : Option StartedActor) → held ≡ None → HasValues page (map actor_data (closed (actors, option_map seen_part held)))
-no_last_actor page actors on held is = subst (λ (o : Option StartedActor). HasValues page (map actor_data (closed (actors, option_map seen_part o)))) (sym is) on
+pub no_last_actor : (page : Page) (actors : List ActorRow) → HasTexts page (map listed_actor actors) → (held : Option StartedActor) → held ≡ None → HasTexts page (map listed_actor (closed (actors, option_map seen_part held)))
+no_last_actor page actors on held is = subst (λ (o : Option StartedActor). HasTexts page (map listed_actor (closed (actors, option_map seen_part o)))) (sym is) on
 
 -- ---- one row more
 
 pub actor_taken : (old new : Page) (held taken : Option StartedActor) (it : StartedActor) (given : List sql.Row) (row : sql.Row) → taken ≡ held
     → ((line : ActorLine) (actors : List ActorRow) → row ≡ shown_actor line → Takes old new taken it line actors)
-    → ((lines : List ActorLine) → given ≡ map shown_actor lines → HasValues old (map actor_data (runs lines).0) × (option_map seen_part held ≡ (runs lines).1))
+    → ((lines : List ActorLine) → given ≡ map shown_actor lines → HasTexts old (map listed_actor (runs lines).0) × (option_map seen_part held ≡ (runs lines).1))
     → (lines : List ActorLine) → given ++ row ∷ [] ≡ map shown_actor lines
-    → HasValues new (map actor_data (runs lines).0) × (◌≡◌ {A = Option ActorPart} (Some (seen_part it)) (runs lines).1)
+    → HasTexts new (map listed_actor (runs lines).0) × (◌≡◌ {A = Option ActorPart} (Some (seen_part it)) (runs lines).1)
 actor_taken old new held taken it given row same next so_far lines e =
     let parts = split_last shown_actor given row lines e in
     let before = so_far parts.0 parts.2 in
@@ -107,9 +107,9 @@ actor_taken old new held taken it given row same next so_far lines e =
     let state : ◌≡◌ {A = Grouped} ((runs parts.0).0, option_map seen_part taken) (runs parts.0) = (λ i. ((runs parts.0).0, (ap (option_map seen_part) same ∙ before.1) i)) in
     let run : take_line ((runs parts.0).0, option_map seen_part taken) parts.1 ≡ runs lines =
     ap (λ (s : Grouped). take_line s parts.1) state ∙ sym (run_push ([], None) parts.0 parts.1) ∙ ap runs (sym parts.4) in
-    (subst (λ (s : Grouped). HasValues new (map actor_data s.0)) run after.0, after.1 ∙ ap (λ (s : Grouped). s.1) run)
+    (subst (λ (s : Grouped). HasTexts new (map listed_actor s.0)) run after.0, after.1 ∙ ap (λ (s : Grouped). s.1) run)
 
-pub nothing_taken : (page : Page) → HasValues page [] → (lines : List ActorLine) → [] ≡ map shown_actor lines
-    → HasValues page (map actor_data (runs lines).0) × (◌≡◌ {A = Option ActorPart} None (runs lines).1)
+pub nothing_taken : (page : Page) → HasTexts page [] → (lines : List ActorLine) → [] ≡ map shown_actor lines
+    → HasTexts page (map listed_actor (runs lines).0) × (◌≡◌ {A = Option ActorPart} None (runs lines).1)
 nothing_taken page new [] e = (new, refl)
 nothing_taken page new (line ∷ lines) e = absurd cc

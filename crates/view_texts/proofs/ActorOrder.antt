@@ -10,8 +10,9 @@ use Rattle.view_texts.specs.Actors.{FilmIn, ActorLine, shown_actor, films_by_cat
 use Rattle.view_texts.proofs.Orders.{less, equal}
 use Rattle.view_texts.proofs.Casts.{AreApart}
 use Rattle.view_texts.proofs.ByText.{by_text, Rises, sorted_up}
-use Rattle.view_texts.proofs.ActorQuery.{select_actors, actors_query, actors_mean, actor_shows, actor_order, with_cast}
+use Rattle.view_texts.proofs.ActorQuery.{actors_query, actors_mean, actor_shows, actor_order, with_cast}
 use Rattle.view_texts.proofs.ActorJoin.{actor_output, films_there, actor_brings}
+use Rattle.view_texts.specs.declared.actors.TheConstants.{SELECT_ACTORS}
 
 abbrev name_of : ℕ × model.Text → model.Text
 name_of c = c.1
@@ -110,7 +111,7 @@ actors_up catalogue k (actor ∷ actors) =
 
 -- ---- the rows
 
-pub shows_actors : (old new : State) (rows : List sql.Row) (books : Books) → IsShop old → Shown select_actors [] old new rows → StandsFor old.now.trees books → AreApart books.catalogue.casts → NamesRowsOf books.catalogue books.catalogue
+pub shows_actors : (old new : State) (rows : List sql.Row) (books : Books) → IsShop old → Shown SELECT_ACTORS.now [] old new rows → StandsFor old.now.trees books → AreApart books.catalogue.casts → NamesRowsOf books.catalogue books.catalogue
     → rows ≡ map shown_actor (actor_lines books.catalogue)
 shows_actors old new rows books shop h s apart names =
     let catalogue = books.catalogue in
@@ -120,6 +121,6 @@ shows_actors old new rows books shop h s apart names =
     joined_rows 12 with_cast [] actor_shows actor_order [] db 3 actor_columns (numbered catalogue.actors) s.actors refl (λ r. refl)
     (λ actor. map actor_output (lines_with actor (films_by_category catalogue actor.0)))
     (λ actor. actor_brings catalogue names.film_categories db s.categories s.casts s.films apart (films_there catalogue catalogue.casts names.cast_films) actor)
-    rows (answers shop_schema select_actors actors_query [] old new shop actors_mean rows h)
+    rows (answers shop_schema SELECT_ACTORS.now actors_query [] old new shop actors_mean rows h)
     (map actor_output (actor_lines catalogue)) (IsPermutation-same _ _ (sym (map-flat_map actor_output (λ (actor : ℕ × Actor). lines_with actor (films_by_category catalogue actor.0)) (numbered catalogue.actors)))) up
     ∙ map-map (λ (o : Output). o.1) actor_output (actor_lines catalogue)

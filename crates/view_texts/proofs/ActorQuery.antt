@@ -1,10 +1,8 @@
 -- What the text of the actors' view means.
-use Rattle.shop_schema.proofs.Common.{ℕ, List, [], ◌∷◌, codes, refl, ascending, Key, Binary, Term, col, Query, Join, inner, left, end, IsQuery, Selects, is_query, shop_schema, joined_query, are_equal}
+use Rattle.shop_schema.proofs.Common.{List, [], ◌∷◌, refl, ascending, Key, Binary, Term, col, Query, Join, inner, left, end, IsQuery, Selects, is_query, shop_schema, joined_query, are_equal}
 use Rattle.sqlite_tied.specs.Compute.{everything}
 use Rattle.sqlite.specs.Listing.{understood}
-
-abbrev pub select_actors : List ℕ
-select_actors = codes "SELECT a.number, a.first, a.last, k.number, k.name, f.title FROM actor AS a LEFT JOIN film_actor AS fa ON fa.actor = a.number LEFT JOIN film AS f ON f.number = fa.film LEFT JOIN category AS k ON k.number = f.category ORDER BY a.number, k.name, k.number, f.title, f.number"
+use Rattle.view_texts.specs.declared.actors.TheConstants.{SELECT_ACTORS}
 
 -- what is joined to a film, to a cast, and to an actor
 abbrev pub with_category : Join
@@ -25,10 +23,10 @@ actor_order = (col 1 1, ascending Binary) ∷ (col 4 2, ascending Binary) ∷ (c
 abbrev pub actors_query : Query
 actors_query = joined_query (inner 12 with_cast) [] actor_shows actor_order
 
-pub actors_mean : Selects shop_schema select_actors actors_query
+pub actors_mean : Selects shop_schema SELECT_ACTORS.now actors_query
 unfolding understood everything
 actors_mean = record { names = _; is = refl; plain = (refl, refl); unlisted = refl }
 
-pub actors_ask : IsQuery select_actors
+pub actors_ask : IsQuery SELECT_ACTORS.now
 unfolding everything
-actors_ask = is_query select_actors (record { parsed = _; is = refl; selects = refl; untimed = refl })
+actors_ask = is_query SELECT_ACTORS.now (record { parsed = _; is = refl; selects = refl; untimed = refl })

@@ -7,7 +7,7 @@ use Rattle.view_texts.specs.Shown.{text_or_empty}
 use Rattle.view_texts.specs.Payments.{PaidLine, shown_line, Sale, sale_in}
 use Rattle.view_texts.specs.CategorySums.{shown_category, seen_sum, sum_in, summed}
 use Rattle.view_texts.specs.declared.categories.CategorySum.{CategorySum}
-use Rattle.view_texts.proofs.PageLines.{split_last}
+use Rattle.sql_rows.proofs.EachLemmas.{split_last}
 
 pub names_none : (items : List CategorySum) → items ≡ [] → (categories : List (ℕ × Text)) → [] ≡ map shown_category categories → map seen_sum items ≡ map (sum_in []) categories
 names_none items none [] e = ap (map seen_sum) none

@@ -1,10 +1,8 @@
 -- What the text of the categories means.
-use Rattle.shop_schema.proofs.Common.{ℕ, List, [], ◌∷◌, codes, refl, ascending, Key, Binary, Term, col, Query, inner, end, IsQuery, Selects, is_query, joined_query, shop_schema}
+use Rattle.shop_schema.proofs.Common.{List, [], ◌∷◌, refl, ascending, Key, Binary, Term, col, Query, inner, end, IsQuery, Selects, is_query, joined_query, shop_schema}
 use Rattle.sqlite_tied.specs.Compute.{everything}
 use Rattle.sqlite.specs.Listing.{understood}
-
-abbrev pub select_categories : List ℕ
-select_categories = codes "SELECT number, name FROM category ORDER BY number"
+use Rattle.view_texts.specs.declared.categories.TheConstants.{SELECT_CATEGORIES}
 
 abbrev pub category_shows : List Term
 category_shows = col 1 1 ∷ col 1 2 ∷ []
@@ -15,10 +13,10 @@ category_order = (col 1 1, ascending Binary) ∷ []
 abbrev pub categories_query : Query
 categories_query = joined_query (inner 7 end) [] category_shows category_order
 
-pub categories_mean : Selects shop_schema select_categories categories_query
+pub categories_mean : Selects shop_schema SELECT_CATEGORIES.now categories_query
 unfolding understood everything
 categories_mean = record { names = _; is = refl; plain = (refl, refl); unlisted = refl }
 
-pub categories_ask : IsQuery select_categories
+pub categories_ask : IsQuery SELECT_CATEGORIES.now
 unfolding everything
-categories_ask = is_query select_categories (record { parsed = _; is = refl; selects = refl; untimed = refl })
+categories_ask = is_query SELECT_CATEGORIES.now (record { parsed = _; is = refl; selects = refl; untimed = refl })

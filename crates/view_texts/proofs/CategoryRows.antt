@@ -5,18 +5,19 @@ use Rattle.sqlite_value.specs.Order as sql
 use Rattle.sqlite.specs.State.{Shown}
 use Rattle.shop_schema.proofs.Lasts.{numbered_counted}
 use Rattle.view_texts.specs.CategorySums.{shown_category}
-use Rattle.view_texts.proofs.CategoryQuery.{select_categories, categories_query, categories_mean, category_shows, category_order}
+use Rattle.view_texts.proofs.CategoryQuery.{categories_query, categories_mean, category_shows, category_order}
 use Rattle.view_texts.proofs.Orders.{counted_rise, numbered_output, climb_up}
+use Rattle.view_texts.specs.declared.categories.TheConstants.{SELECT_CATEGORIES}
 
 -- all categories, in the order of their numbers
-pub shows_categories : (old new : State) (rows : List sql.Row) (books : Books) → IsShop old → Shown select_categories [] old new rows → StandsFor old.now.trees books
+pub shows_categories : (old new : State) (rows : List sql.Row) (books : Books) → IsShop old → Shown SELECT_CATEGORIES.now [] old new rows → StandsFor old.now.trees books
     → rows ≡ map shown_category (numbered books.catalogue.categories)
 shows_categories old new rows books shop h s =
     let all = numbered books.catalogue.categories in
     let output = numbered_output (λ (it : ℕ × Text). it.0) shown_category in
     joined_rows 7 end [] category_shows category_order [] old.now.trees 2 named_columns all s.categories refl (λ r. refl)
     (λ x. output x ∷ []) (λ x. IsPermutation-same _ _ refl)
-    rows (answers shop_schema select_categories categories_query [] old new shop categories_mean rows h)
+    rows (answers shop_schema SELECT_CATEGORIES.now categories_query [] old new shop categories_mean rows h)
     (map output all) (IsPermutation-same _ _ (flat_map_single output all))
     (climb_up (λ (it : ℕ × Text). it.0) shown_category (inner 7 end) [] category_shows (col 1 1) all (counted_rise (λ (it : ℕ × Text). it.0) 1 all (numbered_counted 1 books.catalogue.categories)))
     ∙ map-map (λ (o : Output). o.1) output all

@@ -3,14 +3,14 @@ use Rattle.shop_schema.proofs.Common.{◌≡◌, ◌==◌, ◌&&◌, ◌<◌, �
 use Rattle.sqlite.specs.declared.types.Value.TheVariants.{Text}
 use Rattle.sqlite_value.specs.Order as sql
 use Rattle.sqlite.specs.State.{Shown}
-use Rattle.shop_model.specs.Values as model
 use Rattle.shop_store.proofs.LastNumbers.{above_from, numbered_rise}
 use Rattle.view_texts.specs.Shown.{name_or_null, FilmLine, shown_film, actors_of, lines_of, film_lines}
 use Rattle.view_texts.proofs.Lefts.{by_known, by_number}
 use Rattle.view_texts.proofs.Orders.{less, greater, equal}
 use Rattle.shop_schema.proofs.Numbers.{left_null}
 use Rattle.view_texts.proofs.Casts.{casts_of, played_by, cast_bag, there_one, any_cast, differ_in, AreApart, AreThere}
-use Rattle.view_texts.proofs.FilmQuery.{select_films, films_query, films_mean, film_shows, film_order, with_actor, with_cast, with_category}
+use Rattle.view_texts.proofs.FilmQuery.{films_query, films_mean, film_shows, film_order, with_actor, with_cast, with_category}
+use Rattle.view_texts.specs.declared.films.TheConstants.{SELECT_FILMS}
 
 abbrev pub film_output : Catalogue → FilmLine → Output
 film_output catalogue line = (number_value line.0.0 ∷ or_null (λ (it : ℕ × Actor). number_value it.0) line.1 ∷ [], shown_film catalogue line)
@@ -141,7 +141,7 @@ films_up catalogue k (film ∷ films) =
     (of_film (k, film) actors _ (λ actor. all-flat_map (λ line. Later ((k, film), actor) line) (λ (it : ℕ × Film). lines_of it (actors_of catalogue it.0)) (numbered_from (k + 1) films)
     (all_weaker (λ (it : ℕ × Film). k < it.0) _ (λ it h. of_film it (actors_of catalogue it.0) _ (λ other. inl h)) (numbered_from (k + 1) films) (above_from (k + 1) films k (omega arith)))))
 
-pub shows_films : (old new : State) (rows : List sql.Row) (books : Books) → IsShop old → Shown select_films [] old new rows → StandsFor old.now.trees books → AreApart books.catalogue.casts → AreThere books.catalogue books.catalogue.casts
+pub shows_films : (old new : State) (rows : List sql.Row) (books : Books) → IsShop old → Shown SELECT_FILMS.now [] old new rows → StandsFor old.now.trees books → AreApart books.catalogue.casts → AreThere books.catalogue books.catalogue.casts
     → rows ≡ map (shown_film books.catalogue) (film_lines books.catalogue)
 shows_films old new rows books shop h s apart there =
     let catalogue = books.catalogue in
@@ -150,6 +150,6 @@ shows_films old new rows books shop h s apart there =
     ascending-map _ (film_output catalogue) (film_lines catalogue) (ascending_weaker Later _ (climbs catalogue) (film_lines catalogue) (films_up catalogue 1 catalogue.films)) in
     joined_rows 14 with_category [] film_shows film_order [] db 12 film_columns (numbered catalogue.films) s.films refl (λ r. refl)
     (λ film. map (film_output catalogue) (lines_of film (actors_of catalogue film.0))) (λ film. film_brings catalogue db s.categories s.casts s.actors apart there film)
-    rows (answers shop_schema select_films films_query [] old new shop films_mean rows h)
+    rows (answers shop_schema SELECT_FILMS.now films_query [] old new shop films_mean rows h)
     (map (film_output catalogue) (film_lines catalogue)) (IsPermutation-same _ _ (sym (map-flat_map (film_output catalogue) (λ (film : ℕ × Film). lines_of film (actors_of catalogue film.0)) (numbered catalogue.films)))) up
     ∙ map-map (λ (o : Output). o.1) (film_output catalogue) (film_lines catalogue)

@@ -1,10 +1,8 @@
 -- What the text of the films' view means.
-use Rattle.shop_schema.proofs.Common.{ℕ, List, [], ◌∷◌, codes, refl, ascending, Key, Binary, Term, col, Query, Join, inner, left, end, IsQuery, Selects, is_query, shop_schema, joined_query, are_equal}
+use Rattle.shop_schema.proofs.Common.{List, [], ◌∷◌, refl, ascending, Key, Binary, Term, col, Query, Join, inner, left, end, IsQuery, Selects, is_query, shop_schema, joined_query, are_equal}
 use Rattle.sqlite_tied.specs.Compute.{everything}
 use Rattle.sqlite.specs.Listing.{understood}
-
-abbrev pub select_films : List ℕ
-select_films = codes "SELECT f.number, f.title, f.description, k.name, f.rate, f.length, f.rating, a.first, a.last FROM film AS f LEFT JOIN category AS k ON k.number = f.category LEFT JOIN film_actor AS fa ON fa.film = f.number LEFT JOIN actor AS a ON a.number = fa.actor ORDER BY f.number, fa.actor"
+use Rattle.view_texts.specs.declared.films.TheConstants.{SELECT_FILMS}
 
 -- what is joined to a cast, to a category, and to a film
 abbrev pub with_actor : Join
@@ -25,10 +23,10 @@ film_order = (col 1 1, ascending Binary) ∷ (col 3 2, ascending Binary) ∷ []
 abbrev pub films_query : Query
 films_query = joined_query (inner 14 with_category) [] film_shows film_order
 
-pub films_mean : Selects shop_schema select_films films_query
+pub films_mean : Selects shop_schema SELECT_FILMS.now films_query
 unfolding understood everything
 films_mean = record { names = _; is = refl; plain = (refl, refl); unlisted = refl }
 
-pub films_ask : IsQuery select_films
+pub films_ask : IsQuery SELECT_FILMS.now
 unfolding everything
-films_ask = is_query select_films (record { parsed = _; is = refl; selects = refl; untimed = refl })
+films_ask = is_query SELECT_FILMS.now (record { parsed = _; is = refl; selects = refl; untimed = refl })

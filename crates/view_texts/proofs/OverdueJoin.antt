@@ -1,16 +1,17 @@
 -- What the join of what is out shows of the books: each open rental of the branch, with its terms, its customer and the title of its film.
-use Rattle.shop_schema.proofs.Common.{◌≡◌, ◌≤◌, ◌==◌, ◌&&◌, ℕ, List, [], ◌∷◌, ◌++◌, map, filter, length, true, cond, refl, sym, ap, subst, ◌∙◌, arith, append-nil, append_assoc, is_none, AllByRecursion, flat_map, filter-append, IsPermutation-refl, Value, Null, or_null, column, Trees, col, inner, Output, overlay, State, map-map, all-filter, IsPermutation-same, HasRows, PicksOne, columns_of, number_value, answers, kept_as_map, or_blank, shown_of, equals, left_pair, joined_rows, Row, is_of, is_row, Film, Rental, Books, head, same_test, filter_filter, shop_schema, moment_value, customer_columns, rental_columns, terms_columns, out_columns, is_open, out_of, IsHeld, StandsFor, Holds}
+use Rattle.shop_schema.proofs.Common.{◌≡◌, ◌≤◌, ◌==◌, ◌&&◌, ℕ, List, [], ◌∷◌, ◌++◌, map, filter, length, true, cond, refl, sym, ap, subst, ◌∙◌, arith, append-nil, append_assoc, is_none, AllByRecursion, flat_map, filter-append, IsPermutation-refl, Value, Null, or_null, column, Trees, col, inner, Output, overlay, State, map-map, all-filter, IsPermutation-same, HasRows, PicksOne, columns_of, number_value, answers, kept_as_map, or_blank, shown_of, equals, left_pair, joined_rows, Row, is_of, is_row, Film, Rental, Books, head, same_test, filter_filter, shop_schema, moment_value, customer_columns, rental_columns, terms_columns, out_columns, is_open, out_of, IsHeld, StandsFor, Holds, CopyRows, Customers, Rentals, TermRows}
 use Rattle.std.specs.Prelude.{Bool}
 use Rattle.std.proofs.lemmas.List.{length-append}
 use Rattle.sqlite.specs.declared.types.Value.TheVariants.{Text}
-use Rattle.sqlite_value.specs.Order as sql
 use Rattle.sqlite.specs.State.{Shown}
 use Rattle.shop_schema.proofs.Lists.{picks_row}
 use Rattle.shop_ledger.proofs.Rising.{of_which, which_rise}
 use Rattle.shop_store.proofs.WithTerms.{rentals_climb}
 use Rattle.view_texts.proofs.CopyFilms.{copy_films, of_copy}
 use Rattle.view_texts.proofs.Orders.{kept_if}
-use Rattle.view_texts.proofs.OverdueQuery.{select_outs, outs_query, outs_mean, out_tests, out_shows, out_order, with_copy, with_customer, with_terms, with_rental}
+use Rattle.view_texts.proofs.OverdueQuery.{outs_query, outs_mean, out_tests, out_shows, out_order, with_copy, with_customer, with_terms, with_rental}
+use Rattle.view_texts.specs.declared.overdue.TheConstants.{SELECT_OUTS}
+use Rattle.sqlite_value.specs.Order as sql
 
 -- ---- one row at most
 
@@ -99,13 +100,13 @@ module _ (b : ℕ) (books : Books) (held : IsHeld books) (db : Trees) (s : Stand
   copy_brings c3 c4 =
       of_copy books db s 1 title_of refl (λ n film. refl)
       (λ r6. cond (equals (number_value x.branch) (number_value b) && true) ((number_value x.number ∷ [], moment_value x.it.rented ∷ column c3 3 ∷ column c4 2 ∷ column c4 3 ∷ column c4 6 ∷ column r6 2 ∷ []) ∷ []) [])
-      (given c3 c4) (λ c. kept_if x.branch b _ _) (λ r. refl) x.branch (picks_row x.branch books.copies (held.numbers.copies x.branch)) x.it.copy
+      (given c3 c4) (λ c. kept_if x.branch b _ _) (λ r. refl) x.branch (picks_row x.branch books.copies (held.numbers.rows CopyRows x.branch)) x.it.copy
 
   -- ---- its customer, its terms, and the rental
 
   customer_brings : (c3 : sql.Row) → shown_of outs_query (overlay db []) with_customer (params ∷ out ∷ rental ∷ (Null ∷ c3) ∷ []) ≡ given c3 (customer_row books x) (rental_title books x)
   customer_brings c3 =
-      let few = picks_row x.branch books.customers (held.numbers.customers x.branch) x.it.customer in
+      let few = picks_row x.branch books.customers (held.numbers.rows Customers x.branch) x.it.customer in
       left_pair 10 customer_columns (db 23) books.customers s.customers after (λ r. refl) (λ it. it.branch) (λ it. it.number) (λ it. refl) (λ it. refl) (λ r. refl) (λ r. refl) x.branch x.it.customer few
       ∙ first_brings 10 customer_columns (λ c4. after (Null ∷ c4)) (filter (is_row x.branch x.it.customer) books.customers) few
       ∙ copy_brings c3 (customer_row books x)
@@ -115,7 +116,7 @@ module _ (b : ℕ) (books : Books) (held : IsHeld books) (db : Trees) (s : Stand
 
   terms_bring : shown_of outs_query (overlay db []) with_terms (params ∷ out ∷ rental ∷ []) ≡ given (terms_row books x) (customer_row books x) (rental_title books x)
   terms_bring =
-      let few = picks_row x.branch books.terms (held.numbers.terms x.branch) x.number in
+      let few = picks_row x.branch books.terms (held.numbers.rows TermRows x.branch) x.number in
       left_pair 5 terms_columns (db 57) books.terms s.more.terms_are after (λ r. refl) (λ it. it.branch) (λ it. it.number) (λ it. refl) (λ it. refl) (λ r. refl) (λ r. refl) x.branch x.number few
       ∙ first_brings 5 terms_columns (λ c3. after (Null ∷ c3)) (filter (is_row x.branch x.number) books.terms) few
       ∙ customer_brings (terms_row books x)
@@ -130,7 +131,7 @@ module _ (b : ℕ) (books : Books) (held : IsHeld books) (db : Trees) (s : Stand
   rental_brings : filter (is_row x.branch x.number) books.rentals ≡ x ∷ [] → brought ≡ cond (x.branch == b) ((number_value x.number ∷ [], shown_open books x) ∷ []) []
   rental_brings alone =
       left_pair 7 rental_columns (db 27) books.rentals s.rentals after (λ r. refl) (λ it. it.branch) (λ it. it.number) (λ it. refl) (λ it. refl) (λ r. refl) (λ r. refl) x.branch x.number
-      (picks_row x.branch books.rentals (held.numbers.rentals x.branch) x.number)
+      (picks_row x.branch books.rentals (held.numbers.rows Rentals x.branch) x.number)
       ∙ ap (λ (l : List (Row Rental)). flat_map (λ c2. after (Null ∷ c2)) (or_blank 7 (map rental_columns l))) alone
       ∙ append-nil _ ∙ terms_bring
     where
@@ -145,21 +146,21 @@ opens_of b books = filter (of_which (λ (it : Rental). is_none it.returned) b) b
 abbrev open_output : Books → Row Rental → Output
 open_output books x = (number_value x.number ∷ [], shown_open books x)
 
-pub shows_opens : (old new : State) (b : ℕ) (rows : List sql.Row) (books : Books) → Holds old books → IsHeld books → Shown select_outs (number_value b ∷ []) old new rows
+pub shows_opens : (old new : State) (b : ℕ) (rows : List sql.Row) (books : Books) → Holds old books → IsHeld books → Shown SELECT_OUTS.now (number_value b ∷ []) old new rows
     → rows ≡ map (shown_open books) (opens_of b books)
 shows_opens old new b rows books holds held h =
     let db = old.now.trees in
     let opened = filter is_open books.rentals in
-    let once : (c n : ℕ) → PicksOne (is_row c n) books.rentals = λ c n. picks_row c books.rentals (held.numbers.rentals c) n in
+    let once : (c n : ℕ) → PicksOne (is_row c n) books.rentals = λ c n. picks_row c books.rentals (held.numbers.rows Rentals c) n in
     let each = all-filter (λ (x : Row Rental). filter (is_row x.branch x.number) books.rentals ≡ x ∷ []) is_open books.rentals (alone_from books.rentals once [] books.rentals refl) in
     joined_rows 43 with_rental out_tests out_shows out_order (number_value b ∷ []) db 3 (λ row. out_columns (out_of row)) opened
     (subst (HasRows 3 (db 43)) (map-map out_columns out_of opened) holds.stands.outs) refl (λ r. refl)
     (λ x. brought b books held db holds.stands x) (λ x. IsPermutation-refl _)
-    rows (answers shop_schema select_outs outs_query (number_value b ∷ []) old new holds.schema_is outs_mean rows h)
+    rows (answers shop_schema SELECT_OUTS.now outs_query (number_value b ∷ []) old new holds.schema_is outs_mean rows h)
     (map (open_output books) (opens_of b books))
     (IsPermutation-same _ _
     (each_alike (λ (x : Row Rental). filter (is_row x.branch x.number) books.rentals ≡ x ∷ []) (brought b books held db holds.stands) (λ x. cond (x.branch == b) (open_output books x ∷ []) [])
     (rental_brings b books held db holds.stands) opened each
     ∙ kept_as_map (is_of b) (open_output books) opened ∙ ap (map (open_output books)) (filter_filter (is_of b) is_open books.rentals)))
-    (rentals_climb (inner 43 with_rental) out_tests out_shows (col 1 3) (shown_open books) (opens_of b books) (which_rise (λ (it : Rental). is_none it.returned) b books.rentals (held.numbers.rentals b)))
+    (rentals_climb (inner 43 with_rental) out_tests out_shows (col 1 3) (shown_open books) (opens_of b books) (which_rise (λ (it : Rental). is_none it.returned) b books.rentals (held.numbers.rows Rentals b)))
     ∙ map-map (λ (o : Output). o.1) (open_output books) (opens_of b books)

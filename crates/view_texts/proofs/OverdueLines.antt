@@ -1,25 +1,24 @@
 -- The rows of the join of what is out by one branch's shop, what is read of them, and the list of those that are overdue.
-use Rattle.shop_schema.proofs.Common.{◌≡◌, ◌+◌, ℕ, List, [], ◌∷◌, ◌++◌, map, filter, codes, true, false, refl, sym, ap, subst, ◌∙◌, append-nil, inl, inr, ◌⊎◌, is_none, nat_lt, zip, AllByRecursion, flat_map, Null, or_null, column, State, map-map, all-filter, number_value, same_number, Moment, IsMoment, Row, at, is_row, of, Customer, Film, Rental, Terms, Catalogue, Shop, Books, head, shop_of, termed, is_overdue, film_of, overdue_row, overdue_list, at_one, more_yes, more_no, moment_value, customer_columns, terms_columns, IsRental, IsHeld, Holds}
+use Rattle.shop_schema.proofs.Common.{◌≡◌, ◌+◌, ℕ, List, [], ◌∷◌, ◌++◌, map, filter, codes, refl, sym, ap, ◌∙◌, append-nil, ◌⊎◌, is_none, nat_lt, zip, AllByRecursion, flat_map, Null, or_null, column, State, map-map, all-filter, number_value, same_number, Moment, IsMoment, Row, at, is_row, of, Customer, Film, Rental, Terms, Catalogue, Shop, Books, head, shop_of, termed, is_overdue, film_of, overdue_row, overdue_list, at_one, moment_value, customer_columns, terms_columns, IsRental, IsHeld, Holds, Customers, Rentals, TermRows}
 use Rattle.std.specs.Prelude.{Bool}
-use Rattle.serde_json.specs.Data.{Data}
 use Rattle.sqlite.specs.declared.types.Value.TheVariants.{Text}
-use Rattle.sqlite_value.specs.Order as sql
 use Rattle.sqlite.specs.State.{Shown}
 use Rattle.shop_model.specs.Calendar.{day_of}
-use Rattle.shop_model.specs.Values as model
+use Rattle.shop_model.specs.Answers.{overdue_text}
 use Rattle.shop_schema.proofs.Lists.{filter_twice}
 use Rattle.shop_schema.proofs.SameRows.{same_moment_value}
 use Rattle.shop_store.proofs.Ascending.{all_of}
 use Rattle.shop_store.proofs.WithTerms.{termed_rows}
 use Rattle.shop_views.specs.declared.overdue_rows.OverdueRow.{OverdueRow}
-use Rattle.shop_views.specs.Overdue.{overdue_data, seen_overdue}
-use Rattle.shop_views.specs.Page.{Page, HasValues}
-use Rattle.view_texts.specs.Overdue.{renter_of, shown_out, is_late, IsReal, listed_out}
-use Rattle.view_texts.proofs.PageLines.{split_last}
+use Rattle.shop_views.specs.Overdue.{seen_overdue}
+use Rattle.view_texts.specs.Overdue.{renter_of, shown_out, is_late, IsReal}
 use Rattle.view_texts.proofs.PaymentLines.{rows_at, films_are, one_film}
 use Rattle.view_texts.proofs.PersonLines.{same_words}
-use Rattle.view_texts.proofs.OverdueQuery.{select_outs}
 use Rattle.view_texts.proofs.OverdueJoin.{column_of, title_of, terms_row, customer_row, rental_title, shown_open, shows_opens}
+use Rattle.view_texts.proofs.Lefts.{one_at_most}
+use Rattle.view_texts.specs.declared.overdue.TheConstants.{SELECT_OUTS}
+use Rattle.sqlite_value.specs.Order as sql
+use Rattle.shop_model.specs.Values as model
 
 -- ---- by the branch's shop
 
@@ -31,9 +30,9 @@ module _ (b : ℕ) (books : Books) (held : IsHeld books) where
   open_is : (x : Row Rental) (t : Terms) → x.branch ≡ b → at x.number (of b books.terms) ≡ t ∷ [] → shown_open books x ≡ shown_out books.catalogue own_shop (x.it, t)
   open_is x t own found =
       let terms : map (λ (row : Row Terms). row.it) (filter (is_row x.branch x.number) books.terms) ≡ t ∷ [] =
-      ap (λ c. map (λ (row : Row Terms). row.it) (filter (is_row c x.number) books.terms)) own ∙ rows_at b x.number books.terms (held.numbers.terms b) ∙ found in
+      ap (λ c. map (λ (row : Row Terms). row.it) (filter (is_row c x.number) books.terms)) own ∙ rows_at b x.number books.terms (held.numbers.rows TermRows b) ∙ found in
       let customers : map (λ (row : Row Customer). row.it) (filter (is_row x.branch x.it.customer) books.customers) ≡ at x.it.customer own_shop.customers =
-      ap (λ c. map (λ (row : Row Customer). row.it) (filter (is_row c x.it.customer) books.customers)) own ∙ rows_at b x.it.customer books.customers (held.numbers.customers b) in
+      ap (λ c. map (λ (row : Row Customer). row.it) (filter (is_row c x.it.customer) books.customers)) own ∙ rows_at b x.it.customer books.customers (held.numbers.rows Customers b) in
       let title : rental_title books x ≡ title_of (film_of books.catalogue own_shop x.it) =
       ap (λ c. rental_title books (record { branch = c; number = x.number; it = x.it })) own ∙ ap title_of (films_are books held.numbers b x.it) in
       let period : column (terms_row books x) 3 ≡ number_value t.period =
@@ -54,11 +53,11 @@ module _ (b : ℕ) (books : Books) (held : IsHeld books) where
   abbrev pub opened : List (Rental × Terms)
   opened = filter (λ (it : Rental × Terms). is_none it.0.returned) (termed own_shop)
 
-  pub shows_outs : (old new : State) (rows : List sql.Row) → Holds old books → Shown select_outs (number_value b ∷ []) old new rows → rows ≡ map (shown_out books.catalogue own_shop) opened
+  pub shows_outs : (old new : State) (rows : List sql.Row) → Holds old books → Shown SELECT_OUTS.now (number_value b ∷ []) old new rows → rows ≡ map (shown_out books.catalogue own_shop) opened
   shows_outs old new rows holds h =
       shows_opens old new b rows books holds held h
       ∙ termed_rows b (λ (it : Rental). is_none it.returned) books.terms (shown_open books) (shown_out books.catalogue own_shop) open_is books.rentals [] (of b books.terms) refl
-      (held.numbers.rentals b) (held.termed b)
+      (held.numbers.rows Rentals b) (held.termed b)
 
   real_from : (rentals : List Rental) (terms : List Terms) → AllByRecursion IsRental rentals → AllByRecursion IsReal (zip rentals terms)
   real_from [] [] all = tt
@@ -69,15 +68,15 @@ module _ (b : ℕ) (books : Books) (held : IsHeld books) where
   pub all_real : AllByRecursion IsReal opened
   all_real =
       all-filter IsReal (λ (it : Rental × Terms). is_none it.0.returned) (termed own_shop)
-      (real_from (of b books.rentals) (of b books.terms) (all_of IsRental b books.rentals held.values.rentals))
+      (real_from (of b books.rentals) (of b books.terms) (all_of IsRental b books.rentals (held.values.rows Rentals)))
 
   -- those that are overdue are the list
-  pub overdue_are : (moment : Moment) → map (listed_out books.catalogue own_shop) (filter (is_late moment) opened) ≡ map overdue_data (overdue_list books.catalogue own_shop moment)
+  pub overdue_are : (moment : Moment) → map (λ (it : Rental × Terms). overdue_text (overdue_row books.catalogue own_shop it.0)) (filter (is_late moment) opened) ≡ map overdue_text (overdue_list books.catalogue own_shop moment)
   overdue_are moment =
       let late = filter (is_overdue moment) (termed own_shop) in
-      ap (map (listed_out books.catalogue own_shop)) (sym (filter_twice (λ (it : Rental × Terms). is_none it.0.returned) (is_late moment) (termed own_shop)))
-      ∙ sym (map-map overdue_data (λ (it : Rental × Terms). overdue_row books.catalogue own_shop it.0) late)
-      ∙ ap (map overdue_data) (sym (map-map (overdue_row books.catalogue own_shop) (λ (it : Rental × Terms). it.0) late))
+      ap (map (λ (it : Rental × Terms). overdue_text (overdue_row books.catalogue own_shop it.0))) (sym (filter_twice (λ (it : Rental × Terms). is_none it.0.returned) (is_late moment) (termed own_shop)))
+      ∙ sym (map-map overdue_text (λ (it : Rental × Terms). overdue_row books.catalogue own_shop it.0) late)
+      ∙ ap (map overdue_text) (sym (map-map (overdue_row books.catalogue own_shop) (λ (it : Rental × Terms). it.0) late))
 
 -- ---- a row
 
@@ -97,8 +96,7 @@ module _ {X : Type 0} (show : X → model.Text) (t : model.Text) where
   IsTold l = or_null (λ x. Text (show x)) (head l) ≡ Text t → t ≡ flat_map show l
 
   told_by : (l : List X) → (l ≡ []) ⊎ ((x : X) × (l ≡ x ∷ [])) → IsTold l
-  told_by l (inl none) = subst IsTold (sym none) (λ told. absurd (nothing t told))
-  told_by l (inr one) = subst IsTold (sym one.1) (λ told. sym (same_words (show one.0) t told) ∙ sym (append-nil (show one.0)))
+  told_by = one_at_most IsTold (λ told. absurd (nothing t told)) (λ x told. sym (same_words (show x) t told) ∙ sym (append-nil (show x)))
 
 -- the whole name of a customer that is there
 module _ (first last : model.Text) where
@@ -110,9 +108,8 @@ module _ (first last : model.Text) where
       or_null (λ (c : Customer). Text c.person.first) (head l) ≡ Text first → or_null (λ (c : Customer). Text c.person.last) (head l) ≡ Text last → last ++ codes ", " ++ first ≡ flat_map name_of l
 
   named_by : (l : List Customer) → (l ≡ []) ⊎ ((c : Customer) × (l ≡ c ∷ [])) → IsNamed l
-  named_by l (inl none) = subst IsNamed (sym none) (λ told also. absurd (nothing first told))
-  named_by l (inr one) = subst IsNamed (sym one.1) (λ told also.
-      let person = one.0.person in
+  named_by = one_at_most IsNamed (λ told also. absurd (nothing first told)) (λ customer told also.
+      let person = customer.person in
       let firsts : first ≡ person.first = sym (same_words person.first first told) in
       let lasts : last ≡ person.last = sym (same_words person.last last also) in
       let whole : last ++ codes ", " ++ first ≡ person.last ++ codes ", " ++ person.first = (λ i. lasts i ++ codes ", " ++ firsts i) in
@@ -129,35 +126,3 @@ overdue_is row it first last phone title catalogue shop out is =
     let called : it.phone ≡ flat_map (λ (c : Customer). c.person.phone) customers = told_by (λ (c : Customer). c.person.phone) it.phone customers one (sym (ap (λ r. column r 4) is) ∙ phone) in
     let film : it.title ≡ flat_map (λ (f : Film). f.title) films = told_by (λ (f : Film). f.title) it.title films (one_film catalogue shop out.0) (sym (ap (λ r. column r 5) is) ∙ title) in
     (λ i. record { customer = name i; phone = called i; title = film i })
-
--- ---- a page that takes one row more, where its value is listed
-
-all_parts : {X : Type 0} (P : X → Type 0) (before : List X) (x : X) → AllByRecursion P (before ++ x ∷ []) → AllByRecursion P before × P x
-all_parts P [] x all = (tt, all.0)
-all_parts P (y ∷ before) x all = let parts = all_parts P before x all.1 in ((all.0, parts.0), parts.1)
-
-module _ {X : Type 0} (Fit : X → Type 0) (shown : X → sql.Row) (value : X → Data) (p : X → Bool) (given : List sql.Row) (row : sql.Row) (old : Page)
-    (so_far : (xs : List X) → AllByRecursion Fit xs → given ≡ map shown xs → HasValues old (map value (filter p xs))) where
-  abbrev pub HasMore : Page → Type 0
-  HasMore page = (xs : List X) → AllByRecursion Fit xs → given ++ row ∷ [] ≡ map shown xs → HasValues page (map value (filter p xs))
-
-  pub one_listed : (next : Data) (new : Page) → ((x : X) → Fit x → row ≡ shown x → p x ≡ true) → ((x : X) → row ≡ shown x → next ≡ value x)
-      → ((values : List Data) → HasValues old values → HasValues new (values ++ next ∷ [])) → HasMore new
-  one_listed next new passes reads added xs fits e =
-      let parts = split_last shown given row xs e in
-      let fit = all_parts Fit parts.0 parts.1 (subst (AllByRecursion Fit) parts.4 fits) in
-      subst (HasValues new)
-      (ap (λ d. map value (filter p parts.0) ++ d ∷ []) (reads parts.1 parts.3) ∙ sym (more_yes value p parts.0 parts.1 (passes parts.1 fit.1 parts.3)) ∙ ap (λ l. map value (filter p l)) (sym parts.4))
-      (added (map value (filter p parts.0)) (so_far parts.0 fit.0 parts.2))
-
-  pub none_listed : ((x : X) → Fit x → row ≡ shown x → p x ≡ false) → HasMore old
-  none_listed fails xs fits e =
-      let parts = split_last shown given row xs e in
-      let fit = all_parts Fit parts.0 parts.1 (subst (AllByRecursion Fit) parts.4 fits) in
-      subst (HasValues old) (sym (more_no value p parts.0 parts.1 (fails parts.1 fit.1 parts.3)) ∙ ap (λ l. map value (filter p l)) (sym parts.4)) (so_far parts.0 fit.0 parts.2)
-
--- no row was taken yet
-pub nothing_listed : {X : Type 0} (Fit : X → Type 0) (shown : X → sql.Row) (value : X → Data) (p : X → Bool) (page : Page) → HasValues page []
-    → (xs : List X) → AllByRecursion Fit xs → [] ≡ map shown xs → HasValues page (map value (filter p xs))
-nothing_listed Fit shown value p page new [] fits e = new
-nothing_listed Fit shown value p page new (x ∷ xs) fits e = absurd cc

@@ -1,10 +1,8 @@
 -- What the text of the join of what is out means.
-use Rattle.shop_schema.proofs.Common.{ℕ, List, [], ◌∷◌, codes, refl, ascending, Key, Binary, Term, col, Query, Join, inner, left, end, IsQuery, Selects, is_query, joined_query, are_equal, shop_schema}
+use Rattle.shop_schema.proofs.Common.{List, [], ◌∷◌, refl, ascending, Key, Binary, Term, col, Query, Join, inner, left, end, IsQuery, Selects, is_query, joined_query, are_equal, shop_schema}
 use Rattle.sqlite_tied.specs.Compute.{everything}
 use Rattle.sqlite.specs.Listing.{understood}
-
-abbrev pub select_outs : List ℕ
-select_outs = codes "SELECT r.moment, t.period, cu.first, cu.last, cu.phone, f.title FROM out_copy AS o LEFT JOIN rental AS r ON r.branch = o.branch AND r.number = o.rental LEFT JOIN rental_terms AS t ON t.branch = o.branch AND t.rental = o.rental LEFT JOIN customer AS cu ON cu.branch = o.branch AND cu.number = r.customer LEFT JOIN copy AS c ON c.branch = o.branch AND c.number = o.copy LEFT JOIN film AS f ON f.number = c.film WHERE o.branch = ?1 ORDER BY o.rental"
+use Rattle.view_texts.specs.declared.overdue.TheConstants.{SELECT_OUTS}
 
 -- what is joined to a copy, to a customer, to terms, to a rental, and to a copy that is out
 abbrev pub with_film : Join
@@ -34,10 +32,10 @@ out_order = (col 1 3, ascending Binary) ∷ []
 abbrev pub outs_query : Query
 outs_query = joined_query (inner 43 with_rental) out_tests out_shows out_order
 
-pub outs_mean : Selects shop_schema select_outs outs_query
+pub outs_mean : Selects shop_schema SELECT_OUTS.now outs_query
 unfolding understood everything
 outs_mean = record { names = _; is = refl; plain = (refl, refl); unlisted = refl }
 
-pub outs_ask : IsQuery select_outs
+pub outs_ask : IsQuery SELECT_OUTS.now
 unfolding everything
-outs_ask = is_query select_outs (record { parsed = _; is = refl; selects = refl; untimed = refl })
+outs_ask = is_query SELECT_OUTS.now (record { parsed = _; is = refl; selects = refl; untimed = refl })

@@ -1,11 +1,12 @@
 -- The lines of the payments' join, and the sales that they are, by one branch's shop.
-use Rattle.shop_schema.proofs.Common.{◌≡◌, ◌==◌, ◌&&◌, ℕ, List, [], ◌∷◌, ◌++◌, ◌+◌, map, filter, true, false, Bool, cond, Option, Some, None, refl, sym, ap, subst, ◌∙◌, append-nil, inl, inr, ◌⊎◌, option_to_list, flat_map, list_any, map-id, or_null, State, map-map, map-flat_map, flat_map-map, flat_map_same_on, filter-map, filter_same, number_value, Row, at, is_of, is_row, of, total, IsCounted, Film, Copy, Rental, Payment, Catalogue, Shop, Books, BookCopy, head, unmarked, shop_of, film_of, HasNumbers, paid_rentals, takings, sales_of, same_if, row_at, at_one, IsShop, StandsFor}
-use Rattle.sqlite_value.specs.Order as sql
+use Rattle.shop_schema.proofs.Common.{◌≡◌, ◌==◌, ◌&&◌, ℕ, List, [], ◌∷◌, ◌++◌, ◌+◌, map, filter, true, false, Bool, cond, Option, Some, None, refl, sym, ap, subst, ◌∙◌, append-nil, inl, ◌⊎◌, option_to_list, flat_map, list_any, map-id, or_null, State, map-map, map-flat_map, flat_map-map, flat_map_same_on, filter-map, filter_same, number_value, Row, at, is_of, is_row, of, total, IsCounted, Film, Copy, Rental, Payment, Catalogue, Shop, Books, BookCopy, head, unmarked, shop_of, film_of, HasNumbers, paid_rentals, takings, sales_of, same_if, row_at, at_one, IsShop, StandsFor, CopyRows, Rentals}
 use Rattle.sqlite.specs.State.{Shown}
 use Rattle.view_texts.specs.Payments.{PaidLine, shown_line, rentals_of, category_in, paid_line, paid_lines, Sale, sale, sale_in, is_sale_of}
-use Rattle.view_texts.proofs.PaymentQuery.{select_payments}
 use Rattle.view_texts.proofs.CopyFilms.{copy_films}
 use Rattle.view_texts.proofs.PaymentJoin.{rental_rows, rental_films, shown_payment, shows_payments}
+use Rattle.view_texts.proofs.Lefts.{one_at_most}
+use Rattle.view_texts.specs.declared.stores.TheConstants.{SELECT_PAYMENTS}
+use Rattle.sqlite_value.specs.Order as sql
 
 -- ---- a branch's rows
 
@@ -45,7 +46,7 @@ module _ (books : Books) (held : HasNumbers books) (b : ℕ) where
   pub films_are : (rental : Rental) → copy_films books (filter (is_row b rental.copy) books.copies) ≡ film_of books.catalogue shop rental
   films_are rental =
       sym (flat_map-map (λ (copy : Copy). at copy.film books.catalogue.films) (λ (row : Row BookCopy). unmarked row.it) (filter (is_row b rental.copy) books.copies))
-      ∙ ap (flat_map (λ (copy : Copy). at copy.film books.catalogue.films)) (row_at unmarked b rental.copy books.copies (held.copies b))
+      ∙ ap (flat_map (λ (copy : Copy). at copy.film books.catalogue.films)) (row_at unmarked b rental.copy books.copies (held.rows CopyRows b))
 
   all_films : (rentals : List (Row Rental)) → rental_films books b rentals ≡ flat_map (film_of books.catalogue shop) (map (λ row. row.it) rentals)
   all_films rentals =
@@ -58,13 +59,13 @@ module _ (books : Books) (held : HasNumbers books) (b : ℕ) where
   rentals_are : (o : Option ℕ) → map (λ row. row.it) (found o) ≡ flat_map (λ n. at n shop.rentals) (option_to_list o)
   rentals_are o =
       map-flat_map (λ (row : Row Rental). row.it) (λ n. filter (is_row b n) books.rentals) (option_to_list o)
-      ∙ flat_map_same_on _ (λ n. at n shop.rentals) (λ n. rows_at b n books.rentals (held.rentals b)) (option_to_list o)
+      ∙ flat_map_same_on _ (λ n. at n shop.rentals) (λ n. rows_at b n books.rentals (held.rows Rentals b)) (option_to_list o)
 
   numbers_are : (o : Option ℕ) → map (λ row. row.number) (found o) ≡ flat_map (λ n. map (λ (_ : Rental). n) (at n shop.rentals)) (option_to_list o)
   numbers_are o =
       map-flat_map (λ (row : Row Rental). row.number) (λ n. filter (is_row b n) books.rentals) (option_to_list o)
       ∙ flat_map_same_on _ (λ n. map (λ (_ : Rental). n) (at n shop.rentals))
-      (λ n. numbers_of b n books.rentals ∙ ap (map (λ (_ : Rental). n)) (rows_at b n books.rentals (held.rentals b))) (option_to_list o)
+      (λ n. numbers_of b n books.rentals ∙ ap (map (λ (_ : Rental). n)) (rows_at b n books.rentals (held.rows Rentals b))) (option_to_list o)
 
   line_is : (x : Row Payment) → x.branch ≡ b → shown_payment books x ≡ shown_line (paid_line books.catalogue shop x.it)
   line_is x mine =
@@ -76,7 +77,7 @@ module _ (books : Books) (held : HasNumbers books) (b : ℕ) where
       (λ i. number_value x.it.amount ∷ or_null number_value (head (numbers i)) ∷ or_null number_value (category_in (films i)) ∷ [])
 
 -- the branch's payments, each with what its rental has to say, in the order of their numbers
-pub shows_lines : (old new : State) (b : ℕ) (rows : List sql.Row) (books : Books) → IsShop old → Shown select_payments (number_value b ∷ []) old new rows → StandsFor old.now.trees books → HasNumbers books
+pub shows_lines : (old new : State) (b : ℕ) (rows : List sql.Row) (books : Books) → IsShop old → Shown SELECT_PAYMENTS.now (number_value b ∷ []) old new rows → StandsFor old.now.trees books → HasNumbers books
     → rows ≡ map shown_line (paid_lines b books)
 shows_lines old new b rows books shop h s held =
     let line : Payment → PaidLine = paid_line books.catalogue (shop_of b books) in
@@ -94,15 +95,13 @@ module _ (catalogue : Catalogue) (shop : Shop) where
       P n l = map (sale catalogue shop) (map (λ rental. (payment, rental)) (l ++ []))
           ≡ map (λ (_ : ℕ). record { amount = payment.amount; category = category_in (flat_map (film_of catalogue shop) (l ++ [])) }) (option_to_list (head (map (λ (_ : Rental). n) l ++ [])))
 
-      some : (n : ℕ) (l : List Rental) → (l ≡ []) ⊎ ((rental : Rental) × (l ≡ rental ∷ [])) → P n l
-      some n l (inl none) = subst (P n) (sym none) refl
-      some n l (inr one) = subst (P n) (sym one.1) (ap (λ films. record { amount = payment.amount; category = category_in films } ∷ []) (sym (append-nil (film_of catalogue shop one.0))))
-
       go : (o : Option ℕ) → map (sale catalogue shop) (map (λ rental. (payment, rental)) (flat_map (λ n. at n shop.rentals) (option_to_list o)))
           ≡ map (λ (_ : ℕ). record { amount = payment.amount; category = category_in (flat_map (film_of catalogue shop) (flat_map (λ n. at n shop.rentals) (option_to_list o))) })
           (option_to_list (head (flat_map (λ n. map (λ (_ : Rental). n) (at n shop.rentals)) (option_to_list o))))
       go None = refl
-      go (Some n) = some n (at n shop.rentals) (at_one n shop.rentals)
+      go (Some n) =
+          one_at_most (P n) refl (λ rental. ap (λ films. record { amount = payment.amount; category = category_in films } ∷ []) (sym (append-nil (film_of catalogue shop rental)))) (at n shop.rentals)
+          (at_one n shop.rentals)
 
   -- the payments that have a rental are the sales, in their order
   pub paid_are : map (sale catalogue shop) (paid_rentals shop) ≡ flat_map sale_in (map (paid_line catalogue shop) shop.payments)
@@ -112,7 +111,7 @@ module _ (catalogue : Catalogue) (shop : Shop) where
       ∙ sym (flat_map-map sale_in (paid_line catalogue shop) shop.payments)
 
   pub one_film : (rental : Rental) → (film_of catalogue shop rental ≡ []) ⊎ ((film : Film) × (film_of catalogue shop rental ≡ film ∷ []))
-  one_film rental = go (at rental.copy shop.copies) (at_one rental.copy shop.copies)
+  one_film rental = one_at_most (λ l. Q (films l)) (inl refl) (λ copy. subst Q (sym (append-nil (at copy.film catalogue.films))) (at_one copy.film catalogue.films)) (at rental.copy shop.copies) (at_one rental.copy shop.copies)
     where
       films : List Copy → List Film
       films l = flat_map (λ (copy : Copy). at copy.film catalogue.films) l
@@ -120,19 +119,10 @@ module _ (catalogue : Catalogue) (shop : Shop) where
       Q : List Film → Type 0
       Q l = (l ≡ []) ⊎ ((film : Film) × (l ≡ film ∷ []))
 
-      go : (l : List Copy) → (l ≡ []) ⊎ ((copy : Copy) × (l ≡ copy ∷ [])) → Q (films l)
-      go l (inl none) = inl (ap films none)
-      go l (inr one) = subst Q (sym (ap films one.1 ∙ append-nil (at one.0.film catalogue.films))) (at_one one.0.film catalogue.films)
-
   is_sale : (category : ℕ) (it : Payment × Rental) → list_any (λ (film : Film). film.category == category) (film_of catalogue shop it.1) ≡ is_sale_of category (sale catalogue shop it)
-  is_sale category it = go (film_of catalogue shop it.1) (one_film it.1)
-    where
-      P : List Film → Type 0
-      P l = list_any (λ (film : Film). film.category == category) l ≡ list_any (λ c. c == category) (option_to_list (category_in l))
-
-      go : (l : List Film) → (l ≡ []) ⊎ ((film : Film) × (l ≡ film ∷ [])) → P l
-      go l (inl none) = subst P (sym none) refl
-      go l (inr one) = subst P (sym one.1) refl
+  is_sale category it =
+      one_at_most (λ l. list_any (λ (film : Film). film.category == category) l ≡ list_any (λ c. c == category) (option_to_list (category_in l))) refl (λ film. refl)
+      (film_of catalogue shop it.1) (one_film it.1)
 
   -- those of a category are its sales
   pub sales_are : (category : ℕ) → map (sale catalogue shop) (sales_of catalogue shop category) ≡ filter (is_sale_of category) (flat_map sale_in (map (paid_line catalogue shop) shop.payments))

@@ -1,10 +1,8 @@
 -- What the text of the payments' join means.
-use Rattle.shop_schema.proofs.Common.{ℕ, List, [], ◌∷◌, codes, refl, ascending, Key, Binary, Term, col, Query, Join, inner, left, end, IsQuery, Selects, is_query, joined_query, are_equal, shop_schema}
+use Rattle.shop_schema.proofs.Common.{List, [], ◌∷◌, refl, ascending, Key, Binary, Term, col, Query, Join, inner, left, end, IsQuery, Selects, is_query, joined_query, are_equal, shop_schema}
 use Rattle.sqlite_tied.specs.Compute.{everything}
 use Rattle.sqlite.specs.Listing.{understood}
-
-abbrev pub select_payments : List ℕ
-select_payments = codes "SELECT p.amount, r.number, f.category FROM payment AS p LEFT JOIN rental AS r ON r.branch = p.branch AND r.number = p.rental LEFT JOIN copy AS c ON c.branch = p.branch AND c.number = r.copy LEFT JOIN film AS f ON f.number = c.film WHERE p.branch = ?1 ORDER BY p.number"
+use Rattle.view_texts.specs.declared.stores.TheConstants.{SELECT_PAYMENTS}
 
 -- what is joined to a copy, to a rental, and to a payment
 abbrev pub with_film : Join
@@ -28,10 +26,10 @@ payment_order = (col 1 2, ascending Binary) ∷ []
 abbrev pub payments_query : Query
 payments_query = joined_query (inner 30 with_rental) payment_tests payment_shows payment_order
 
-pub payments_mean : Selects shop_schema select_payments payments_query
+pub payments_mean : Selects shop_schema SELECT_PAYMENTS.now payments_query
 unfolding understood everything
 payments_mean = record { names = _; is = refl; plain = (refl, refl); unlisted = refl }
 
-pub payments_ask : IsQuery select_payments
+pub payments_ask : IsQuery SELECT_PAYMENTS.now
 unfolding everything
-payments_ask = is_query select_payments (record { parsed = _; is = refl; selects = refl; untimed = refl })
+payments_ask = is_query SELECT_PAYMENTS.now (record { parsed = _; is = refl; selects = refl; untimed = refl })

@@ -4,9 +4,11 @@ use Rattle.sqlite.specs.declared.types.Value.TheVariants.{Text}
 use Rattle.sqlite_value.specs.Order as sql
 use Rattle.sqlite.specs.State.{Shown}
 use Rattle.view_texts.specs.Shown.{shown_customer, shown_staff}
-use Rattle.view_texts.proofs.PeopleQueries.{with_city, select_customers, customers_query, customers_mean, customer_tests, customer_shows, select_staff, staff_query, staff_mean, staff_tests, staff_shows}
+use Rattle.view_texts.proofs.PeopleQueries.{with_city, customers_query, customers_mean, customer_tests, customer_shows, staff_query, staff_mean, staff_tests, staff_shows}
 use Rattle.view_texts.proofs.PersonJoin.{person_brings}
 use Rattle.view_texts.proofs.Orders.{counted_rise, numbered_up, kept_if, shows_kept}
+use Rattle.view_texts.specs.declared.staff.TheConstants.{SELECT_STAFF}
+use Rattle.view_texts.specs.declared.customers.TheConstants.{SELECT_CUSTOMERS}
 
 -- ---- customers
 
@@ -27,12 +29,12 @@ module _ (b : ℕ) (catalogue : Catalogue) (db : Trees) (cities : HasRows 3 (db 
       (λ r2 r3. kept_if x.branch b (number_value x.number ∷ []) _)
 
 -- the branch's customers, in the order of their numbers
-pub shows_customers : (old new : State) (b : ℕ) (rows : List sql.Row) (books : Books) → IsShop old → Shown select_customers (number_value b ∷ []) old new rows → StandsFor old.now.trees books
+pub shows_customers : (old new : State) (b : ℕ) (rows : List sql.Row) (books : Books) → IsShop old → Shown SELECT_CUSTOMERS.now (number_value b ∷ []) old new rows → StandsFor old.now.trees books
     → IsCounted 1 (map (λ row. row.number) (filter (is_of b) books.customers)) → rows ≡ map (shown_customer books.catalogue) (filter (is_of b) books.customers)
 shows_customers old new b rows books shop h s counted =
     shows_kept (λ x. x.number) (shown_customer books.catalogue) 23 with_city customer_tests customer_shows (col 1 2) (number_value b ∷ []) old.now.trees 10 customer_columns books.customers s.customers refl (λ r. refl)
     (is_of b) (customer_brings b books.catalogue old.now.trees s.cities s.countries) (counted_rise (λ x. x.number) 1 _ counted)
-    rows (answers shop_schema select_customers customers_query (number_value b ∷ []) old new shop customers_mean rows h)
+    rows (answers shop_schema SELECT_CUSTOMERS.now customers_query (number_value b ∷ []) old new shop customers_mean rows h)
 
 -- ---- staff
 
@@ -51,9 +53,9 @@ module _ (b : ℕ) (catalogue : Catalogue) (db : Trees) (cities : HasRows 3 (db 
       person_brings 8 end staff_query catalogue db cities countries (number_value b ∷ []) (Null ∷ staff_columns x) x.1.person.city refl staff_out (λ r2 r3. kept_if x.1.branch b (number_value x.0 ∷ []) _)
 
 -- the branch's staff, in the order of their numbers
-pub shows_staff : (old new : State) (b : ℕ) (rows : List sql.Row) (books : Books) → IsShop old → Shown select_staff (number_value b ∷ []) old new rows → StandsFor old.now.trees books
+pub shows_staff : (old new : State) (b : ℕ) (rows : List sql.Row) (books : Books) → IsShop old → Shown SELECT_STAFF.now (number_value b ∷ []) old new rows → StandsFor old.now.trees books
     → rows ≡ map (shown_staff books.catalogue) (filter (λ (it : ℕ × Staff). it.1.branch == b) (numbered books.catalogue.staff))
 shows_staff old new b rows books shop h s =
     shows_kept (λ it. it.0) (shown_staff books.catalogue) 21 with_city staff_tests staff_shows (col 1 1) (number_value b ∷ []) old.now.trees 9 staff_columns (numbered books.catalogue.staff) s.staff refl (λ r. refl)
     (λ it. it.1.branch == b) (staff_brings b books.catalogue old.now.trees s.cities s.countries) (numbered_up (λ it. it.1.branch == b) books.catalogue.staff)
-    rows (answers shop_schema select_staff staff_query (number_value b ∷ []) old new shop staff_mean rows h)
+    rows (answers shop_schema SELECT_STAFF.now staff_query (number_value b ∷ []) old new shop staff_mean rows h)

@@ -1,7 +1,9 @@
 -- What the texts of the lists of people mean.
-use Rattle.shop_schema.proofs.Common.{ℕ, List, [], ◌∷◌, codes, refl, ascending, Key, Binary, Term, col, Query, Join, inner, left, end, IsQuery, Selects, is_query, joined_query, are_equal, shop_schema}
+use Rattle.shop_schema.proofs.Common.{ℕ, List, [], ◌∷◌, refl, ascending, Key, Binary, Term, col, Query, Join, inner, left, end, IsQuery, Selects, is_query, joined_query, are_equal, shop_schema}
 use Rattle.sqlite_tied.specs.Compute.{everything}
 use Rattle.sqlite.specs.Listing.{understood}
+use Rattle.view_texts.specs.declared.staff.TheConstants.{SELECT_STAFF}
+use Rattle.view_texts.specs.declared.customers.TheConstants.{SELECT_CUSTOMERS}
 
 -- what is joined to a city, and to a row that has a city in this column
 abbrev pub country_then : Join → Join
@@ -16,9 +18,6 @@ with_city = city_then 8 end
 
 -- ---- customers
 
-abbrev pub select_customers : List ℕ
-select_customers = codes "SELECT c.number, c.first, c.last, c.address, c.postal, c.phone, ci.name, co.name, c.active FROM customer AS c LEFT JOIN city AS ci ON ci.number = c.city LEFT JOIN country AS co ON co.number = ci.country WHERE c.branch = ?1 ORDER BY c.number"
-
 abbrev pub customer_tests : List Term
 customer_tests = are_equal (col 1 1) (col 0 0) ∷ []
 
@@ -31,18 +30,15 @@ customer_order = (col 1 2, ascending Binary) ∷ []
 abbrev pub customers_query : Query
 customers_query = joined_query (inner 23 with_city) customer_tests customer_shows customer_order
 
-pub customers_mean : Selects shop_schema select_customers customers_query
+pub customers_mean : Selects shop_schema SELECT_CUSTOMERS.now customers_query
 unfolding understood everything
 customers_mean = record { names = _; is = refl; plain = (refl, refl); unlisted = refl }
 
-pub customers_ask : IsQuery select_customers
+pub customers_ask : IsQuery SELECT_CUSTOMERS.now
 unfolding everything
-customers_ask = is_query select_customers (record { parsed = _; is = refl; selects = refl; untimed = refl })
+customers_ask = is_query SELECT_CUSTOMERS.now (record { parsed = _; is = refl; selects = refl; untimed = refl })
 
 -- ---- staff
-
-abbrev pub select_staff : List ℕ
-select_staff = codes "SELECT s.number, s.first, s.last, s.address, s.postal, s.phone, ci.name, co.name FROM staff AS s LEFT JOIN city AS ci ON ci.number = s.city LEFT JOIN country AS co ON co.number = ci.country WHERE s.branch = ?1 ORDER BY s.number"
 
 abbrev pub staff_tests : List Term
 staff_tests = are_equal (col 1 2) (col 0 0) ∷ []
@@ -56,10 +52,10 @@ staff_order = (col 1 1, ascending Binary) ∷ []
 abbrev pub staff_query : Query
 staff_query = joined_query (inner 21 with_city) staff_tests staff_shows staff_order
 
-pub staff_mean : Selects shop_schema select_staff staff_query
+pub staff_mean : Selects shop_schema SELECT_STAFF.now staff_query
 unfolding understood everything
 staff_mean = record { names = _; is = refl; plain = (refl, refl); unlisted = refl }
 
-pub staff_ask : IsQuery select_staff
+pub staff_ask : IsQuery SELECT_STAFF.now
 unfolding everything
-staff_ask = is_query select_staff (record { parsed = _; is = refl; selects = refl; untimed = refl })
+staff_ask = is_query SELECT_STAFF.now (record { parsed = _; is = refl; selects = refl; untimed = refl })

@@ -2,7 +2,6 @@
 use Rattle.shop_schema.proofs.Common.{◌≡◌, ◌&&◌, ℕ, List, [], ◌∷◌, map, filter, true, refl, sym, ap, ◌∙◌, append-nil, flat_map, Value, Null, column, Trees, Query, Join, or_nulls, Output, overlay, flat_map_same_on, HasRows, columns_of, number_value, shown_of, equals, at, numbered, City, Catalogue, named_columns, city_columns}
 use Rattle.sqlite.specs.declared.types.Value.TheVariants.{Text}
 use Rattle.sqlite_value.specs.Order as sql
-use Rattle.shop_model.specs.Values as model
 use Rattle.view_texts.specs.Shown.{name_or_null}
 use Rattle.shop_schema.proofs.Numbers.{left_null}
 use Rattle.view_texts.proofs.Lefts.{by_number}

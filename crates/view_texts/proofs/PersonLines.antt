@@ -1,47 +1,31 @@
 -- A row of the people's joins, read and listed.
-use Rattle.shop_schema.proofs.Common.{◌≡◌, ◌+◌, ℕ, List, [], ◌∷◌, ◌++◌, map, refl, sym, ap, subst, ◌∙◌, inl, inr, append-nil, ◌⊎◌, flat_map, column, Row, at, numbered_from, IsCounted, Person, City, Customer, Catalogue, PersonRow, full_name, city_name, country_name, person_row, at_one}
+use Rattle.shop_schema.proofs.Common.{◌≡◌, ◌+◌, ℕ, List, [], ◌∷◌, ◌++◌, map, refl, sym, ap, ◌∙◌, append-nil, ◌⊎◌, flat_map, column, Row, at, numbered_from, IsCounted, Person, City, Customer, Catalogue, PersonRow, full_name, city_name, country_name, person_row, at_one}
 use Rattle.sqlite.specs.declared.types.Value.TheVariants.{Text}
 use Rattle.sqlite_value.specs.Order as sql
 use Rattle.shop_model.specs.Values as model
 use Rattle.shop_views.specs.People.{seen_person}
 use Rattle.shop_views.specs.declared.people.ListedPerson.{ListedPerson}
 use Rattle.view_texts.specs.Shown.{name_or_null, text_or_empty, shown_person, listed_customer}
+use Rattle.view_texts.proofs.Lefts.{one_at_most}
 
 -- ---- names that may be missing
 
 -- the name of a row that is there, or none
 pub name_read : (l : List model.Text) → (l ≡ []) ⊎ ((t : model.Text) × (l ≡ t ∷ [])) → text_or_empty (name_or_null l) ≡ flat_map (λ (name : model.Text). name) l
-name_read l (inl none) = subst P (sym none) refl
-  where
-    P : List model.Text → Type 0
-    P l = text_or_empty (name_or_null l) ≡ flat_map (λ (name : model.Text). name) l
-name_read l (inr one) = subst P (sym one.1) (sym (append-nil one.0))
-  where
-    P : List model.Text → Type 0
-    P l = text_or_empty (name_or_null l) ≡ flat_map (λ (name : model.Text). name) l
+name_read = one_at_most (λ l. text_or_empty (name_or_null l) ≡ flat_map (λ (name : model.Text). name) l) refl (λ t. sym (append-nil t))
 
 pub city_read : (catalogue : Catalogue) (n : ℕ) → text_or_empty (name_or_null (map (λ (it : City). it.name) (at n catalogue.cities))) ≡ city_name catalogue n
-city_read catalogue n = go (at n catalogue.cities) (at_one n catalogue.cities)
-  where
-    P : List City → Type 0
-    P l = text_or_empty (name_or_null (map (λ (it : City). it.name) l)) ≡ flat_map (λ (it : City). it.name) l
-
-    go : (l : List City) → (l ≡ []) ⊎ ((c : City) × (l ≡ c ∷ [])) → P l
-    go l (inl none) = subst P (sym none) refl
-    go l (inr one) = subst P (sym one.1) (sym (append-nil one.0.name))
+city_read catalogue n =
+    one_at_most (λ l. text_or_empty (name_or_null (map (λ (it : City). it.name) l)) ≡ flat_map (λ (it : City). it.name) l) refl (λ city. sym (append-nil city.name))
+    (at n catalogue.cities) (at_one n catalogue.cities)
 
 pub country_read : (catalogue : Catalogue) (n : ℕ) → text_or_empty (name_or_null (flat_map (λ (it : City). at it.country catalogue.countries) (at n catalogue.cities))) ≡ country_name catalogue n
-country_read catalogue n = go (at n catalogue.cities) (at_one n catalogue.cities)
-  where
-    P : List City → Type 0
-    P l = text_or_empty (name_or_null (flat_map (λ (it : City). at it.country catalogue.countries) l)) ≡ flat_map (λ (it : City). flat_map (λ (name : model.Text). name) (at it.country catalogue.countries)) l
-
-    go : (l : List City) → (l ≡ []) ⊎ ((c : City) × (l ≡ c ∷ [])) → P l
-    go l (inl none) = subst P (sym none) refl
-    go l (inr some) =
-        let countries = at some.0.country catalogue.countries in
-        subst P (sym some.1)
-        (ap (λ k. text_or_empty (name_or_null k)) (append-nil countries) ∙ name_read countries (at_one some.0.country catalogue.countries) ∙ sym (append-nil (flat_map (λ (name : model.Text). name) countries)))
+country_read catalogue n =
+    one_at_most
+    (λ l. text_or_empty (name_or_null (flat_map (λ (it : City). at it.country catalogue.countries) l)) ≡ flat_map (λ (it : City). flat_map (λ (name : model.Text). name) (at it.country catalogue.countries)) l) refl
+    (λ city. let countries = at city.country catalogue.countries in
+    ap (λ k. text_or_empty (name_or_null k)) (append-nil countries) ∙ name_read countries (at_one city.country catalogue.countries) ∙ sym (append-nil (flat_map (λ (name : model.Text). name) countries)))
+    (at n catalogue.cities) (at_one n catalogue.cities)
 
 -- ---- a row
 

@@ -1,5 +1,5 @@
 -- Rows of a branch and of its payments, read and added up.
-use Rattle.shop_schema.proofs.Common.{◌≡◌, ◌+◌, ℕ, List, [], ◌∷◌, ◌++◌, map, true, Option, Some, None, option_map, refl, sym, ap, subst, ◌∙◌, arith, inl, inr, append-nil, ◌⊎◌, is_some, unwrap_or, if◌then◌else◌, option_to_list, flat_map, Null, or_null, column, number_value, same_number, at, is_empty, total, Branch, Staff, Rental, Payment, Catalogue, Books, head, shop_of, full_name, person_name, manager_name, city_name, country_name, paid_rentals, takings, at_one}
+use Rattle.shop_schema.proofs.Common.{◌≡◌, ◌+◌, ℕ, List, [], ◌∷◌, ◌++◌, map, true, Option, Some, None, option_map, refl, sym, ap, subst, ◌∙◌, arith, append-nil, ◌⊎◌, is_some, unwrap_or, if◌then◌else◌, option_to_list, flat_map, Null, or_null, column, number_value, same_number, at, is_empty, total, Branch, Staff, Rental, Payment, Catalogue, Books, head, shop_of, full_name, person_name, manager_name, city_name, country_name, paid_rentals, takings, at_one}
 use Rattle.std.specs.Prelude.{codes}
 use Rattle.sqlite.specs.declared.types.Value.TheVariants.{Text}
 use Rattle.sqlite_value.specs.Order as sql
@@ -10,9 +10,10 @@ use Rattle.shop_views.specs.declared.names.PersonName.{PersonName}
 use Rattle.view_texts.specs.Shown.{text_or_empty, IsNameIn}
 use Rattle.view_texts.specs.Payments.{PaidLine, shown_line, paid_lines, Sale, sale, sale_in}
 use Rattle.view_texts.specs.Sales.{sum_of, rental_sum, manager_of, shown_store, store_with}
-use Rattle.view_texts.proofs.PageLines.{split_last}
+use Rattle.sql_rows.proofs.EachLemmas.{split_last}
 use Rattle.view_texts.proofs.PersonLines.{city_read, country_read, same_words}
 use Rattle.view_texts.proofs.PaymentLines.{paid_are, takings_are}
+use Rattle.view_texts.proofs.Lefts.{one_at_most}
 
 -- ---- sums
 
@@ -63,8 +64,7 @@ sum_is b books = ap sum_of (sym (paid_are books.catalogue (shop_of b books))) �
 -- ---- a branch's row
 
 one_only : {A : Type 0} (l : List A) → (l ≡ []) ⊎ ((x : A) × (l ≡ x ∷ [])) → option_to_list (head l) ≡ l
-one_only {A} l (inl none) = subst (λ (k : List A). option_to_list (head k) ≡ k) (sym none) refl
-one_only {A} l (inr one) = subst (λ (k : List A). option_to_list (head k) ≡ k) (sym one.1) refl
+one_only {A} = one_at_most (λ (l : List A). option_to_list (head l) ≡ l) refl (λ x. refl)
 
 only_manager : (catalogue : Catalogue) (branch : Branch) → option_to_list (manager_of catalogue branch) ≡ flat_map (λ n. at n catalogue.staff) (option_to_list branch.manager)
 only_manager catalogue branch = go branch.manager
@@ -93,14 +93,9 @@ store_is row city country manager at1 at2 at3 catalogue x is =
 -- the branch of the number, where it is there
 pub found_is : {X : Type 0} (value : Branch → X) (b : ℕ) (catalogue : Catalogue) (rows : List sql.Row) (seen : Option X) → rows ≡ map (shown_store catalogue) (map (λ branch. (b, branch)) (at b catalogue.branches))
     → ((found : Option (ℕ × Branch)) → rows ≡ map (shown_store catalogue) (option_to_list found) → seen ≡ option_map (λ (it : ℕ × Branch). value it.1) found) → seen ≡ head (map value (at b catalogue.branches))
-found_is {X} value b catalogue rows seen are told = go (at b catalogue.branches) (at_one b catalogue.branches) are
-  where
-    P : List Branch → Type 0
-    P l = rows ≡ map (shown_store catalogue) (map (λ branch. (b, branch)) l) → seen ≡ head (map value l)
-
-    go : (l : List Branch) → (l ≡ []) ⊎ ((branch : Branch) × (l ≡ branch ∷ [])) → P l
-    go l (inl none) = subst P (sym none) (told None)
-    go l (inr one) = subst P (sym one.1) (told (Some (b, one.0)))
+found_is value b catalogue rows seen are told =
+    one_at_most (λ l. rows ≡ map (shown_store catalogue) (map (λ branch. (b, branch)) l) → seen ≡ head (map value l)) (told None) (λ branch. told (Some (b, branch)))
+    (at b catalogue.branches) (at_one b catalogue.branches) are
 
 pub not_found : {X : Type 0} (value : ℕ × Branch → X) (catalogue : Catalogue) (found : Option (ℕ × Branch)) → [] ≡ map (shown_store catalogue) (option_to_list found) → None ≡ option_map value found
 not_found value catalogue None e = refl

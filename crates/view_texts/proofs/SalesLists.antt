@@ -1,10 +1,9 @@
 -- Branches that are listed one after the other.
-use Rattle.shop_schema.proofs.Common.{◌≡◌, ◌==◌, ◌+◌, ◌-◌, ℕ, List, [], ◌∷◌, ◌++◌, map, true, false, Bool, not, length, cond, Option, Some, None, refl, sym, ap, subst, ◌∙◌, arith, append-nil, if◌then◌else◌, flat_map, nat_tests, map-append, at, is_empty, lacks, numbered, Branch, Rental, Payment, Books, head, shop_of, StoreRow, paid_rentals, takings, found_none, found_some, numbered_push}
+use Rattle.shop_schema.proofs.Common.{◌≡◌, ◌==◌, ◌+◌, ◌-◌, ℕ, List, [], ◌∷◌, ◌++◌, map, true, false, Bool, not, length, cond, Option, Some, None, refl, sym, ap, subst, ◌∙◌, arith, append-nil, if◌then◌else◌, flat_map, nat_tests, map-append, at, is_empty, lacks, numbered, Text, Branch, Rental, Payment, Books, head, shop_of, StoreRow, paid_rentals, takings, found_none, found_some, numbered_push}
+use Rattle.shop_model.specs.Answers.{listed_store}
 use Rattle.std.proofs.lemmas.List.{append_assoc}
-use Rattle.serde_json.specs.Data.{Data}
 use Rattle.shop_schema.proofs.Lists.{flat_map_push}
-use Rattle.shop_views.specs.Page.{Page, HasValues}
-use Rattle.shop_views.specs.Sales.{store_data}
+use Rattle.shop_views.specs.Page.{Page, HasTexts}
 use Rattle.view_texts.specs.Sales.{rental_sum, store_with, sales_of_branch, sales_of_first}
 
 -- ---- one branch
@@ -42,19 +41,19 @@ one_sale books b total row there sum = go (paid_rentals (shop_of b books)) sum
         ap (map (store_with books.catalogue (takings (it ∷ pairs)))) found.1
         ∙ ap (λ n. store_with books.catalogue n found.0 ∷ []) (sym sums) ∙ ap (λ (r : StoreRow). record r { total = total } ∷ []) found.2
 
-nothing_more : (page : Page) (values : List Data) (rows : List StoreRow) → rows ≡ [] → HasValues page values → HasValues page (values ++ map store_data rows)
-nothing_more page values rows none has = subst (HasValues page) (sym (append-nil values) ∙ ap (λ l. values ++ map store_data l) (sym none)) has
+nothing_more : (page : Page) (texts : List Text) (rows : List StoreRow) → rows ≡ [] → HasTexts page texts → HasTexts page (texts ++ map listed_store rows)
+nothing_more page texts rows none has = subst (HasTexts page) (sym (append-nil texts) ∙ ap (λ l. texts ++ map listed_store l) (sym none)) has
 
-pub absent_added : (books : Books) (b : ℕ) (page : Page) (values : List Data) → None ≡ head (map (store_with books.catalogue 0) (at b books.catalogue.branches)) → HasValues page values
-    → HasValues page (values ++ map store_data (sales_of_branch books b))
-absent_added books b page values none = nothing_more page values (sales_of_branch books b) (no_branch books b (found_none (store_with books.catalogue 0) b books.catalogue.branches none))
+pub absent_added : (books : Books) (b : ℕ) (page : Page) (texts : List Text) → None ≡ head (map (store_with books.catalogue 0) (at b books.catalogue.branches)) → HasTexts page texts
+    → HasTexts page (texts ++ map listed_store (sales_of_branch books b))
+absent_added books b page texts none = nothing_more page texts (sales_of_branch books b) (no_branch books b (found_none (store_with books.catalogue 0) b books.catalogue.branches none))
 
-pub unsold_added : (books : Books) (b : ℕ) (page : Page) (values : List Data) → None ≡ rental_sum (shop_of b books) → HasValues page values → HasValues page (values ++ map store_data (sales_of_branch books b))
-unsold_added books b page values none = nothing_more page values (sales_of_branch books b) (no_sale books b none)
+pub unsold_added : (books : Books) (b : ℕ) (page : Page) (texts : List Text) → None ≡ rental_sum (shop_of b books) → HasTexts page texts → HasTexts page (texts ++ map listed_store (sales_of_branch books b))
+unsold_added books b page texts none = nothing_more page texts (sales_of_branch books b) (no_sale books b none)
 
-pub store_added : (books : Books) (b total : ℕ) (row : StoreRow) (page : Page) (values : List Data) → Some row ≡ head (map (store_with books.catalogue 0) (at b books.catalogue.branches))
-    → Some total ≡ rental_sum (shop_of b books) → HasValues page (values ++ store_data (record row { total = total }) ∷ []) → HasValues page (values ++ map store_data (sales_of_branch books b))
-store_added books b total row page values there sum = subst (HasValues page) (ap (λ l. values ++ map store_data l) (sym (one_sale books b total row there sum)))
+pub store_added : (books : Books) (b total : ℕ) (row : StoreRow) (page : Page) (texts : List Text) → Some row ≡ head (map (store_with books.catalogue 0) (at b books.catalogue.branches))
+    → Some total ≡ rental_sum (shop_of b books) → HasTexts page (texts ++ listed_store (record row { total = total }) ∷ []) → HasTexts page (texts ++ map listed_store (sales_of_branch books b))
+store_added books b total row page texts there sum = subst (HasTexts page) (ap (λ l. texts ++ map listed_store l) (sym (one_sale books b total row there sum)))
 
 pub is_there : (books : Books) (b : ℕ) (row : StoreRow) → Some row ≡ head (map (store_with books.catalogue 0) (at b books.catalogue.branches)) → true ≡ not (lacks books.catalogue.branches b)
 is_there books b row there = ap (λ (l : List Branch). not (is_empty l)) (sym (found_some (store_with books.catalogue 0) b books.catalogue.branches row there).1)
@@ -67,7 +66,7 @@ pub record IsListed (page : Page) (number : ℕ) (books : Books) : Type 0 where
   pub after : List Branch
   pub all : books.catalogue.branches ≡ before ++ after
   pub next : number ≡ 1 + length before
-  pub has : HasValues page (map store_data (sales_of_first books before))
+  pub has : HasTexts page (map listed_store (sales_of_first books before))
 
 at_behind : {A : Type 0} (before after : List A) → at (1 + length before) (before ++ after) ≡ at 1 after
 at_behind [] after = refl
@@ -81,7 +80,7 @@ at_behind {A} (x ∷ before) after =
     back = omega arith
 
 module _ (page new : Page) (number : ℕ) (books : Books) (so_far : IsListed page number books)
-    (added : (values : List Data) → HasValues page values → HasValues new (values ++ map store_data (sales_of_branch books number))) where
+    (added : (texts : List Text) → HasTexts page texts → HasTexts new (texts ++ map listed_store (sales_of_branch books number))) where
   found_at : (after : List Branch) → so_far.after ≡ after → at number books.catalogue.branches ≡ at 1 after
   found_at after is = (λ i. at (so_far.next i) (so_far.all i)) ∙ at_behind so_far.before so_far.after ∙ ap (at 1) is
 
@@ -100,22 +99,22 @@ module _ (page new : Page) (number : ℕ) (books : Books) (so_far : IsListed pag
             after = more;
             all = so_far.all ∙ ap (λ l. so_far.before ++ l) is ∙ sym (append_assoc so_far.before (x ∷ []) more);
             next = ap (λ n. n + 1) so_far.next ∙ longer so_far.before x;
-            has = subst (HasValues new) (sym (map-append store_data (sales_of_first books so_far.before) (sales_of_branch books number)) ∙ ap (map store_data) (sym rows)) (added _ so_far.has);
+            has = subst (HasTexts new) (sym (map-append listed_store (sales_of_first books so_far.before) (sales_of_branch books number)) ∙ ap (map listed_store) (sym rows)) (added _ so_far.has);
           }
         where
           longer : (l : List Branch) (y : Branch) → 1 + length l + 1 ≡ 1 + length (l ++ y ∷ [])
           longer [] y = refl
           longer (z ∷ l) y = let more = longer l y in omega (arith, more)
 
-  pub listed_last : false ≡ not (lacks books.catalogue.branches number) → HasValues new (map store_data (sales_of_first books books.catalogue.branches))
+  pub listed_last : false ≡ not (lacks books.catalogue.branches number) → HasTexts new (map listed_store (sales_of_first books books.catalogue.branches))
   listed_last none = go so_far.after refl
     where
-      go : (after : List Branch) → so_far.after ≡ after → HasValues new (map store_data (sales_of_first books books.catalogue.branches))
+      go : (after : List Branch) → so_far.after ≡ after → HasTexts new (map listed_store (sales_of_first books books.catalogue.branches))
       go [] is =
           let whole : books.catalogue.branches ≡ so_far.before = so_far.all ∙ ap (λ l. so_far.before ++ l) is ∙ append-nil so_far.before in
-          subst (HasValues new)
-          (ap (λ l. map store_data (sales_of_first books so_far.before) ++ map store_data l) (no_branch books number (found_at [] is))
-          ∙ append-nil (map store_data (sales_of_first books so_far.before)) ∙ ap (λ l. map store_data (sales_of_first books l)) (sym whole)) (added _ so_far.has)
+          subst (HasTexts new)
+          (ap (λ l. map listed_store (sales_of_first books so_far.before) ++ map listed_store l) (no_branch books number (found_at [] is))
+          ∙ append-nil (map listed_store (sales_of_first books so_far.before)) ∙ ap (λ l. map listed_store (sales_of_first books l)) (sym whole)) (added _ so_far.has)
       go (x ∷ more) is = absurd (let no : false ≡ true = none ∙ ap (λ (l : List Branch). not (is_empty l)) (found_at (x ∷ more) is) in cc)
 
 pub same_branch : (number branch : ℕ) (found : Option ℕ) → found ≡ (if number == 0 then None else Some number) → found ≡ Some branch → branch ≡ number

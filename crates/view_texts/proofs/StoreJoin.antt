@@ -8,7 +8,8 @@ use Rattle.shop_schema.proofs.Numbers.{numbered_at}
 use Rattle.view_texts.proofs.Lefts.{by_option}
 use Rattle.view_texts.proofs.Orders.{numbered_up, kept_if, shows_kept}
 use Rattle.view_texts.proofs.PersonJoin.{person_brings}
-use Rattle.view_texts.proofs.StoreQuery.{select_store, store_query, store_means, store_tests, store_shows, with_manager, with_names}
+use Rattle.view_texts.proofs.StoreQuery.{store_query, store_means, store_tests, store_shows, with_manager, with_names}
+use Rattle.view_texts.specs.declared.stores.TheConstants.{SELECT_STORE}
 
 -- ---- one branch
 
@@ -45,10 +46,10 @@ module _ (b : ℕ) (books : Books) (db : Trees) (s : StandsFor db books) (x : �
 
 -- ---- the branch of the number
 
-pub shows_store : (old new : State) (b : ℕ) (rows : List sql.Row) (books : Books) → IsShop old → Shown select_store (number_value b ∷ []) old new rows → StandsFor old.now.trees books
+pub shows_store : (old new : State) (b : ℕ) (rows : List sql.Row) (books : Books) → IsShop old → Shown SELECT_STORE.now (number_value b ∷ []) old new rows → StandsFor old.now.trees books
     → rows ≡ map (shown_store books.catalogue) (map (λ branch. (b, branch)) (at b books.catalogue.branches))
 shows_store old new b rows books shop h s =
     shows_kept (λ it. it.0) (shown_store books.catalogue) 18 with_names store_tests store_shows (col 1 1) (number_value b ∷ []) old.now.trees 8 (branch_columns books.lasts) (numbered books.catalogue.branches) s.branches refl (λ r. refl)
     (λ it. it.0 == b) (store_brings b books old.now.trees s) (numbered_up (λ it. it.0 == b) books.catalogue.branches)
-    rows (answers shop_schema select_store store_query (number_value b ∷ []) old new shop store_means rows h)
+    rows (answers shop_schema SELECT_STORE.now store_query (number_value b ∷ []) old new shop store_means rows h)
     ∙ ap (map (shown_store books.catalogue)) (numbered_at b books.catalogue.branches)

@@ -10,8 +10,8 @@ use Rattle.shop_model.specs.Values as model
 use Rattle.shop_model.specs.Values.{Actor, Film}
 use Rattle.shop_model.specs.Shop.{Catalogue}
 use Rattle.shop_model.specs.Views.{ActorRow, films_of, categories_by_name}
-use Rattle.shop_views.specs.Films.{actor_data}
-use Rattle.shop_views.specs.Page.{HasValues}
+use Rattle.shop_model.specs.Answers.{listed_actor}
+use Rattle.shop_views.specs.Page.{HasTexts}
 use Rattle.shop_views.specs.declared.actors.FilmGroup.{FilmGroup}
 use Rattle.view_texts.specs.declared.actors.ActorPage.{ActorPage}
 use Rattle.view_texts.specs.declared.actors.CategoryFilm.{CategoryFilm}
@@ -132,4 +132,4 @@ runs = run_from ([], None)
 -- the page has the complete actors of these rows, and the last actor is at hand
 abbrev pub HasActors : ActorPage → ActorPage → List sql.Row → Type 0
 HasActors start it given =
-    (lines : List ActorLine) → given ≡ map shown_actor lines → HasValues it.page (map actor_data (runs lines).0) × (option_map seen_part it.actor ≡ (runs lines).1)
+    (lines : List ActorLine) → given ≡ map shown_actor lines → HasTexts it.page (map listed_actor (runs lines).0) × (option_map seen_part it.actor ≡ (runs lines).1)

@@ -6,9 +6,10 @@ use Rattle.shop_model.specs.Values as model
 use Rattle.shop_model.specs.Values.{Actor, Film}
 use Rattle.shop_model.specs.Shop.{Catalogue}
 use Rattle.shop_model.specs.Views.{FilmRow, full_name, category_name}
+use Rattle.shop_model.specs.Answers.{listed_film}
 use Rattle.shop_views.specs.Names.{name_text}
-use Rattle.shop_views.specs.Films.{film_with, film_data}
-use Rattle.shop_views.specs.Page.{HasValues}
+use Rattle.shop_views.specs.Films.{film_with}
+use Rattle.shop_views.specs.Page.{HasTexts}
 use Rattle.shop_views.specs.declared.films.ListedFilm as rows
 use Rattle.view_texts.specs.Shown.{FilmLine, shown_film}
 use Rattle.view_texts.specs.declared.films.FilmPage.{FilmPage}
@@ -68,4 +69,4 @@ runs catalogue = run_from catalogue ([], None)
 abbrev pub HasFilms : FilmPage → FilmPage → List sql.Row → Type 0
 HasFilms start it given =
     (catalogue : Catalogue) (lines : List FilmLine) → given ≡ map (shown_film catalogue) lines
-    → HasValues it.page (map film_data (runs catalogue lines).0) × (option_map seen_part it.film ≡ (runs catalogue lines).1)
+    → HasTexts it.page (map listed_film (runs catalogue lines).0) × (option_map seen_part it.film ≡ (runs catalogue lines).1)

@@ -1,7 +1,5 @@
--- The rows of the join of what is out, and those of them that the list of overdue rentals has so far.
-use Rattle.std.specs.Prelude.{◌≡◌, ◌+◌, nat_lt, Bool, List, [], ◌∷◌, map, filter, Option}
-use Rattle.std.specs.List.{AllByRecursion}
-use Rattle.serde_json.specs.Data.{Data}
+-- The rows of the join of what is out, and those of them that the list of overdue rentals has.
+use Rattle.std.specs.Prelude.{◌+◌, nat_lt, Bool, [], ◌∷◌, Option}
 use Rattle.sqlite.specs.declared.types.Value.TheVariants.{Text}
 use Rattle.sqlite.specs.Values.{or_null}
 use Rattle.sqlite_value.specs.Order as sql
@@ -12,11 +10,7 @@ use Rattle.shop_model.specs.Values.{Film, Customer, Rental, Terms}
 use Rattle.shop_model.specs.Shop.{Catalogue, Shop}
 use Rattle.shop_model.specs.Books.{head}
 use Rattle.shop_model.specs.Stock.{film_of}
-use Rattle.shop_model.specs.Views.{overdue_row}
 use Rattle.shop_schema.specs.Columns.{moment_value}
-use Rattle.shop_views.specs.Overdue.{overdue_data}
-use Rattle.shop_views.specs.Page.{HasValues}
-use Rattle.view_texts.specs.declared.overdue.OverduePage.{OverduePage}
 
 -- ---- what the join shows
 
@@ -38,14 +32,3 @@ is_late moment it = nat_lt (day_of it.0.rented + it.1.period) (day_of moment)
 
 abbrev pub IsReal : Rental × Terms → Type 0
 IsReal it = IsMoment it.0.rented
-
--- an overdue rental as the list has it
-abbrev pub listed_out : Catalogue → Shop → Rental × Terms → Data
-listed_out catalogue shop it = overdue_data (overdue_row catalogue shop it.0)
-
--- the page, which was empty at first, has those that are overdue of the rentals of which these rows are shown
-abbrev pub HasOverdue : OverduePage → OverduePage → List sql.Row → Type 0
-HasOverdue start it given =
-    (it.moment ≡ start.moment)
-    × ((catalogue : Catalogue) (shop : Shop) (outs : List (Rental × Terms)) → AllByRecursion IsReal outs → given ≡ map (shown_out catalogue shop) outs
-    → HasValues it.page (map (listed_out catalogue shop) (filter (is_late start.moment) outs)))

@@ -2,24 +2,24 @@
 //! them to one category.
 
 ghost use Rattle.std.specs.Prelude.{◌≡◌, List, [], ◌∷◌, ◌++◌, Option, Some, None, IfOk, OnOk, map, option_map, string_bytes};
-ghost use Rattle.serde_json.specs.Data.{Data};
 ghost use Rattle.sqlite.specs.Held.{state};
 ghost use Rattle.sqlite.specs.State.{HasCleanDisk};
 ghost use Rattle.sql_rows.specs.Calls.{StaysSame};
 ghost use Rattle.shop_model.specs.Books.{Books};
 ghost use Rattle.shop_model.specs.Machine.{ActorsListed};
-ghost use Rattle.shop_model.specs.Answers.{shown_text};
+ghost use Rattle.shop_model.specs.Values.{Text};
+ghost use Rattle.shop_model.specs.Answers.{listed_actor, shown_text};
 ghost use Rattle.shop_model.specs.Views.{ActorRow as ModelActor, actor_info};
 ghost use Rattle.shop_schema.specs.Shop.{Holds};
 ghost use Rattle.shop_schema.specs.Held.{IsHeld};
-ghost use Rattle.shop_views.specs.Films.{seen_actor, actor_data};
-ghost use Rattle.shop_views.specs.Page.{HasValues};
+ghost use Rattle.shop_views.specs.Films.{seen_actor};
+ghost use Rattle.shop_views.specs.Page.{HasTexts};
 ghost use Rattle.view_texts.specs.Actors.{ActorLine, shown_actor, told_film, take_film, take_any, every_group, seen_group, seen_open, seen_groups, seen_told, actor_alone, whole, seen_part, take_line, HasActors, closed};
 
 use crate::people::person_name_at;
 use shop_schema::{row_number_at, text_at};
 use shop_values::{ActorNo, CategoryNo, T45, T128};
-use shop_views::{ActorRow, FilmGroup, ListPage, PersonName, actor_row};
+use shop_views::{ActorRow, FilmGroup, ListPage, PersonName};
 use sql_rows::{StoreFault, TakesRows, each_row, number_or_null_at};
 use sqlite::{Alter, Connection, Row};
 use std::alloc::{AllocError, Global};
@@ -192,13 +192,12 @@ fn whole_actor(actor: StartedActor) -> Result<ActorRow, AllocError>
 }
 
 /// Puts the actor last.
-fn add_actor(alloc: Global, actor: StartedActor, page: &mut ListPage) -> Result<(), AllocError>
-    ensures { OnOk result ((values : List Data) → HasValues page.old values
-        → HasValues page.new (values ++ actor_data (whole (seen_part actor)) ∷ [])) }
+fn add_actor(actor: StartedActor, page: &mut ListPage) -> Result<(), AllocError>
+    ensures { OnOk result ((texts : List Text) → HasTexts page.old texts
+        → HasTexts page.new (texts ++ listed_actor (whole (seen_part actor)) ∷ [])) }
 {
     let row = whole_actor(actor)?;
-    let value = actor_row(alloc, &row)?;
-    page.add(&value)
+    page.add_row(&row)
 }
 
 /// The actor of the row with the row's film. The actor of the rows before, if it is another one, goes on the page.
@@ -209,8 +208,8 @@ fn next_actor(
     page: &mut ListPage,
 ) -> Result<StartedActor, StoreFault>
     ensures { IfOk result (λ it. (line : ActorLine) (actors : List ModelActor) → row.now ≡ shown_actor line
-        → HasValues page.old (map actor_data actors)
-        → HasValues page.new (map actor_data (take_line (actors, option_map seen_part actor) line).0)
+        → HasTexts page.old (map listed_actor actors)
+        → HasTexts page.new (map listed_actor (take_line (actors, option_map seen_part actor) line).0)
         × (Some (seen_part it) ≡ (take_line (actors, option_map seen_part actor) line).1)) }
 {
     let Some(actor) = actor else {
@@ -219,7 +218,7 @@ fn next_actor(
     if row_number_at(row, 0)? == actor.number {
         with_row(alloc, actor, row)
     } else {
-        add_actor(alloc, actor, page)?;
+        add_actor(actor, page)?;
         with_row(alloc, actor_at(alloc, row)?, row)
     }
 }
@@ -244,22 +243,25 @@ impl TakesRows for ActorPage {
 
 /// The text of the list with the last actor.
 fn finish(taker: ActorPage) -> Result<String, AllocError>
-    ensures { IfOk result (λ s. (actors : List ModelActor) → HasValues taker.page (map actor_data actors)
+    ensures { IfOk result (λ s. (actors : List ModelActor) → HasTexts taker.page (map listed_actor actors)
         → string_bytes s ≡ shown_text (ActorsListed (closed (actors, option_map seen_part taker.actor)))) }
 {
     let ActorPage {
         mut page,
-        alloc,
         actor,
+        ..
     } = taker;
     match actor {
         Some(actor) => {
-            add_actor(alloc, actor, &mut page)?;
+            add_actor(actor, &mut page)?;
             page.finish()
         }
         None => page.finish(),
     }
 }
+
+const SELECT_ACTORS: &str =
+    "SELECT a.number, a.first, a.last, k.number, k.name, f.title FROM actor AS a LEFT JOIN film_actor AS fa ON fa.actor = a.number LEFT JOIN film AS f ON f.number = fa.film LEFT JOIN category AS k ON k.number = f.category ORDER BY a.number, k.name, k.number, f.title, f.number";
 
 /// All actors, those without a film too, each with the films by category, as the text of a list. The database stays
 /// as it was, unless the store fails, which commits nothing.
@@ -274,11 +276,6 @@ pub fn actor_info<S: Alter>(alloc: Global, conn: &mut Connection<S>) -> Result<S
         alloc,
         actor: None,
     };
-    each_row(
-        conn,
-        "SELECT a.number, a.first, a.last, k.number, k.name, f.title FROM actor AS a LEFT JOIN film_actor AS fa ON fa.actor = a.number LEFT JOIN film AS f ON f.number = fa.film LEFT JOIN category AS k ON k.number = f.category ORDER BY a.number, k.name, k.number, f.title, f.number",
-        &[],
-        &mut taker,
-    )?;
+    each_row(conn, SELECT_ACTORS, &[], &mut taker)?;
     Ok(finish(taker)?)
 }

@@ -2,7 +2,6 @@
 
 ghost use Rattle.std.specs.Prelude.{◌≡◌, ◌≤◌, length, ◌+◌, List, [], ◌∷◌, ◌++◌, Option, IfSome, IfOk, OnOk, map, string_bytes};
 ghost use Rattle.std.specs.List.{insert};
-ghost use Rattle.serde_json.specs.Data.{Data};
 ghost use Rattle.sqlite.specs.Held.{state};
 ghost use Rattle.sqlite.specs.State.{HasCleanDisk};
 ghost use Rattle.sql_rows.specs.Calls.{StaysSame};
@@ -14,14 +13,14 @@ ghost use Rattle.shop_model.specs.Answers.{shown_text};
 ghost use Rattle.shop_model.specs.Views.{sells_more, insert_by, sorted_by, sales_by_category};
 ghost use Rattle.shop_schema.specs.Shop.{Holds};
 ghost use Rattle.shop_schema.specs.Held.{IsHeld};
-ghost use Rattle.shop_views.specs.Page.{HasValues};
-ghost use Rattle.shop_views.specs.Sales.{seen_category, category_data};
+ghost use Rattle.shop_views.specs.Sales.{seen_category};
 ghost use Rattle.view_texts.specs.Payments.{PaidLine, shown_line, Sale, sale_in};
 ghost use Rattle.view_texts.specs.CategorySums.{seen_sum, with_amount, summed, sold, sales_of_branch, HasNames, HasSums};
 
+use crate::stores::SELECT_PAYMENTS;
 use shop_schema::text_at;
 use shop_values::{BranchNo, T45};
-use shop_views::{CategoryRow, ListPage, category_row};
+use shop_views::{CategoryRow, ListPage};
 use sql_rows::{StoreFault, TakesRows, each_row, number_at, number_or_null_at};
 use sqlite::types::ToSql;
 use sqlite::{Alter, Connection, Row};
@@ -64,6 +63,8 @@ impl TakesRows for CategoryNames {
     }
 }
 
+const SELECT_CATEGORIES: &str = "SELECT number, name FROM category ORDER BY number";
+
 /// The categories in the order of their numbers, without sums.
 fn categories<S: Alter>(
     alloc: Global,
@@ -77,12 +78,7 @@ fn categories<S: Alter>(
     let mut taker = CategoryNames {
         sums: Vec::new(alloc),
     };
-    each_row(
-        conn,
-        "SELECT number, name FROM category ORDER BY number",
-        &[],
-        &mut taker,
-    )?;
+    each_row(conn, SELECT_CATEGORIES, &[], &mut taker)?;
     Ok(taker.sums)
 }
 
@@ -148,12 +144,7 @@ fn with_sales<S: Alter>(
     ensures same { StaysSame S.Store conn.old conn.new result }
 {
     let mut taker = CategorySums { sums };
-    each_row(
-        conn,
-        "SELECT p.amount, r.number, f.category FROM payment AS p LEFT JOIN rental AS r ON r.branch = p.branch AND r.number = p.rental LEFT JOIN copy AS c ON c.branch = p.branch AND c.number = r.copy LEFT JOIN film AS f ON f.number = c.film WHERE p.branch = ?1 ORDER BY p.number",
-        &[branch.get().to_sql()],
-        &mut taker,
-    )?;
+    each_row(conn, SELECT_PAYMENTS, &[branch.get().to_sql()], &mut taker)?;
     Ok(taker.sums)
 }
 
@@ -209,22 +200,13 @@ fn in_order(alloc: Global, mut sums: Vec<CategorySum>) -> Result<Vec<CategoryRow
     Ok(rows)
 }
 
-/// Puts the category last.
-fn add_category(alloc: Global, row: &CategoryRow, page: &mut ListPage) -> Result<(), AllocError>
-    ensures { OnOk result ((values : List Data) → HasValues page.old values
-        → HasValues page.new (values ++ category_data (seen_category row.now) ∷ [])) }
-{
-    let value = category_row(alloc, row)?;
-    page.add(&value)
-}
-
 /// The text of the list of the rows.
 fn list_text(alloc: Global, rows: &[CategoryRow]) -> Result<String, AllocError>
     ensures { IfOk result (λ s. string_bytes s ≡ shown_text (CategoriesListed (map seen_category rows.now))) }
 {
     let mut page = ListPage::new(alloc);
     for row in rows {
-        add_category(alloc, row, &mut page)?;
+        page.add_row(row)?;
     }
     page.finish()
 }

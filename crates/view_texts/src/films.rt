@@ -1,7 +1,6 @@
 //! The list of all films, each with its actors: neighbouring rows of one join belong to one film.
 
 ghost use Rattle.std.specs.Prelude.{◌≡◌, List, [], ◌∷◌, ◌++◌, Option, Some, IfOk, OnOk, map, option_map, string_bytes};
-ghost use Rattle.serde_json.specs.Data.{Data};
 ghost use Rattle.sqlite.specs.Held.{state};
 ghost use Rattle.sqlite.specs.State.{HasCleanDisk};
 ghost use Rattle.sql_rows.specs.Calls.{StaysSame};
@@ -12,13 +11,13 @@ ghost use Rattle.sql_rows.specs.Rows.{number_value};
 ghost use Rattle.shop_model.specs.Shop.{Catalogue};
 ghost use Rattle.shop_model.specs.Books.{Books};
 ghost use Rattle.shop_model.specs.Machine.{FilmsListed};
-ghost use Rattle.shop_model.specs.Answers.{shown_text};
+ghost use Rattle.shop_model.specs.Answers.{listed_film, shown_text};
 ghost use Rattle.shop_model.specs.Views.{FilmRow as ModelFilm, film_list};
 ghost use Rattle.shop_types.specs.Films.{rating_text};
 ghost use Rattle.shop_schema.specs.Shop.{Holds};
 ghost use Rattle.shop_schema.specs.Held.{IsHeld};
-ghost use Rattle.shop_views.specs.Films.{film_with, seen_film, film_data};
-ghost use Rattle.shop_views.specs.Page.{HasValues};
+ghost use Rattle.shop_views.specs.Films.{film_with};
+ghost use Rattle.shop_views.specs.Page.{HasTexts};
 ghost use Rattle.view_texts.specs.Shown.{FilmLine, shown_film};
 ghost use Rattle.view_texts.specs.Films.{names_of, film_alone, seen_part, take_line, closed, HasFilms};
 
@@ -26,7 +25,7 @@ use crate::people::{name_at, person_name_or_null_at};
 use shop_schema::{row_number_at, text_at};
 use shop_types::{Minutes, Rating};
 use shop_values::Rate;
-use shop_views::{ListPage, ListedFilm, film_row};
+use shop_views::{ListPage, ListedFilm};
 use sql_rows::{StoreFault, TakesRows, each_row, number_at, number_or_null_at, words_at};
 use sqlite::{Alter, Connection, Row};
 use std::alloc::{AllocError, Global};
@@ -100,15 +99,6 @@ fn with_actor(film: ListedFilm, row: &Row) -> Result<ListedFilm, StoreFault>
     Ok(film)
 }
 
-/// Puts the film last.
-fn add_film(alloc: Global, film: ListedFilm, page: &mut ListPage) -> Result<(), AllocError>
-    ensures { OnOk result ((values : List Data) → HasValues page.old values
-        → HasValues page.new (values ++ film_data (seen_film film) ∷ [])) }
-{
-    let value = film_row(alloc, &film)?;
-    page.add(&value)
-}
-
 /// The film of the row with the row's actor. The film of the rows before, if it is another one, goes on the page.
 fn next_film(
     alloc: Global,
@@ -117,8 +107,8 @@ fn next_film(
     page: &mut ListPage,
 ) -> Result<ListedFilm, StoreFault>
     ensures { IfOk result (λ it. (catalogue : Catalogue) (line : FilmLine) (films : List ModelFilm)
-        → row.now ≡ shown_film catalogue line → HasValues page.old (map film_data films)
-        → HasValues page.new (map film_data (take_line catalogue (films, option_map seen_part film) line).0)
+        → row.now ≡ shown_film catalogue line → HasTexts page.old (map listed_film films)
+        → HasTexts page.new (map listed_film (take_line catalogue (films, option_map seen_part film) line).0)
         × (Some (seen_part it) ≡ (take_line catalogue (films, option_map seen_part film) line).1)) }
 {
     let Some(film) = film else {
@@ -127,7 +117,7 @@ fn next_film(
     if row_number_at(row, 0)? == film.number {
         with_actor(film, row)
     } else {
-        add_film(alloc, film, page)?;
+        page.add_row(&film)?;
         with_actor(film_at(alloc, row)?, row)
     }
 }
@@ -152,22 +142,21 @@ impl TakesRows for FilmPage {
 
 /// The text of the list with the last film.
 fn finish(taker: FilmPage) -> Result<String, AllocError>
-    ensures { IfOk result (λ s. (films : List ModelFilm) → HasValues taker.page (map film_data films)
+    ensures { IfOk result (λ s. (films : List ModelFilm) → HasTexts taker.page (map listed_film films)
         → string_bytes s ≡ shown_text (FilmsListed (closed (films, option_map seen_part taker.film)))) }
 {
-    let FilmPage {
-        mut page,
-        alloc,
-        film,
-    } = taker;
+    let FilmPage { mut page, film, .. } = taker;
     match film {
         Some(film) => {
-            add_film(alloc, film, &mut page)?;
+            page.add_row(&film)?;
             page.finish()
         }
         None => page.finish(),
     }
 }
+
+const SELECT_FILMS: &str =
+    "SELECT f.number, f.title, f.description, k.name, f.rate, f.length, f.rating, a.first, a.last FROM film AS f LEFT JOIN category AS k ON k.number = f.category LEFT JOIN film_actor AS fa ON fa.film = f.number LEFT JOIN actor AS a ON a.number = fa.actor ORDER BY f.number, fa.actor";
 
 /// All films, withdrawn ones and those without actors too, as the text of a list. The database stays as it was,
 /// unless the store fails, which commits nothing.
@@ -182,11 +171,6 @@ pub fn film_list<S: Alter>(alloc: Global, conn: &mut Connection<S>) -> Result<St
         alloc,
         film: None,
     };
-    each_row(
-        conn,
-        "SELECT f.number, f.title, f.description, k.name, f.rate, f.length, f.rating, a.first, a.last FROM film AS f LEFT JOIN category AS k ON k.number = f.category LEFT JOIN film_actor AS fa ON fa.film = f.number LEFT JOIN actor AS a ON a.number = fa.actor ORDER BY f.number, fa.actor",
-        &[],
-        &mut taker,
-    )?;
+    each_row(conn, SELECT_FILMS, &[], &mut taker)?;
     Ok(finish(taker)?)
 }

@@ -7,6 +7,7 @@ mod categories;
 mod customers;
 mod films;
 mod overdue;
+mod pages;
 mod people;
 mod staff;
 mod stores;

@@ -1,8 +1,7 @@
 //! The list of a branch's rentals that are overdue: of the rows of what is out, those whose periods ended on days
 //! before.
 
-ghost use Rattle.std.specs.Prelude.{◌≡◌, List, ◌∷◌, [], ◌++◌, IfOk, OnOk, string_bytes};
-ghost use Rattle.serde_json.specs.Data.{Data};
+ghost use Rattle.std.specs.Prelude.{◌≡◌, List, ◌∷◌, [], if◌then◌else◌, IfOk, string_bytes};
 ghost use Rattle.sqlite.specs.Held.{state};
 ghost use Rattle.sqlite.specs.State.{HasCleanDisk};
 ghost use Rattle.sqlite_value.specs.Order.{column};
@@ -12,19 +11,19 @@ ghost use Rattle.shop_model.specs.Values.{Rental, Terms};
 ghost use Rattle.shop_model.specs.Shop.{Catalogue, Shop};
 ghost use Rattle.shop_model.specs.Books.{Books, shop_of};
 ghost use Rattle.shop_model.specs.Machine.{OverdueAre};
-ghost use Rattle.shop_model.specs.Answers.{shown_text};
+ghost use Rattle.shop_model.specs.Answers.{overdue_text, shown_text};
 ghost use Rattle.shop_model.specs.Views.{overdue_row, overdue_list};
 ghost use Rattle.shop_schema.specs.Shop.{Holds};
 ghost use Rattle.shop_schema.specs.Held.{IsHeld};
-ghost use Rattle.shop_views.specs.Overdue.{overdue_data, seen_overdue};
-ghost use Rattle.shop_views.specs.Page.{HasValues};
-ghost use Rattle.view_texts.specs.Overdue.{shown_out, is_late, IsReal, HasOverdue};
+ghost use Rattle.shop_views.specs.Overdue.{seen_overdue};
+ghost use Rattle.view_texts.specs.Overdue.{shown_out, is_late, IsReal};
 
+use crate::pages::{ReadsRows, rows_text};
 use balance_rule::is_overdue;
 use shop_schema::{moment_at, text_at};
 use shop_types::{BranchNo, Moment};
-use shop_views::{ListPage, OverdueRow, overdue_row};
-use sql_rows::{StoreFault, TakesRows, each_row, number_at};
+use shop_views::OverdueRow;
+use sql_rows::{StoreFault, number_at};
 use sqlite::types::ToSql;
 use sqlite::{Alter, Connection, Row};
 use std::alloc::Global;
@@ -62,35 +61,30 @@ fn read_overdue(row: &Row) -> Result<OverdueRow, StoreFault>
     })
 }
 
-/// Puts the rental last.
-fn add_overdue(alloc: Global, row: &OverdueRow, page: &mut ListPage) -> Result<(), StoreFault>
-    ensures { OnOk result ((values : List Data) → HasValues page.old values
-        → HasValues page.new (values ++ overdue_data (seen_overdue row.now) ∷ [])) }
-{
-    let value = overdue_row(alloc, row)?;
-    Ok(page.add(&value)?)
-}
-
-/// The list of the rentals that are overdue at the moment, so far.
+/// Reads the rentals that are overdue at a moment.
 #[derive(Drop)]
-pub(crate) struct OverduePage {
-    page: ListPage,
-    alloc: Global,
+pub(crate) struct OverdueAt {
     moment: Moment,
 }
 
-impl TakesRows for OverduePage {
-    ghost took = { HasOverdue };
+impl ReadsRows for OverdueAt {
+    type Listed = OverdueRow;
 
-    fn take(&mut self, row: &Row) -> Result<(), StoreFault> {
+    ghost reads = { λ it row texts. (catalogue : Catalogue) (shop : Shop) (out : Rental × Terms) → IsReal out
+        → row ≡ shown_out catalogue shop out
+        → texts ≡ (if is_late it.moment out then overdue_text (overdue_row catalogue shop out.0) ∷ [] else []) };
+
+    fn read(&self, _alloc: Global, row: &Row) -> Result<Option<OverdueRow>, StoreFault> {
         let late = is_late_at(row, self.moment)?;
         if !late {
-            return Ok(());
+            return Ok(None);
         }
-        let overdue = read_overdue(row)?;
-        add_overdue(self.alloc, &overdue, &mut self.page)
+        Ok(Some(read_overdue(row)?))
     }
 }
+
+const SELECT_OUTS: &str =
+    "SELECT r.moment, t.period, cu.first, cu.last, cu.phone, f.title FROM out_copy AS o LEFT JOIN rental AS r ON r.branch = o.branch AND r.number = o.rental LEFT JOIN rental_terms AS t ON t.branch = o.branch AND t.rental = o.rental LEFT JOIN customer AS cu ON cu.branch = o.branch AND cu.number = r.customer LEFT JOIN copy AS c ON c.branch = o.branch AND c.number = o.copy LEFT JOIN film AS f ON f.number = c.film WHERE o.branch = ?1 ORDER BY o.rental";
 
 /// The branch's rentals that are overdue at the moment, in order of number, as the text of a list. One statement
 /// reads as many rows of each table as copies are out, and sorts what it finds. A row that lacks its rental, terms,
@@ -107,17 +101,11 @@ pub fn overdue_list<S: Alter>(
         ≡ shown_text (OverdueAre (overdue_list books.catalogue (shop_of branch books) at))) }
     ensures same { StaysSame S.Store conn.old conn.new result }
 {
-    let mut taker = OverduePage {
-        page: ListPage::new(alloc),
+    rows_text(
         alloc,
-        moment: at,
-    };
-    each_row(
         conn,
-        "SELECT r.moment, t.period, cu.first, cu.last, cu.phone, f.title FROM out_copy AS o LEFT JOIN rental AS r ON r.branch = o.branch AND r.number = o.rental LEFT JOIN rental_terms AS t ON t.branch = o.branch AND t.rental = o.rental LEFT JOIN customer AS cu ON cu.branch = o.branch AND cu.number = r.customer LEFT JOIN copy AS c ON c.branch = o.branch AND c.number = o.copy LEFT JOIN film AS f ON f.number = c.film WHERE o.branch = ?1 ORDER BY o.rental",
+        SELECT_OUTS,
         &[branch.get().to_sql()],
-        &mut taker,
-    )?;
-    let OverduePage { page, .. } = taker;
-    Ok(page.finish()?)
+        OverdueAt { moment: at },
+    )
 }

@@ -1,27 +1,26 @@
 //! What branches have taken for rentals.
 
 ghost use Rattle.std.specs.Prelude.{◌≡◌, ℕ, List, [], ◌∷◌, ◌++◌, Option, Some, None, IfOk, OnOk, map, option_map, false, not, flat_map, string_bytes};
-ghost use Rattle.serde_json.specs.Data.{Data};
 ghost use Rattle.sqlite.specs.Held.{state};
 ghost use Rattle.sqlite.specs.State.{HasCleanDisk};
 ghost use Rattle.sql_rows.specs.Calls.{StaysSame};
 ghost use Rattle.shop_model.specs.Rows.{at, lacks, numbered};
-ghost use Rattle.shop_model.specs.Values.{Branch};
+ghost use Rattle.shop_model.specs.Values.{Text, Branch};
 ghost use Rattle.shop_model.specs.Shop.{Catalogue};
 ghost use Rattle.shop_model.specs.Books.{Books, head, shop_of};
 ghost use Rattle.shop_model.specs.Machine.{StoresListed};
-ghost use Rattle.shop_model.specs.Answers.{shown_text};
+ghost use Rattle.shop_model.specs.Answers.{listed_store, shown_text};
 ghost use Rattle.shop_model.specs.Views.{sales_by_store};
 ghost use Rattle.shop_schema.specs.Shop.{Holds};
 ghost use Rattle.shop_schema.specs.Held.{IsHeld};
-ghost use Rattle.shop_views.specs.Page.{HasValues};
-ghost use Rattle.shop_views.specs.Sales.{seen_store, store_data};
+ghost use Rattle.shop_views.specs.Page.{HasTexts};
+ghost use Rattle.shop_views.specs.Sales.{seen_store};
 ghost use Rattle.view_texts.specs.Payments.{PaidLine, shown_line, Sale, sale_in};
 ghost use Rattle.view_texts.specs.Sales.{sum_of, HasSold, shown_store, store_with, HasFound, rental_sum, sales_of_branch, sales_of_first};
 
 use crate::people::{city_at, person_name_or_null_at};
 use shop_values::BranchNo;
-use shop_views::{ListPage, StoreRow, store_row};
+use shop_views::{ListPage, StoreRow};
 use sql_rows::{StoreFault, TakesRows, each_row, number_at, number_or_null_at};
 use sqlite::types::ToSql;
 use sqlite::{Alter, Connection, Row};
@@ -87,6 +86,9 @@ impl TakesRows for FoundStore {
     }
 }
 
+const SELECT_STORE: &str =
+    "SELECT b.number, ci.name, co.name, s.first, s.last FROM branch AS b LEFT JOIN city AS ci ON ci.number = b.city LEFT JOIN country AS co ON co.number = ci.country LEFT JOIN staff AS s ON s.number = b.manager WHERE b.number = ?1 ORDER BY b.number";
+
 /// The branch's row, with no sum yet, or none where there is no such branch.
 fn find_store<S: Alter>(
     alloc: Global,
@@ -99,30 +101,22 @@ fn find_store<S: Alter>(
     ensures same { StaysSame S.Store conn.old conn.new result }
 {
     let mut taker = FoundStore { alloc, row: None };
-    each_row(
-        conn,
-        "SELECT b.number, ci.name, co.name, s.first, s.last FROM branch AS b LEFT JOIN city AS ci ON ci.number = b.city LEFT JOIN country AS co ON co.number = ci.country LEFT JOIN staff AS s ON s.number = b.manager WHERE b.number = ?1 ORDER BY b.number",
-        &[branch.get().to_sql()],
-        &mut taker,
-    )?;
+    each_row(conn, SELECT_STORE, &[branch.get().to_sql()], &mut taker)?;
     Ok(taker.row)
 }
 
 /// Puts the branch with this sum last.
-fn add_store(
-    alloc: Global,
-    row: StoreRow,
-    total: u64,
-    page: &mut ListPage,
-) -> Result<(), AllocError>
-    ensures { OnOk result ((values : List Data) → HasValues page.old values
-        → HasValues page.new (values ++ store_data (record (seen_store row) { total = total }) ∷ [])) }
+fn add_store(row: StoreRow, total: u64, page: &mut ListPage) -> Result<(), AllocError>
+    ensures { OnOk result ((texts : List Text) → HasTexts page.old texts
+        → HasTexts page.new (texts ++ listed_store (record (seen_store row) { total = total }) ∷ [])) }
 {
     let mut row = row;
     row.total = total;
-    let value = store_row(alloc, &row)?;
-    page.add(&value)
+    page.add_row(&row)
 }
+
+pub(crate) const SELECT_PAYMENTS: &str =
+    "SELECT p.amount, r.number, f.category FROM payment AS p LEFT JOIN rental AS r ON r.branch = p.branch AND r.number = p.rental LEFT JOIN copy AS c ON c.branch = p.branch AND c.number = r.copy LEFT JOIN film AS f ON f.number = c.film WHERE p.branch = ?1 ORDER BY p.number";
 
 /// What the branch's payments brought that name a rental, or none where there is no such payment.
 fn rental_sum<S: Alter>(
@@ -135,29 +129,19 @@ fn rental_sum<S: Alter>(
     ensures same { StaysSame S.Store conn.old conn.new result }
 {
     let mut taker = SalesSum { sum: None };
-    each_row(
-        conn,
-        "SELECT p.amount, r.number, f.category FROM payment AS p LEFT JOIN rental AS r ON r.branch = p.branch AND r.number = p.rental LEFT JOIN copy AS c ON c.branch = p.branch AND c.number = r.copy LEFT JOIN film AS f ON f.number = c.film WHERE p.branch = ?1 ORDER BY p.number",
-        &[branch.get().to_sql()],
-        &mut taker,
-    )?;
+    each_row(conn, SELECT_PAYMENTS, &[branch.get().to_sql()], &mut taker)?;
     Ok(taker.sum)
 }
 
 /// Puts the branch of the row last, if its payments brought a sum.
-fn add_sold(
-    alloc: Global,
-    row: StoreRow,
-    sum: Option<u64>,
-    page: &mut ListPage,
-) -> Result<(), AllocError>
-    ensures { OnOk result ((books : Books) (branch : ℕ) (values : List Data)
+fn add_sold(row: StoreRow, sum: Option<u64>, page: &mut ListPage) -> Result<(), AllocError>
+    ensures { OnOk result ((books : Books) (branch : ℕ) (texts : List Text)
         → Some (seen_store row) ≡ head (map (store_with books.catalogue 0) (at branch books.catalogue.branches))
-        → sum ≡ rental_sum (shop_of branch books) → HasValues page.old values
-        → HasValues page.new (values ++ map store_data (sales_of_branch books branch))) }
+        → sum ≡ rental_sum (shop_of branch books) → HasTexts page.old texts
+        → HasTexts page.new (texts ++ map listed_store (sales_of_branch books branch))) }
 {
     match sum {
-        Some(total) => add_store(alloc, row, total, page),
+        Some(total) => add_store(row, total, page),
         None => Ok(()),
     }
 }
@@ -170,8 +154,8 @@ fn add_branch<S: Alter>(
     page: &mut ListPage,
 ) -> Result<bool, StoreFault>
     ensures added { HasCleanDisk (state S.Store conn.new)
-        → OnOk result ((books : Books) (values : List Data) → Holds (state S.Store conn.old) books → IsHeld books
-        → HasValues page.old values → HasValues page.new (values ++ map store_data (sales_of_branch books branch))) }
+        → OnOk result ((books : Books) (texts : List Text) → Holds (state S.Store conn.old) books → IsHeld books
+        → HasTexts page.old texts → HasTexts page.new (texts ++ map listed_store (sales_of_branch books branch))) }
     ensures there { HasCleanDisk (state S.Store conn.new)
         → IfOk result (λ there. (books : Books) → Holds (state S.Store conn.old) books → there ≡ not
         (lacks books.catalogue.branches branch)) }
@@ -181,7 +165,7 @@ fn add_branch<S: Alter>(
         return Ok(false);
     };
     let sum = rental_sum(conn, branch)?;
-    add_sold(alloc, row, sum, page)?;
+    add_sold(row, sum, page)?;
     Ok(true)
 }
 
@@ -209,8 +193,8 @@ fn add_branches<S: Alter>(
     page: &mut ListPage,
 ) -> Result<(), StoreFault>
     ensures added { HasCleanDisk (state S.Store conn.new)
-        → OnOk result ((books : Books) → Holds (state S.Store conn.old) books → IsHeld books → HasValues page.old []
-        → HasValues page.new (map store_data (sales_of_first books books.catalogue.branches))) }
+        → OnOk result ((books : Books) → Holds (state S.Store conn.old) books → IsHeld books → HasTexts page.old []
+        → HasTexts page.new (map listed_store (sales_of_first books books.catalogue.branches))) }
     ensures same { StaysSame S.Store conn.old conn.new result }
 {
     'branches: for number in 1..=u32::MAX {

@@ -1,9 +1,9 @@
-use Rattle.shop_schema.proofs.Common.{[], refl, map, StoresListed}
-use Rattle.shop_views.specs.Sales.{store_data}
+use Rattle.shop_schema.proofs.Common.{[], map}
+use Rattle.shop_model.specs.Answers.{listed_store}
 use Rattle.view_texts.specs.Sales.{sales_of_branch}
 use Rattle.view_texts.proofs.stores.sales_by_store.Goals as goal
 
 pub returns-clause-text : goal.returns-clause-text
 returns-clause-text g c clean books holds held =
     let rows = sales_of_branch books c.args.branch in
-    c.in_ok-finish.ensures.shown (StoresListed rows) (map store_data rows) refl (c.in_ok-add_branch.ensures.added clean books [] holds held c.new-page.ensures)
+    c.in_ok-finish.ensures (map listed_store rows) (c.in_ok-add_branch.ensures.added clean books [] holds held c.new-page.ensures)

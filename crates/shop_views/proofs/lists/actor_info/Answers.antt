@@ -1,8 +1,0 @@
-use Rattle.shop_types.proofs.Common.{refl, IfOk-weaker, ActorsListed}
-use Rattle.serde_json.specs.View.{view}
-use Rattle.shop_views.specs.Films.{seen_actor, actor_data}
-use Rattle.shop_views.proofs.PageLemmas.{listed}
-use Rattle.shop_views.proofs.lists.actor_info.Goals as goal
-
-pub returns : goal.returns
-returns c = IfOk-weaker c.list_of.result _ _ (λ v is. listed ActorsListed seen_actor actor_data (λ rows. refl) (λ it. refl) c.args.rows.now (view v) is) c.list_of.ensures
