@@ -1,5 +1,5 @@
 -- What is checked of rows in order is the soundness of the books that have them.
-use Rattle.shop_types.proofs.Common.{◌≡◌, ◌&&◌, ◌+◌, ◌≤◌, ◌==◌, ◌++◌, inl, inr, ℕ, suc, zero, List, [], ◌∷◌, map, filter, length, not, Bool, true, false, cond, refl, sym, ap, subst, ◌∙◌, arith, nat_lt, nat_le, IsPermutation, None, list_all, flat_map, bytes_eq, nat_tests, IsPermutation-map, IsPermutation-refl, IsPermutation-sym, Moment, Row, Owned, at, is_empty, owned_by, numbered_from, IsCounted, AreNumbered, Text, Customer, Rental, Terms, Payment, Arrival, Rules, Kept, has_row, are_different, is_parcel, Books, BookCopy, Line, UnderWay, Consignment, shop_of, as_arrival, as_parcel, head, HasOwners, IsSound, widest, all_lines, is_settled, line_is, at_zero}
+use Rattle.shop_types.proofs.Common.{◌≡◌, ◌&&◌, ◌+◌, ◌≤◌, ◌==◌, ◌++◌, inl, inr, ℕ, suc, zero, List, [], ◌∷◌, map, filter, length, not, Bool, true, false, cond, refl, sym, ap, subst, ◌∙◌, arith, nat_lt, nat_le, IsPermutation, None, list_all, flat_map, bytes_eq, nat_tests, IsPermutation-map, IsPermutation-refl, IsPermutation-sym, Moment, Row, Owned, at, is_empty, owned_by, numbered_from, IsCounted, AreNumbered, Text, Customer, Rental, Terms, Payment, Arrival, Rules, Kept, has_row, are_different, is_parcel, Books, BookCopy, Line, UnderWay, Consignment, shop_of, as_arrival, as_parcel, head, HasOwners, IsSound, widest, all_lines, is_settled, line_is, at_zero, AreRowsOwned, Table, Customers, CopyRows, Rentals, TermRows, Payments, RowOf, rows_of, is_of}
 use Rattle.sqlite_keyed.proofs.ListLemmas.{IsPermutation-flat_map}
 use Rattle.audit_rows.specs.declared.books.OrderedBooks.{OrderedBooks}
 use Rattle.audit_rows.specs.declared.rows.CheckedBranch.{CheckedBranch}
@@ -142,18 +142,25 @@ module _ (rows : OrderedBooks) (books : Books) (o : AreOrdered rows) (s : HaveOr
       let c1 = both (list_all (λ (row : CheckedHeader). is_among count row.source) rows.headers.items) (list_all (λ (row : CheckedHeader). is_among count row.addressee) rows.headers.items) a2.1 in
       record { customers = r1.0; copies = r1.1; rentals = r2.1; terms = r4.1; payments = r3.1; lots = q1.0; kept = q1.1; sources = c1.0; addressees = c1.1 }
 
+  rows_owned : Owners → (t : Table) → AreRowsOwned books.catalogue.branches t (rows_of books t)
+  rows_owned p Customers = own_customers ∙ p.customers
+  rows_owned p CopyRows = own_copies ∙ p.copies
+  rows_owned p Rentals = own_rentals ∙ p.rentals
+  rows_owned p TermRows = own_terms ∙ p.terms
+  rows_owned p Payments = own_payments ∙ p.payments
+
   owners_from_rows : is_owned rows ≡ true → HasOwners books.catalogue.branches books
   owners_from_rows h =
       let p = owners_open h in
-      record { customers = own_customers ∙ p.customers; copies = own_copies ∙ p.copies; rentals = own_rentals ∙ p.rentals; terms = own_terms ∙ p.terms; payments = own_payments ∙ p.payments; lots = own_lots ∙ p.lots; kept = own_kept ∙ p.kept; sources = own_sources ∙ p.sources; addressees = own_addressees ∙ p.addressees; lasts = own_lasts }
+      record { rows = rows_owned p; lots = own_lots ∙ p.lots; kept = own_kept ∙ p.kept; sources = own_sources ∙ p.sources; addressees = own_addressees ∙ p.addressees; lasts = own_lasts }
 
   rows_from_owners : HasOwners books.catalogue.branches books → is_owned rows ≡ true
   rows_from_owners g =
-      let p0 : list_all (λ (row : CheckedCustomer). is_among count row.branch) rows.customers.items ≡ true = sym own_customers ∙ g.customers in
-      let p1 : list_all (λ (row : CheckedCopy). is_among count row.branch) rows.copies.items ≡ true = sym own_copies ∙ g.copies in
-      let p2 : list_all (λ (row : CheckedRental). is_among count row.branch) rows.rentals.items ≡ true = sym own_rentals ∙ g.rentals in
-      let p3 : list_all (λ (row : CheckedPayment). is_among count row.branch) rows.payments.items ≡ true = sym own_payments ∙ g.payments in
-      let t : list_all (λ (row : CheckedTerms). is_among count row.branch) rows.terms.items ≡ true = sym own_terms ∙ g.terms in
+      let p0 : list_all (λ (row : CheckedCustomer). is_among count row.branch) rows.customers.items ≡ true = sym own_customers ∙ g.rows Customers in
+      let p1 : list_all (λ (row : CheckedCopy). is_among count row.branch) rows.copies.items ≡ true = sym own_copies ∙ g.rows CopyRows in
+      let p2 : list_all (λ (row : CheckedRental). is_among count row.branch) rows.rentals.items ≡ true = sym own_rentals ∙ g.rows Rentals in
+      let p3 : list_all (λ (row : CheckedPayment). is_among count row.branch) rows.payments.items ≡ true = sym own_payments ∙ g.rows Payments in
+      let t : list_all (λ (row : CheckedTerms). is_among count row.branch) rows.terms.items ≡ true = sym own_terms ∙ g.rows TermRows in
       let p4 : list_all (λ (row : CheckedLot). is_among count row.branch) rows.lots.items ≡ true = sym own_lots ∙ g.lots in
       let p5 : list_all (λ (row : CheckedKept). is_among count row.branch) rows.kept.items ≡ true = sym own_kept ∙ g.kept in
       let p6 : list_all (λ (row : CheckedHeader). is_among count row.source) rows.headers.items ≡ true = sym own_sources ∙ g.sources in
@@ -312,6 +319,13 @@ module _ (rows : OrderedBooks) (books : Books) (o : AreOrdered rows) (s : HaveOr
 
   -- ---- all of it
 
+  numbered : (b : ℕ) → BranchFacts rules b books → (t : Table) → AreNumbered (is_of b) (λ (row : Row (RowOf t)). row.number) (rows_of books t)
+  numbered b part Customers = part.customers
+  numbered b part CopyRows = part.copies
+  numbered b part Rentals = part.rentals
+  numbered b part TermRows = part.terms
+  numbered b part Payments = part.payments
+
   pub sound_from_checks : AreChecked rows books.consignments → IsSound (widest rules) books
   sound_from_checks h =
       let c2 = both (are_settled (length rows.films.items) (map seen_header rows.headers.items) (map seen_placed rows.lines.items) && pairs_follow (map seen_header rows.headers.items)) (counts_from 1 (map (λ (it : Consignment). it.place) its)) h.consignments in
@@ -326,11 +340,7 @@ module _ (rows : OrderedBooks) (books : Books) (o : AreOrdered rows) (s : HaveOr
         catalogue = catalogue_from_rows rows books o s.shared rules h.catalogue;
         owners = owners_from_rows h.owned;
         numbers = record {
-          customers = λ b. (each b).customers;
-          copies = λ b. (each b).copies;
-          rentals = λ b. (each b).rentals;
-          terms = λ b. (each b).terms;
-          payments = λ b. (each b).payments;
+          rows = λ t b. numbered b (each b) t;
           consignments = numbers_from_rows places c1.1;
         };
         places = places;
@@ -370,11 +380,11 @@ module _ (rows : OrderedBooks) (books : Books) (o : AreOrdered rows) (s : HaveOr
         consignments = (λ i. settled i && pairs i && places i);
         custody = rows_from_books ((of_books books).0 (in_custody (widest rules) books g));
         parts = goods (λ b. record {
-          customers = g.numbers.customers b;
-          copies = g.numbers.copies b;
-          rentals = g.numbers.rentals b;
-          terms = g.numbers.terms b;
-          payments = g.numbers.payments b;
+          customers = g.numbers.rows Customers b;
+          copies = g.numbers.rows CopyRows b;
+          rentals = g.numbers.rows Rentals b;
+          terms = g.numbers.rows TermRows b;
+          payments = g.numbers.rows Payments b;
           termed = g.terms b;
           held = g.held b;
           shop = g.shops b;

@@ -1,5 +1,5 @@
 -- Books that are sound stay so in the order of their keys.
-use Rattle.shop_types.proofs.Common.{◌≡◌, ◌&&◌, ◌+◌, ◌≤◌, ◌==◌, ℕ, List, [], ◌∷◌, map, filter, length, Bool, true, false, cond, refl, sym, ap, subst, ◌∙◌, arith, true≢false, IsPermutation, Ordering, bytes_eq, nat_cmp, list_all, flat_map, nat_cmp_total, on_total, nat_eq_equiv, nat_tests, IsPermutation-map, length_permutation, list_any-IsPermutation, Moment, Row, Owned, is_of, owned_by, IsCounted, AreNumbered, total, Text, Branch, Cast, Rules, Here, Scrapped, Kept, OfficeKept, Catalogue, Shop, IsGoodShop, has_row, IsLinkedShop, IsGoodCatalogue, Books, BookCopy, Mark, Line, UnderWay, Missing, Consignment, shop_of, head, unmarked, as_arrival, as_parcel, HasOneHolder, HasOwners, HasTerms, IsSound, is_made_as, is_origin, is_settled, one, copy_is, lines_in, all_lines}
+use Rattle.shop_types.proofs.Common.{◌≡◌, ◌&&◌, ◌+◌, ◌≤◌, ◌==◌, ℕ, List, [], ◌∷◌, map, filter, length, Bool, true, false, cond, refl, sym, ap, subst, ◌∙◌, arith, true≢false, IsPermutation, Ordering, bytes_eq, nat_cmp, list_all, flat_map, nat_cmp_total, on_total, nat_eq_equiv, nat_tests, IsPermutation-map, length_permutation, list_any-IsPermutation, Moment, Row, Owned, is_of, owned_by, IsCounted, AreNumbered, total, Text, Branch, Cast, Rules, Here, Scrapped, Kept, OfficeKept, Catalogue, Shop, IsGoodShop, has_row, IsLinkedShop, IsGoodCatalogue, Books, BookCopy, Mark, Line, UnderWay, Missing, Consignment, shop_of, head, unmarked, as_arrival, as_parcel, HasOneHolder, HasOwners, HasTerms, IsSound, is_made_as, is_origin, is_settled, one, copy_is, lines_in, all_lines, AreRowsNumbered, AreRowsOwned, Table, Customers, CopyRows, Rentals, TermRows, Payments, rows_of}
 use Rattle.sqlite_keyed.proofs.ListLemmas.{along_permutation, IsPermutation-filter}
 use Rattle.sqlite_keyed.proofs.SortLemmas.{sorted_unique}
 use Rattle.audit_rows.specs.Canons.{IsCanonOf, office_key}
@@ -136,11 +136,11 @@ module _ (c b : Books) (canon : IsCanonOf c b) (rules : Rules) (sound : IsSound 
   -- the shop of a branch but for the order of its keys and lots, and the last moment
   shop_same : (n : ℕ) → head (owned_by n c.lasts) ≡ head (owned_by n b.lasts) → shop_of n c ≡ record (shop_of n b) { lots = owned_by n c.lots; kept = owned_by n c.kept }
   shop_same n last = λ i. record {
-    customers = same_items n c.customers b.customers canon.customers_climb canon.customers (sound.numbers.customers n) i;
-    copies = map unmarked (same_items n c.copies b.copies canon.copies_climb canon.copies (sound.numbers.copies n) i);
-    rentals = same_items n c.rentals b.rentals canon.rentals_climb canon.rentals (sound.numbers.rentals n) i;
-    terms = same_items n c.terms b.terms canon.terms_climb canon.terms (sound.numbers.terms n) i;
-    payments = same_items n c.payments b.payments canon.payments_climb canon.payments (sound.numbers.payments n) i;
+    customers = same_items n c.customers b.customers canon.customers_climb canon.customers (sound.numbers.rows Customers n) i;
+    copies = map unmarked (same_items n c.copies b.copies canon.copies_climb canon.copies (sound.numbers.rows CopyRows n) i);
+    rentals = same_items n c.rentals b.rentals canon.rentals_climb canon.rentals (sound.numbers.rows Rentals n) i;
+    terms = same_items n c.terms b.terms canon.terms_climb canon.terms (sound.numbers.rows TermRows n) i;
+    payments = same_items n c.payments b.payments canon.payments_climb canon.payments (sound.numbers.rows Payments n) i;
     lots = owned_by n c.lots;
     arrivals = map as_arrival (filter (λ (it : Consignment). it.addressee == n) (consignments_same i));
     sent = map as_parcel (filter (λ (it : Consignment). it.source == n) (consignments_same i));
@@ -182,13 +182,16 @@ module _ (c b : Books) (canon : IsCanonOf c b) (rules : Rules) (sound : IsSound 
   made_same : (film : ℕ) (mark : Mark) → is_made_as c.copies film mark ≡ is_made_as b.copies film mark
   made_same film mark = sym (list_any-IsPermutation (λ (row : Row BookCopy). is_origin row && row.it.film == film && row.it.mark.branch == mark.branch && row.it.mark.copy == mark.copy) b.copies c.copies canon.copies)
 
+  rows_owned : (t : Table) → AreRowsOwned b.catalogue.branches t (rows_of c t)
+  rows_owned Customers = sym (all_along _ b.customers c.customers canon.customers) ∙ sound.owners.rows Customers
+  rows_owned CopyRows = sym (all_along _ b.copies c.copies canon.copies) ∙ sound.owners.rows CopyRows
+  rows_owned Rentals = sym (all_along _ b.rentals c.rentals canon.rentals) ∙ sound.owners.rows Rentals
+  rows_owned TermRows = sym (all_along _ b.terms c.terms canon.terms) ∙ sound.owners.rows TermRows
+  rows_owned Payments = sym (all_along _ b.payments c.payments canon.payments) ∙ sound.owners.rows Payments
+
   owners : HasOwners b.catalogue.branches c
   owners = record {
-    customers = sym (all_along _ b.customers c.customers canon.customers) ∙ sound.owners.customers;
-    copies = sym (all_along _ b.copies c.copies canon.copies) ∙ sound.owners.copies;
-    rentals = sym (all_along _ b.rentals c.rentals canon.rentals) ∙ sound.owners.rentals;
-    terms = sym (all_along _ b.terms c.terms canon.terms) ∙ sound.owners.terms;
-    payments = sym (all_along _ b.payments c.payments canon.payments) ∙ sound.owners.payments;
+    rows = rows_owned;
     lots = sym (all_along _ b.lots c.lots canon.lots) ∙ sound.owners.lots;
     kept = sym (all_along _ b.kept c.kept canon.kept) ∙ sound.owners.kept;
     lasts = canon.owners;
@@ -199,17 +202,20 @@ module _ (c b : Books) (canon : IsCanonOf c b) (rules : Rules) (sound : IsSound 
   counted : {A : Type 0} (n : ℕ) (xs ys : List (Row A)) → filter (is_of n) xs ≡ filter (is_of n) ys → AreNumbered (is_of n) (λ (row : Row A). row.number) ys → AreNumbered (is_of n) (λ (row : Row A). row.number) xs
   counted {A} n xs ys e h = subst (λ (rows : List (Row A)). IsCounted 1 (map (λ (row : Row A). row.number) rows)) (sym e) h
 
+  rows_numbered : (t : Table) → AreRowsNumbered t (rows_of c t)
+  rows_numbered Customers n = counted n c.customers b.customers (same_branch n c.customers b.customers canon.customers_climb canon.customers (sound.numbers.rows Customers n)) (sound.numbers.rows Customers n)
+  rows_numbered CopyRows n = counted n c.copies b.copies (same_branch n c.copies b.copies canon.copies_climb canon.copies (sound.numbers.rows CopyRows n)) (sound.numbers.rows CopyRows n)
+  rows_numbered Rentals n = counted n c.rentals b.rentals (same_branch n c.rentals b.rentals canon.rentals_climb canon.rentals (sound.numbers.rows Rentals n)) (sound.numbers.rows Rentals n)
+  rows_numbered TermRows n = counted n c.terms b.terms (same_branch n c.terms b.terms canon.terms_climb canon.terms (sound.numbers.rows TermRows n)) (sound.numbers.rows TermRows n)
+  rows_numbered Payments n = counted n c.payments b.payments (same_branch n c.payments b.payments canon.payments_climb canon.payments (sound.numbers.rows Payments n)) (sound.numbers.rows Payments n)
+
   -- sound books are sound in the order of their keys, too
   pub stays_sound : IsSound rules c
   stays_sound = record {
     catalogue = subst (IsGoodCatalogue rules) (sym canon.shared) (good_catalogue b.catalogue c.catalogue.kept c.catalogue.casts canon.office_kept canon.casts rules sound.catalogue);
     owners = subst (λ (branches : List Branch). HasOwners branches c) (sym branches_same) owners;
     numbers = record {
-      customers = λ n. counted n c.customers b.customers (same_branch n c.customers b.customers canon.customers_climb canon.customers (sound.numbers.customers n)) (sound.numbers.customers n);
-      copies = λ n. counted n c.copies b.copies (same_branch n c.copies b.copies canon.copies_climb canon.copies (sound.numbers.copies n)) (sound.numbers.copies n);
-      rentals = λ n. counted n c.rentals b.rentals (same_branch n c.rentals b.rentals canon.rentals_climb canon.rentals (sound.numbers.rentals n)) (sound.numbers.rentals n);
-      terms = λ n. counted n c.terms b.terms (same_branch n c.terms b.terms canon.terms_climb canon.terms (sound.numbers.terms n)) (sound.numbers.terms n);
-      payments = λ n. counted n c.payments b.payments (same_branch n c.payments b.payments canon.payments_climb canon.payments (sound.numbers.payments n)) (sound.numbers.payments n);
+      rows = rows_numbered;
       consignments = λ source addressee. subst (λ (its : List Consignment). AreNumbered (λ (it : Consignment). it.source == source && it.addressee == addressee) (λ (it : Consignment). it.number) its) (sym consignments_same) (sound.numbers.consignments source addressee);
     };
     places = subst (λ (its : List Consignment). IsCounted 1 (map (λ (it : Consignment). it.place) its)) (sym consignments_same) sound.places;

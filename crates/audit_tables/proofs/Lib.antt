@@ -2,5 +2,6 @@ pub mod RowLists
 pub mod Ranges
 pub mod KeptRows
 pub mod Ends
+pub mod Told
 pub mod ActLemmas
 pub mod OfficeLemmas

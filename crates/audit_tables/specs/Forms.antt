@@ -1,5 +1,5 @@
 -- Forms as lists of parts.
-use Rattle.std.specs.Prelude.{◌≡◌, ◌≤◌, ℕ, Bool, false, List, [], ◌∷◌, ◌++◌, length, flat_map, Option, IfSome}
+use Rattle.std.specs.Prelude.{⊤, ◌≡◌, ◌≤◌, ◌+◌, ℕ, Bool, false, List, [], ◌∷◌, ◌++◌, length, slice_get, flat_map, Option, Some, IfSome}
 use Rattle.shop_model.specs.Calendar.{Moment, IsMoment, moment_text}
 use Rattle.shop_model.specs.Values.{Act, Command, OfficeAct}
 use Rattle.shop_schema.specs.Forms.{number_form, text_form, numbers_form, option_form, flag_form, act_form, command_form, office_form}
@@ -7,25 +7,56 @@ use Rattle.shop_schema.specs.RowValues.{IsNumber, IsText, IsKey, IsToken, IsRati
 use Rattle.audit_tables.specs.declared.parts.Part.{Part}
 use Rattle.audit_tables.specs.declared.parts.Part.TheVariants as part
 
--- the bytes are the form of such a part
+-- what a part of such a kind holds
+abbrev pub Held : Part → Type 0
+Held (part.Number low high) = ℕ
+Held part.Flag = Bool
+Held part.Unset = Bool
+Held part.Moment = Moment
+Held (part.Optional low high) = Option ℕ
+Held it = List ℕ
+
+-- what of that it may hold
+abbrev pub MayHold : (it : Part) → Held it → Type 0
+MayHold (part.Number low high) n = (low ≤ n) × (n ≤ high)
+MayHold (part.Text low high) t = IsText low high t
+MayHold part.Key t = IsKey t
+MayHold part.Token t = IsToken t
+MayHold part.Rating t = IsRating t
+MayHold part.Features t = IsFeatures t
+MayHold (part.Bytes most) t = (length t ≤ most) × AreBytes t
+MayHold part.Flag b = ⊤
+MayHold part.Unset b = b ≡ false
+MayHold part.Moment m = IsMoment m
+MayHold (part.Numbers most) ns = (length ns ≤ most) × AreNumbers ns
+MayHold (part.Optional low high) o = IfSome o (λ n. (low ≤ n) × (n ≤ high))
+
+abbrev pub held_form : (it : Part) → Held it → List ℕ
+held_form (part.Number low high) n = number_form n
+held_form part.Flag b = flag_form b
+held_form part.Unset b = flag_form b
+held_form part.Moment m = moment_text m
+held_form (part.Numbers most) ns = numbers_form ns
+held_form (part.Optional low high) o = option_form o
+held_form it t = text_form t
+
+-- the bytes are the form of what such a part may hold
+abbrev pub HasForm : Part → List ℕ → Type 0
+HasForm it piece = (held : Held it) × MayHold it held × (piece ≡ held_form it held)
+
+-- the same, which stays one word as long as its kind isn't known
 abbrev pub IsPartForm : Part → List ℕ → Type 0
-IsPartForm (part.Number low high) piece = (n : ℕ) × (low ≤ n) × (n ≤ high) × (piece ≡ number_form n)
-IsPartForm (part.Text low high) piece = (t : List ℕ) × IsText low high t × (piece ≡ text_form t)
-IsPartForm part.Key piece = (t : List ℕ) × IsKey t × (piece ≡ text_form t)
-IsPartForm part.Token piece = (t : List ℕ) × IsToken t × (piece ≡ text_form t)
-IsPartForm part.Rating piece = (t : List ℕ) × IsRating t × (piece ≡ text_form t)
-IsPartForm part.Features piece = (t : List ℕ) × IsFeatures t × (piece ≡ text_form t)
-IsPartForm (part.Bytes most) piece = (t : List ℕ) × (length t ≤ most) × AreBytes t × (piece ≡ text_form t)
-IsPartForm part.Flag piece = (b : Bool) × (piece ≡ flag_form b)
-IsPartForm part.Unset piece = piece ≡ flag_form false
-IsPartForm part.Moment piece = (m : Moment) × IsMoment m × (piece ≡ moment_text m)
-IsPartForm (part.Numbers most) piece = (ns : List ℕ) × (length ns ≤ most) × AreNumbers ns × (piece ≡ numbers_form ns)
-IsPartForm (part.Optional low high) piece = (o : Option ℕ) × IfSome o (λ n. (low ≤ n) × (n ≤ high)) × (piece ≡ option_form o)
+IsPartForm part.Flag piece = HasForm part.Flag piece
+IsPartForm it piece = HasForm it piece
 
 -- the bytes are the forms of such parts, one after another
 abbrev pub IsForm : List Part → List ℕ → Type 0
 IsForm [] bytes = bytes ≡ []
 IsForm (p ∷ ps) bytes = (piece : List ℕ) × (rest : List ℕ) × IsPartForm p piece × IsForm ps rest × (bytes ≡ piece ++ rest)
+
+-- the first byte tells which of these lists of parts it is, counting from 1, and the bytes behind it are their form
+abbrev pub IsOneOf : List (List Part) → List ℕ → Type 0
+IsOneOf forms bytes = (place : ℕ) × (parts : List Part) × (rest : List ℕ) × (slice_get forms place ≡ Some parts) × IsForm parts rest × (bytes ≡ (place + 1) ∷ rest)
 
 abbrev pub form_of_each : List ℕ → List ℕ
 form_of_each = flat_map number_form

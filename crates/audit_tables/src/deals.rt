@@ -22,7 +22,7 @@ impl Kept for CheckedCustomer {
 
     fn keep(cells: CustomerCells) -> CheckedCustomer {
         let (branch, (number, (_first, (_last, (_address, (_postal, (_phone, more))))))) = cells;
-        let (city, (_active, (created, ()))) = more;
+        let (city, (_active, (created, _behind))) = more;
         CheckedCustomer {
             branch,
             number,

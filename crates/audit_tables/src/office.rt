@@ -3,11 +3,8 @@
 ghost use Rattle.std.specs.Prelude.{◌↔◌, IsTrue};
 ghost use Rattle.audit_tables.specs.Forms.{IsOfficeForm};
 
-use crate::acts::NUMBER;
-use crate::parts::{Part, is_form};
-
-/// A name of 1 to 45 bytes.
-const NAME: Part = Part::Text(1, 45);
+use crate::acts::{NAME, NUMBER};
+use crate::parts::{Part, is_one_of};
 
 /// A new film, which isn't withdrawn.
 const FILM: [Part; 11] = [
@@ -45,28 +42,27 @@ const STAFF: [Part; 7] = [
     NUMBER,
 ];
 
+/// The parts of each act of head office, behind the byte that tells it, which counts from 1.
+const OFFICE_ACTS: [&[Part]; 14] = [
+    &[NAME],
+    &[NAME, NUMBER],
+    &[NAME],
+    &[NAME],
+    &[NAME, NAME],
+    &FILM,
+    &[NUMBER, Part::Number(0, 9_999)],
+    &[NUMBER],
+    &[NUMBER, NUMBER],
+    &BRANCH,
+    &STAFF,
+    &[NUMBER],
+    &[NUMBER, NUMBER],
+    &[Part::Flag],
+];
+
 /// Whether the bytes are the form of a command of head office.
 pub(crate) fn is_office_command(bytes: &[u8]) -> bool
     ensures { IsTrue result ↔ IsOfficeForm bytes.now }
 {
-    let Some((tag, rest)) = bytes.split_first() else {
-        return false;
-    };
-    match *tag {
-        1 => is_form(&[NAME], rest),
-        2 => is_form(&[NAME, NUMBER], rest),
-        3 => is_form(&[NAME], rest),
-        4 => is_form(&[NAME], rest),
-        5 => is_form(&[NAME, NAME], rest),
-        6 => is_form(&FILM, rest),
-        7 => is_form(&[NUMBER, Part::Number(0, 9_999)], rest),
-        8 => is_form(&[NUMBER], rest),
-        9 => is_form(&[NUMBER, NUMBER], rest),
-        10 => is_form(&BRANCH, rest),
-        11 => is_form(&STAFF, rest),
-        12 => is_form(&[NUMBER], rest),
-        13 => is_form(&[NUMBER, NUMBER], rest),
-        14 => is_form(&[Part::Flag], rest),
-        _ => false,
-    }
+    is_one_of(&OFFICE_ACTS, bytes)
 }

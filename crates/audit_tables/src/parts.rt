@@ -1,10 +1,10 @@
 //! A form is judged part after part, each of which shows where it ends, so that no value is made and no memory is
 //! taken.
 
-ghost use Rattle.std.specs.Prelude.{◌≡◌, ◌≢◌, ◌↔◌, ◌++◌, IsTrue, ℕ, List, IfSome, IfNone, length};
+ghost use Rattle.std.specs.Prelude.{◌≡◌, ◌≢◌, ◌↔◌, ◌++◌, IsTrue, ℕ, List, IfSome, IfNone, length, map};
 ghost use Rattle.shop_schema.specs.Forms.{number_form, text_form};
 ghost use Rattle.shop_schema.specs.RowValues.{AreNumbers, AreBytes};
-ghost use Rattle.audit_tables.specs.Forms.{IsPartForm, IsForm, form_of_each};
+ghost use Rattle.audit_tables.specs.Forms.{IsPartForm, IsForm, IsOneOf, form_of_each};
 
 use crate::texts::{are_features, is_key, is_rating, is_text, is_utf8};
 use shop_types::{Moment, Token};
@@ -268,7 +268,7 @@ pub(crate) fn skip(part: Part, bytes: &[u8]) -> Option<&[u8]>
 }
 
 /// Whether the bytes are the forms of such parts, one after another.
-pub(crate) fn is_form(parts: &[Part], bytes: &[u8]) -> bool
+fn is_form(parts: &[Part], bytes: &[u8]) -> bool
     ensures { IsTrue result ↔ IsForm parts.now bytes.now }
 {
     let mut rest = bytes;
@@ -279,4 +279,20 @@ pub(crate) fn is_form(parts: &[Part], bytes: &[u8]) -> bool
         }
     }
     rest.is_empty()
+}
+
+/// Whether the first byte tells one of these lists of parts, counting from 1, and the bytes behind it are their form.
+pub(crate) fn is_one_of(forms: &[&[Part]], bytes: &[u8]) -> bool
+    ensures { IsTrue result ↔ IsOneOf (map (λ parts. parts.now) forms.now) bytes.now }
+{
+    let Some((tag, rest)) = bytes.split_first() else {
+        return false;
+    };
+    if *tag == 0 {
+        return false;
+    }
+    match forms.get(*tag as usize - 1) {
+        Some(parts) => is_form(parts, rest),
+        None => false,
+    }
 }

@@ -1,12 +1,14 @@
 -- The tables of counts say the same of rows in order, of the books that have these rows, and of all others for which the tables stand.
-use Rattle.shop_schema.proofs.Common.{◌≡◌, ◌==◌, ℕ, List, [], ◌∷◌, ◌++◌, map, filter, length, sym, ap, subst, ◌∙◌, Bool, IsPermutation, flat_map, IsPermutation-map, IsPermutation-sym, IsPermutation-trans, length_permutation, IsPermutation-filter, Row, Owned, is_of, numbered, Branch, Customer, Rental, Terms, Payment, Kept, Books, BookCopy, counter_columns, out_columns, pair_columns, Count, branch_counts, counts_of, is_open, out_of}
+use Rattle.shop_schema.proofs.Common.{◌≡◌, ◌==◌, ℕ, List, [], ◌∷◌, map, filter, length, sym, ap, subst, ◌∙◌, Bool, IsPermutation, flat_map, flat_map_same_on, IsPermutation-map, IsPermutation-sym, IsPermutation-trans, length_permutation, IsPermutation-filter, Row, Owned, is_of, numbered, Branch, Customer, Rental, Terms, Payment, Kept, Books, BookCopy, counter_columns, out_columns, pair_columns, Count, branch_counts, counts_of, is_open, out_of}
 use Rattle.audit_rows.specs.Canons.{IsCanonOf, office_key, row_key}
 use Rattle.audit_rows.specs.Ordered.{AreOrdered, HaveOrderedRows}
 use Rattle.audit_rows.specs.declared.books.OrderedBooks.{OrderedBooks}
 use Rattle.audit_rows.proofs.Maps.{length-map}
 use Rattle.books_audit.specs.Audits.{HaveCountsOf, StandsForBooks}
-use Rattle.books_audit.specs.Read.{HaveCounts, AreRowsRead, AreJoined}
+use Rattle.books_audit.specs.Read.{HaveCounts}
+use Rattle.books_audit.specs.ReadInOrder.{AreReadInOrder}
 use Rattle.books_audit.specs.declared.tables.TableRows.{TableRows}
+use Rattle.books_audit.proofs.InOrder.{are_ordered}
 use Rattle.books_audit.proofs.CountRows.{counters_same, outs_same, pairs_same}
 use Rattle.books_audit.proofs.PairLemmas.{pairs_along}
 use Rattle.books_audit.proofs.SameCanon.{one_canon}
@@ -37,10 +39,6 @@ module _ (tables : TableRows) (rows : OrderedBooks) (c : Books) (has : HaveOrder
 same_many : {X A : Type 0} (g : X → A) (p : X → Bool) (xs ys : List X) → IsPermutation xs ys → length (map g (filter p ys)) ≡ length (map g (filter p xs))
 same_many g p xs ys h = length_permutation _ _ (IsPermutation-map g _ _ (IsPermutation-filter p xs ys h))
 
-flat_same : {X C : Type 0} (f g : X → List C) → ((x : X) → f x ≡ g x) → (xs : List X) → flat_map f xs ≡ flat_map g xs
-flat_same f g h [] = λ i. []
-flat_same f g h (x ∷ xs) = λ i. h x i ++ flat_same f g h xs i
-
 module _ (c b : Books) (canon : IsCanonOf c b) where
   one_branch : (it : ℕ × Branch) → branch_counts c it ≡ branch_counts b it
   one_branch it = λ i.
@@ -57,7 +55,7 @@ module _ (c b : Books) (canon : IsCanonOf c b) where
   counters : (counts_of c).counters ≡ (counts_of b).counters
   counters = λ i.
       record { caller = 0; kind = 4; last = office_many i }
-      ∷ (flat_same (branch_counts c) (branch_counts b) one_branch (numbered c.catalogue.branches) ∙ ap (λ bs. flat_map (branch_counts b) (numbered bs)) (λ j. (canon.shared j).branches)) i
+      ∷ (flat_map_same_on (branch_counts c) (branch_counts b) one_branch (numbered c.catalogue.branches) ∙ ap (λ bs. flat_map (branch_counts b) (numbered bs)) (λ j. (canon.shared j).branches)) i
 
   outs : IsPermutation (counts_of b).outs (counts_of c).outs
   outs = IsPermutation-map out_of _ _ (IsPermutation-filter is_open b.rentals c.rentals canon.rentals)
@@ -71,8 +69,8 @@ module _ (c b : Books) (canon : IsCanonOf c b) where
   }
 
 -- what tables that stand for any books say of the counts is what the rows have
-pub must_have_counts : (tables : TableRows) (rows : OrderedBooks) → AreRowsRead tables rows → AreOrdered rows → AreJoined rows → (b : Books) → StandsForBooks tables b → HaveCounts tables rows
-must_have_counts tables rows read ordered joined b t =
-    let c = canonical tables rows read ordered joined.0 joined.1 in
-    let canon = one_canon tables c b (stands tables rows read ordered joined.0 joined.1) t.without_counts (in_order_of tables rows read ordered joined.0 joined.1) in
-    rows_have_counts tables rows c (have_rows tables rows read ordered joined.0 joined.1) ordered (counts_move c b canon tables t.counts)
+pub must_have_counts : (tables : TableRows) (rows : OrderedBooks) → AreReadInOrder tables rows → (b : Books) → StandsForBooks tables b → HaveCounts tables rows
+must_have_counts tables rows read b t =
+    let c = canonical tables rows read in
+    let canon = one_canon tables c b (stands tables rows read) t.without_counts (in_order_of tables rows read) in
+    rows_have_counts tables rows c (have_rows tables rows read) (are_ordered tables rows read) (counts_move c b canon tables t.counts)

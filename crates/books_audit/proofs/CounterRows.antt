@@ -1,14 +1,6 @@
 -- The rows of counts of branches, one branch after another.
-use Rattle.shop_schema.proofs.Common.{◌≡◌, ◌∙◌, ◌+◌, ◌<◌, ◌++◌, ℕ, zero, suc, List, [], ◌∷◌, map, length, drop, add-one, refl, sym, ap, arith, flat_map, numbered_from, counter_columns, Count}
+use Rattle.shop_schema.proofs.Common.{◌≡◌, ◌∙◌, ◌+◌, ◌<◌, ◌++◌, ℕ, zero, suc, List, [], ◌∷◌, map, length, drop, add-one, append_assoc, map-append, refl, sym, ap, arith, flat_map, numbered_from, counter_columns, Count}
 use Rattle.sqlite_value.specs.Order as sql
-
-once_more : (xs ys zs : List sql.Row) → (xs ++ ys) ++ zs ≡ xs ++ (ys ++ zs)
-once_more [] ys zs = refl
-once_more (x ∷ xs) ys zs = ap (λ l. x ∷ l) (once_more xs ys zs)
-
-both_parts : (xs ys : List Count) → map counter_columns (xs ++ ys) ≡ map counter_columns xs ++ map counter_columns ys
-both_parts [] ys = refl
-both_parts (x ∷ xs) ys = ap (λ l. counter_columns x ∷ l) (both_parts xs ys)
 
 one_after : {X : Type 0} (xs : List X) (i : ℕ) → i < length xs → (x : X) × (drop i xs ≡ x ∷ drop (suc i) xs)
 one_after [] i low = absurd (omega (arith, low))
@@ -24,5 +16,5 @@ pub next_branch : {X : Type 0} (rows_of : ℕ → List Count) (xs : List X) (i :
 next_branch {X} rows_of xs i low olds news all g h =
     let cut = one_behind xs i low in
     let rest = flat_map (λ (it : ℕ × X). rows_of it.0) (numbered_from (i + 1 + 1) (drop (i + 1) xs)) in
-    ap (λ l. l ++ map counter_columns rest) g ∙ once_more olds (map counter_columns (rows_of (i + 1))) (map counter_columns rest) ∙ ap (λ l. olds ++ l) (sym (both_parts (rows_of (i + 1)) rest))
+    ap (λ l. l ++ map counter_columns rest) g ∙ append_assoc olds (map counter_columns (rows_of (i + 1))) (map counter_columns rest) ∙ ap (λ l. olds ++ l) (sym (map-append counter_columns (rows_of (i + 1)) rest))
     ∙ ap (λ (l : List X). olds ++ map counter_columns (flat_map (λ it. rows_of it.0) (numbered_from (i + 1) l))) (sym cut.1) ∙ h

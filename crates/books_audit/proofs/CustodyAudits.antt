@@ -31,6 +31,15 @@ placed_again p = λ i. record p { line = record p.line { state = line_state_agai
 abbrev pub nothing : Audit
 nothing = record { sound = false; made = 0; here = 0; transit = 0; gone = 0 }
 
+-- copies and lines in another order count the same
+pub counts_moved : (audit : Audit) (cs ds : List (Row BookCopy)) (ls ms : List Line) → IsPermutation cs ds → IsPermutation ls ms → CountsCustody audit ds ms → CountsCustody audit cs ls
+counts_moved audit cs ds ls ms a b k = record {
+  made = k.made ∙ sym (total_along (λ (row : Row BookCopy). one (is_origin row && any_mark row.it.mark)) cs ds a);
+  here = k.here ∙ sym (total_along (λ (row : Row BookCopy). one (copy_is row.it.state Here && any_mark row.it.mark)) cs ds a);
+  transit = k.transit ∙ sym (total_along (λ (it : Line). one (line_is it.state UnderWay && any_mark it.mark)) ls ms b);
+  gone = k.gone ∙ (λ i. sym (total_along (λ (row : Row BookCopy). one (copy_is row.it.state Scrapped && any_mark row.it.mark)) cs ds a) i + sym (total_along (λ (it : Line). one (line_is it.state Missing && any_mark it.mark)) ls ms b) i);
+}
+
 module _ (copy_rows line_rows : List sql.Row) where
   -- where rows can't be read they stand for nothing
   pub nothing_stands : ¬ Stand copy_rows line_rows → IsCustodyAudit copy_rows line_rows nothing
@@ -73,14 +82,6 @@ module _ (copy_rows line_rows : List sql.Row) where
       same_lines =
           subst (IsPermutation (lines_of rest)) (map-map (λ (x : Placed). x.line) seen_placed ys)
           (IsPermutation-map (λ (x : Placed). x.line) _ _ (same_rows placed_columns IsPlaced (same_row audited.lines) line_rows rest placed h.line_values stands.line_values h.lines_are stands.lines_are))
-
-    counts_moved : (audit : Audit) (cs ds : List (Row BookCopy)) (ls ms : List Line) → IsPermutation cs ds → IsPermutation ls ms → CountsCustody audit ds ms → CountsCustody audit cs ls
-    counts_moved audit cs ds ls ms a b k = record {
-      made = k.made ∙ sym (total_along (λ (row : Row BookCopy). one (is_origin row && any_mark row.it.mark)) cs ds a);
-      here = k.here ∙ sym (total_along (λ (row : Row BookCopy). one (copy_is row.it.state Here && any_mark row.it.mark)) cs ds a);
-      transit = k.transit ∙ sym (total_along (λ (it : Line). one (line_is it.state UnderWay && any_mark it.mark)) ls ms b);
-      gone = k.gone ∙ (λ i. sym (total_along (λ (row : Row BookCopy). one (copy_is row.it.state Scrapped && any_mark row.it.mark)) cs ds a) i + sym (total_along (λ (it : Line). one (line_is it.state Missing && any_mark it.mark)) ls ms b) i);
-    }
 
     pub audits_all : (audit : Audit) → AuditsRows audit copies (map seen_line ys) → IsCustodyAudit copy_rows line_rows audit
     audits_all audit a = record {

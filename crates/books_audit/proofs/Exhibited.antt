@@ -1,8 +1,9 @@
 -- Tables that were read, and whose rows are in order, stand for books that have these rows.
-use Rattle.shop_schema.proofs.Common.{◌≡◌, ◌==◌, ◌&&◌, ◌<◌, ◌^◌, ℕ, List, [], ◌∷◌, map, length, Some, None, Option, refl, sym, ap, subst, ◌∙◌, IsPermutation, AllByRecursion, flat_map, bytes_eq, IsPermutation-map, IsPermutation-trans, IsPermutation-sym, map-map, IsPermutation-flat_map, Moment, Owned, owned_by, Text, Cast, Branch, Rule, Kept, OfficeKept, Books, Consignment, head, chain_columns, named_columns, city_columns, actor_columns, film_columns, cast_columns, staff_columns, customer_columns, copy_columns, rental_columns, terms_columns, rule_columns, payment_columns, lot_columns, consignment_columns, line_rows, IsName, IsToken, IsCity, IsActor, IsFilm, IsCast, IsStaff, IsRow, IsCustomer, IsCopy, IsRental, IsTerms, IsPayment, IsLot, IsConsignment, IsLast}
+use Rattle.shop_schema.proofs.Common.{◌≡◌, ◌==◌, ◌&&◌, ◌<◌, ◌^◌, ℕ, List, [], ◌∷◌, map, length, None, Option, refl, sym, ap, subst, ◌∙◌, IsPermutation, AllByRecursion, flat_map, bytes_eq, IsPermutation-map, IsPermutation-trans, IsPermutation-sym, map-id, map-map, IsPermutation-flat_map, Moment, Owned, owned_by, Text, Cast, Branch, Rule, Kept, OfficeKept, Books, Consignment, head, chain_columns, named_columns, city_columns, actor_columns, film_columns, cast_columns, staff_columns, customer_columns, copy_columns, rental_columns, terms_columns, rule_columns, payment_columns, lot_columns, consignment_columns, line_rows, IsName, IsToken, IsCity, IsActor, IsFilm, IsCast, IsStaff, IsRow, IsCustomer, IsCopy, IsRental, IsTerms, IsPayment, IsLot, IsConsignment, IsLast, Customers, CopyRows, Rentals, TermRows, Payments, rows_of, AreRowValues}
+use Rattle.shop_model.specs.Books.{Table}
 use Rattle.audit_rows.specs.Lists.{climbs}
 use Rattle.audit_rows.specs.Canons.{row_key, office_key}
-use Rattle.audit_rows.specs.Joins.{header, placed, join}
+use Rattle.audit_rows.specs.Joins.{header, placed}
 use Rattle.audit_rows.specs.Seen.{seen_copy, seen_rental_row, seen_payment_row, seen_header, seen_placed}
 use Rattle.audit_rows.specs.Ordered.{AreOrdered, HaveOrderedRows, HaveSharedRows, city_row, film_row, cast_row, branch_row, without_last, staff_row, customer_row, terms_row, lot_row, kept_row, lasts_from}
 use Rattle.audit_rows.specs.declared.books.OrderedBooks.{OrderedBooks}
@@ -19,17 +20,13 @@ use Rattle.books_audit.proofs.CustodyAudits.{copy_again, placed_again}
 use Rattle.audit_tables.specs.declared.shared.RuleRow.{RuleRow}
 use Rattle.books_audit.specs.declared.tables.TableRows.{TableRows}
 use Rattle.books_audit.specs.Audits.{HaveRowsOf, HaveKeys, HaveBooks, AreInOrder, same_row}
-use Rattle.books_audit.specs.Read.{AreRowsRead}
+use Rattle.books_audit.specs.ReadInOrder.{AreReadInOrder}
 use Rattle.books_audit.proofs.FullLists.{Fulls, full_rows, seen_all}
 use Rattle.books_audit.proofs.SharedLists.{SharedOf, shared_of, told_row, tell, lasts_fit, branches_fit}
 use Rattle.books_audit.proofs.KeptRows.{KeptOf, kept_of}
 use Rattle.books_audit.proofs.Canonical.{apart, row_test, consignments_apart, consignments_fit, by_place, same_by_place, sorted_by_place}
-use Rattle.books_audit.proofs.InOrder.{in_order}
+use Rattle.books_audit.proofs.InOrder.{are_ordered, in_order}
 use Rattle.books_audit.proofs.SameConsignments.{as_placed}
-
-itself : {X : Type 0} (f : X → X) → ((x : X) → f x ≡ x) → (xs : List X) → map f xs ≡ xs
-itself f h [] = refl
-itself f h (x ∷ xs) = λ i. h x i ∷ itself f h xs i
 
 one_token : (its : List Text) (t : List ℕ) → map chain_row its ≡ record { office_token = t } ∷ [] → its ≡ t ∷ []
 one_token [] t h = cc
@@ -41,72 +38,63 @@ one_rule [] x h = cc
 one_rule (it ∷ []) x h = (it, refl)
 one_rule (it ∷ other ∷ its) x h = cc
 
-module _ (tables : TableRows) (rows : OrderedBooks) (read : AreRowsRead tables rows) (ordered : AreOrdered rows) (by_key : List Consignment) (joined : join (map seen_header rows.headers.items) (map seen_placed rows.lines.items) ≡ Some by_key) where
-  countries : SharedOf named_columns IsName (λ (t : Text). t) tables.countries.items rows.countries.items
-  countries = shared_of named_columns IsName named_row (λ x. x.number) (λ x. x.name) (λ t. t) (λ it. refl) (λ it. refl) read.countries
+module _ (tables : TableRows) (rows : OrderedBooks) (read : AreReadInOrder tables rows) where
+  ordered : AreOrdered rows
+  ordered = are_ordered tables rows read
 
-  languages : SharedOf named_columns IsName (λ (t : Text). t) tables.languages.items rows.languages.items
-  languages = shared_of named_columns IsName named_row (λ x. x.number) (λ x. x.name) (λ t. t) (λ it. refl) (λ it. refl) read.languages
+  abbrev by_key : List Consignment
+  by_key = read.joined.0
 
-  categories : SharedOf named_columns IsName (λ (t : Text). t) tables.categories.items rows.categories.items
-  categories = shared_of named_columns IsName named_row (λ x. x.number) (λ x. x.name) (λ t. t) (λ it. refl) (λ it. refl) read.categories
+  -- of what the rows of each table are kept
+  record Values : Type 0 where
+    countries : SharedOf named_columns IsName (λ (t : Text). t) tables.countries.items rows.countries.items
+    languages : SharedOf named_columns IsName (λ (t : Text). t) tables.languages.items rows.languages.items
+    categories : SharedOf named_columns IsName (λ (t : Text). t) tables.categories.items rows.categories.items
+    cities : SharedOf city_columns IsCity city_row tables.cities.items rows.cities.items
+    actors : SharedOf actor_columns IsActor (λ it. tt) tables.actors.items read.actor_marks
+    films : SharedOf film_columns IsFilm film_row tables.films.items rows.films.items
+    branches : SharedOf told_columns IsTold told_row tables.branches.items rows.branches.items
+    staff : SharedOf staff_columns IsStaff staff_row tables.staff.items rows.staff.items
+    chain : Fulls chain_columns IsToken chain_row (record { office_token = rows.office_token } ∷ []) tables.chain.items
+    rules : Fulls rule_columns AnyRule rule_row (read.rule_row ∷ []) tables.rule.items
+    casts : Fulls cast_columns IsCast cast_row rows.casts.items tables.casts.items
+    customers : Fulls customer_columns (IsRow IsCustomer) customer_row rows.customers.items tables.customers.items
+    rentals : Fulls rental_columns (IsRow IsRental) rental_row rows.rentals.items tables.rentals.items
+    terms : Fulls terms_columns (IsRow IsTerms) terms_row rows.terms.items tables.terms.items
+    payments : Fulls payment_columns (IsRow IsPayment) payment_row rows.payments.items tables.payments.items
+    lots : Fulls lot_columns IsLot lot_row rows.lots.items tables.lots.items
+    copies : Fulls copy_columns (IsRow IsCopy) copy_row rows.copies.items tables.copies.items
+    headers : Fulls header_columns IsHeader header_row rows.headers.items tables.consignments.items
+    lines : Fulls placed_columns IsPlaced placed_row rows.lines.items tables.lines.items
 
-  cities : SharedOf city_columns IsCity city_row tables.cities.items rows.cities.items
-  cities = shared_of city_columns IsCity numbered_city (λ x. x.number) (λ x. x.city) city_row (λ it. refl) (λ it. refl) read.cities
+  of : Values
+  of = record {
+    countries = shared_of named_columns IsName named_row (λ x. x.number) (λ x. x.name) (λ t. t) (λ it. refl) (λ it. refl) read.countries;
+    languages = shared_of named_columns IsName named_row (λ x. x.number) (λ x. x.name) (λ t. t) (λ it. refl) (λ it. refl) read.languages;
+    categories = shared_of named_columns IsName named_row (λ x. x.number) (λ x. x.name) (λ t. t) (λ it. refl) (λ it. refl) read.categories;
+    cities = shared_of city_columns IsCity numbered_city (λ x. x.number) (λ x. x.city) city_row (λ it. refl) (λ it. refl) read.cities;
+    actors = shared_of actor_columns IsActor numbered_actor (λ x. x.number) (λ x. tt) (λ it. tt) (λ it. refl) (λ it. refl) read.actors;
+    films = shared_of film_columns IsFilm numbered_film (λ x. x.number) (λ x. x.film) film_row (λ it. refl) (λ it. refl) read.films;
+    branches = shared_of told_columns IsTold numbered_branch (λ x. x.number) (λ x. x.branch) told_row (λ it. refl) (λ it. refl) read.branches;
+    staff = shared_of staff_columns IsStaff numbered_staff (λ x. x.number) (λ x. x.staff) staff_row (λ it. refl) (λ it. refl) read.staff;
+    chain = full_rows chain_columns IsToken chain_row read.chain;
+    rules = full_rows rule_columns AnyRule rule_row read.rule;
+    casts = full_rows cast_columns IsCast cast_row read.casts.rows;
+    customers = full_rows customer_columns (IsRow IsCustomer) customer_row read.customers.rows;
+    rentals = full_rows rental_columns (IsRow IsRental) rental_row read.rentals.rows;
+    terms = full_rows terms_columns (IsRow IsTerms) terms_row read.terms.rows;
+    payments = full_rows payment_columns (IsRow IsPayment) payment_row read.payments.rows;
+    lots = full_rows lot_columns IsLot lot_row read.lots.rows;
+    copies = full_rows copy_columns (IsRow IsCopy) copy_row read.copies.rows;
+    headers = full_rows header_columns IsHeader header_row read.headers.rows;
+    lines = full_rows placed_columns IsPlaced placed_row read.lines.rows;
+  }
 
-  actors : SharedOf actor_columns IsActor (λ it. tt) tables.actors.items read.actor_marks
-  actors = shared_of actor_columns IsActor numbered_actor (λ x. x.number) (λ x. tt) (λ it. tt) (λ it. refl) (λ it. refl) read.actors
-
-  films : SharedOf film_columns IsFilm film_row tables.films.items rows.films.items
-  films = shared_of film_columns IsFilm numbered_film (λ x. x.number) (λ x. x.film) film_row (λ it. refl) (λ it. refl) read.films
-
-  branches : SharedOf told_columns IsTold told_row tables.branches.items rows.branches.items
-  branches = shared_of told_columns IsTold numbered_branch (λ x. x.number) (λ x. x.branch) told_row (λ it. refl) (λ it. refl) read.branches
-
-  staff : SharedOf staff_columns IsStaff staff_row tables.staff.items rows.staff.items
-  staff = shared_of staff_columns IsStaff numbered_staff (λ x. x.number) (λ x. x.staff) staff_row (λ it. refl) (λ it. refl) read.staff
-
-  chain : Fulls chain_columns IsToken chain_row (record { office_token = rows.office_token } ∷ []) tables.chain.items
-  chain = full_rows chain_columns IsToken chain_row read.chain
-
-  rules : Fulls rule_columns AnyRule rule_row (read.rule_row ∷ []) tables.rule.items
-  rules = full_rows rule_columns AnyRule rule_row read.rule
-
-  rule : (it : Rule) × (rules.its ≡ it ∷ [])
-  rule = one_rule rules.its read.rule_row rules.keeps
-
-  casts : Fulls cast_columns IsCast cast_row rows.casts.items tables.casts.items
-  casts = full_rows cast_columns IsCast cast_row read.casts
-
-  customers : Fulls customer_columns (IsRow IsCustomer) customer_row rows.customers.items tables.customers.items
-  customers = full_rows customer_columns (IsRow IsCustomer) customer_row read.customers
-
-  rentals : Fulls rental_columns (IsRow IsRental) rental_row rows.rentals.items tables.rentals.items
-  rentals = full_rows rental_columns (IsRow IsRental) rental_row read.rentals
-
-  terms : Fulls terms_columns (IsRow IsTerms) terms_row rows.terms.items tables.terms.items
-  terms = full_rows terms_columns (IsRow IsTerms) terms_row read.terms
-
-  payments : Fulls payment_columns (IsRow IsPayment) payment_row rows.payments.items tables.payments.items
-  payments = full_rows payment_columns (IsRow IsPayment) payment_row read.payments
-
-  lots : Fulls lot_columns IsLot lot_row rows.lots.items tables.lots.items
-  lots = full_rows lot_columns IsLot lot_row read.lots
-
-  copies : Fulls copy_columns (IsRow IsCopy) copy_row rows.copies.items tables.copies.items
-  copies = full_rows copy_columns (IsRow IsCopy) copy_row read.copies
-
-  headers : Fulls header_columns IsHeader header_row rows.headers.items tables.consignments.items
-  headers = full_rows header_columns IsHeader header_row read.headers
-
-  lines : Fulls placed_columns IsPlaced placed_row rows.lines.items tables.lines.items
-  lines = full_rows placed_columns IsPlaced placed_row read.lines
+  rule : (it : Rule) × (of.rules.its ≡ it ∷ [])
+  rule = one_rule of.rules.its read.rule_row of.rules.keeps
 
   kept : KeptOf tables.kept.items rows.office_keys.items rows.kept.items
-  kept = kept_of tables.kept.items rows.office_keys.items rows.kept.items read.kept_branches read.kept
-
-  bs : List Branch
-  bs = map (λ (it : Branch × Option Moment). it.0) branches.items
+  kept = kept_of tables.kept.items rows.office_keys.items rows.kept.items read.kept.branches read.kept.rows
 
   -- the books
   pub canonical : Books
@@ -114,23 +102,23 @@ module _ (tables : TableRows) (rows : OrderedBooks) (read : AreRowsRead tables r
     catalogue = record {
       office_token = rows.office_token;
       kept = kept.office;
-      casts = casts.its;
-      countries = countries.items;
-      cities = cities.items;
-      languages = languages.items;
-      categories = categories.items;
-      actors = actors.items;
-      films = films.items;
-      branches = map (λ (it : Branch × Option Moment). it.0) branches.items;
-      staff = staff.items;
+      casts = of.casts.its;
+      countries = of.countries.items;
+      cities = of.cities.items;
+      languages = of.languages.items;
+      categories = of.categories.items;
+      actors = of.actors.items;
+      films = of.films.items;
+      branches = map (λ (it : Branch × Option Moment). it.0) of.branches.items;
+      staff = of.staff.items;
       rule = rule.0;
     };
-    customers = customers.its;
-    copies = copies.its;
-    rentals = rentals.its;
-    terms = terms.its;
-    payments = payments.its;
-    lots = lots.its;
+    customers = of.customers.its;
+    copies = of.copies.its;
+    rentals = of.rentals.its;
+    terms = of.terms.its;
+    payments = of.payments.its;
+    lots = of.lots.its;
     consignments = by_place by_key;
     kept = kept.kept;
     lasts = lasts_from 1 rows.branches.items;
@@ -140,96 +128,93 @@ module _ (tables : TableRows) (rows : OrderedBooks) (read : AreRowsRead tables r
   unfolding canonical
   consignments_are = refl
 
-  named : (xs ys : List Text) → map (λ (t : Text). t) xs ≡ ys → xs ≡ ys
-  named xs ys h = sym (itself (λ t. t) (λ t. refl) xs) ∙ h
-
   have_shared : HaveSharedRows rows canonical
   unfolding canonical
   have_shared = record {
     office_token = refl;
     office_keys = kept.office_keys;
-    countries = named _ _ countries.keeps;
-    languages = named _ _ languages.keeps;
-    categories = named _ _ categories.keeps;
-    cities = cities.keeps;
-    actors = sym (length-map (λ it. tt {0}) actors.items) ∙ ap length actors.keeps ∙ read.actor_count;
-    films = films.keeps;
-    casts = casts.keeps;
-    branches = map-map (branch_row None) (λ (it : Branch × Option Moment). it.0) branches.items ∙ sym (map-map without_last told_row branches.items) ∙ ap (map without_last) branches.keeps;
-    staff = staff.keeps;
+    countries = sym (map-id of.countries.items) ∙ of.countries.keeps;
+    languages = sym (map-id of.languages.items) ∙ of.languages.keeps;
+    categories = sym (map-id of.categories.items) ∙ of.categories.keeps;
+    cities = of.cities.keeps;
+    actors = sym (length-map (λ it. tt {0}) of.actors.items) ∙ ap length of.actors.keeps ∙ read.actor_count;
+    films = of.films.keeps;
+    casts = of.casts.keeps;
+    branches = map-map (branch_row None) (λ (it : Branch × Option Moment). it.0) of.branches.items ∙ sym (map-map without_last told_row of.branches.items) ∙ ap (map without_last) of.branches.keeps;
+    staff = of.staff.keeps;
   }
 
   pub have_rows : HaveOrderedRows rows canonical
   unfolding canonical
   have_rows = record {
     shared = have_shared;
-    customers = customers.keeps;
-    copies = seen_all seen_copy copy_row copy_again copies.its copies.keeps;
-    rentals = seen_all seen_rental_row rental_row (λ it. refl) rentals.its rentals.keeps;
-    terms = terms.keeps;
-    payments = seen_all seen_payment_row payment_row (λ it. refl) payments.its payments.keeps;
-    lots = lots.keeps;
+    customers = of.customers.keeps;
+    copies = seen_all seen_copy copy_row copy_again of.copies.its of.copies.keeps;
+    rentals = seen_all seen_rental_row rental_row (λ it. refl) of.rentals.its of.rentals.keeps;
+    terms = of.terms.keeps;
+    payments = seen_all seen_payment_row payment_row (λ it. refl) of.payments.its of.payments.keeps;
+    lots = of.lots.keeps;
     kept = kept.kept_keys;
-    consignments = record { by_key = by_key; joined = joined; all = same_by_place by_key; in_order = sorted_by_place by_key };
+    consignments = record { by_key = by_key; joined = read.joined.1; all = same_by_place by_key; in_order = sorted_by_place by_key };
     lasts = refl;
   }
 
   pub order : AreInOrder canonical
-  order = in_order rows canonical have_rows ordered read.lines_climb
+  order = in_order rows canonical have_rows ordered
 
   -- ---- its consignments
 
   joins : (map header by_key ≡ map seen_header rows.headers.items) × (flat_map placed by_key ≡ map seen_placed rows.lines.items)
-  joins = join_sound (map seen_header rows.headers.items) (map seen_placed rows.lines.items) by_key joined
+  joins = join_sound (map seen_header rows.headers.items) (map seen_placed rows.lines.items) by_key read.joined.1
 
-  header_list : headers.its ≡ map header by_key
-  header_list = seen_all seen_header header_row (λ it. refl) headers.its headers.keeps ∙ sym joins.0
+  header_list : of.headers.its ≡ map header by_key
+  header_list = seen_all seen_header header_row (λ it. refl) of.headers.its of.headers.keeps ∙ sym joins.0
 
-  line_list : lines.its ≡ flat_map placed by_key
-  line_list = seen_all seen_placed placed_row placed_again lines.its lines.keeps ∙ sym joins.1
+  line_list : of.lines.its ≡ flat_map placed by_key
+  line_list = seen_all seen_placed placed_row placed_again of.lines.its of.lines.keeps ∙ sym joins.1
 
   fitting : AllByRecursion IsConsignment by_key
-  fitting = consignments_fit by_key (subst (AllByRecursion IsHeader) header_list headers.fit) (subst (AllByRecursion IsPlaced) line_list lines.fit)
+  fitting = consignments_fit by_key (subst (AllByRecursion IsHeader) header_list of.headers.fit) (subst (AllByRecursion IsPlaced) line_list of.lines.fit)
 
   -- ---- it stands
 
   have_all : HaveRowsOf tables canonical
   unfolding canonical
   have_all = record {
-    chain = subst (λ l. IsPermutation tables.chain.items (map chain_columns l)) (one_token chain.its rows.office_token chain.keeps) chain.has;
-    countries = countries.has;
-    languages = languages.has;
-    categories = categories.has;
-    cities = cities.has;
-    actors = actors.has;
-    films = films.has;
-    casts = casts.has;
-    branches = subst (IsPermutation tables.branches.items) (sym (tell 1 branches.items (lasts_from 1 rows.branches.items) (λ m low. ap (λ (l : List CheckedBranch). head (owned_by m (lasts_from 1 l))) (sym branches.keeps)))) branches.has;
-    staff = staff.has;
-    customers = customers.has;
-    copies = copies.has;
-    rentals = rentals.has;
-    terms = terms.has;
-    payments = payments.has;
-    lots = lots.has;
-    consignments = IsPermutation-trans _ _ _ (subst (IsPermutation tables.consignments.items) (ap (map header_columns) header_list ∙ map-map header_columns header by_key) headers.has) (IsPermutation-map consignment_columns _ _ (same_by_place by_key));
-    lines = IsPermutation-trans _ _ _ (subst (IsPermutation tables.lines.items) (ap (map placed_columns) line_list ∙ as_placed by_key) lines.has) (IsPermutation-flat_map line_rows _ _ (same_by_place by_key));
+    chain = subst (λ l. IsPermutation tables.chain.items (map chain_columns l)) (one_token of.chain.its rows.office_token of.chain.keeps) of.chain.has;
+    countries = of.countries.has;
+    languages = of.languages.has;
+    categories = of.categories.has;
+    cities = of.cities.has;
+    actors = of.actors.has;
+    films = of.films.has;
+    casts = of.casts.has;
+    branches = subst (IsPermutation tables.branches.items) (sym (tell 1 of.branches.items (lasts_from 1 rows.branches.items) (λ m low. ap (λ (l : List CheckedBranch). head (owned_by m (lasts_from 1 l))) (sym of.branches.keeps)))) of.branches.has;
+    staff = of.staff.has;
+    customers = of.customers.has;
+    copies = of.copies.has;
+    rentals = of.rentals.has;
+    terms = of.terms.has;
+    payments = of.payments.has;
+    lots = of.lots.has;
+    consignments = IsPermutation-trans _ _ _ (subst (IsPermutation tables.consignments.items) (ap (map header_columns) header_list ∙ map-map header_columns header by_key) of.headers.has) (IsPermutation-map consignment_columns _ _ (same_by_place by_key));
+    lines = IsPermutation-trans _ _ _ (subst (IsPermutation tables.lines.items) (ap (map placed_columns) line_list ∙ as_placed by_key) of.lines.has) (IsPermutation-flat_map line_rows _ _ (same_by_place by_key));
     kept = kept.has;
-    rule = subst (λ l. IsPermutation tables.rule.items (map rule_columns l)) rule.1 rules.has;
+    rule = subst (λ l. IsPermutation tables.rule.items (map rule_columns l)) rule.1 of.rules.has;
   }
 
   have_keys : HaveKeys canonical
   unfolding canonical
   have_keys = record {
-    casts = apart (λ (a b : Cast). a.film == b.film && a.actor == b.actor) (λ x. x.film ∷ x.actor ∷ []) (λ x y. cast_test x y) casts.its
-        (ap climbs (sym (map-map (λ (x : CheckedCast). x.film ∷ x.actor ∷ []) cast_row casts.its) ∙ ap (map (λ (x : CheckedCast). x.film ∷ x.actor ∷ [])) casts.keeps) ∙ ordered.casts);
-    customers = apart same_row row_key row_test customers.its order.customers;
-    copies = apart same_row row_key row_test copies.its order.copies;
-    rentals = apart same_row row_key row_test rentals.its order.rentals;
-    terms = apart same_row row_key row_test terms.its order.terms;
-    payments = apart same_row row_key row_test payments.its order.payments;
-    lots = apart (λ (a b : Owned Text). a.owner == b.owner && bytes_eq a.it b.it) (λ x. x.owner ∷ x.it) (λ x y. refl) lots.its
-        (ap climbs (sym (map-map (λ (x : CheckedLot). x.branch ∷ x.name) lot_row lots.its) ∙ ap (map (λ (x : CheckedLot). x.branch ∷ x.name)) lots.keeps) ∙ ordered.lots);
+    casts = apart (λ (a b : Cast). a.film == b.film && a.actor == b.actor) (λ x. x.film ∷ x.actor ∷ []) (λ x y. cast_test x y) of.casts.its
+        (ap climbs (sym (map-map (λ (x : CheckedCast). x.film ∷ x.actor ∷ []) cast_row of.casts.its) ∙ ap (map (λ (x : CheckedCast). x.film ∷ x.actor ∷ [])) of.casts.keeps) ∙ ordered.casts);
+    customers = apart same_row row_key row_test of.customers.its order.customers;
+    copies = apart same_row row_key row_test of.copies.its order.copies;
+    rentals = apart same_row row_key row_test of.rentals.its order.rentals;
+    terms = apart same_row row_key row_test of.terms.its order.terms;
+    payments = apart same_row row_key row_test of.payments.its order.payments;
+    lots = apart (λ (a b : Owned Text). a.owner == b.owner && bytes_eq a.it b.it) (λ x. x.owner ∷ x.it) (λ x y. refl) of.lots.its
+        (ap climbs (sym (map-map (λ (x : CheckedLot). x.branch ∷ x.name) lot_row of.lots.its) ∙ ap (map (λ (x : CheckedLot). x.branch ∷ x.name)) of.lots.keeps) ∙ ordered.lots);
     consignments = consignments_apart order.by_key (by_place by_key) (IsPermutation-sym _ _ order.joined) order.headers;
     kept = apart (λ (a b : Owned Kept). a.owner == b.owner && bytes_eq a.it.command.key b.it.command.key) (λ x. x.owner ∷ x.it.command.key) (λ x y. refl) kept.kept
         (ap climbs (sym (map-map (λ (x : CheckedKept). x.branch ∷ x.key) kept_row kept.kept) ∙ ap (map (λ (x : CheckedKept). x.branch ∷ x.key)) kept.kept_keys) ∙ ordered.kept);
@@ -239,33 +224,37 @@ module _ (tables : TableRows) (rows : OrderedBooks) (read : AreRowsRead tables r
       cast_test : (x y : Cast) → (x.film == y.film && x.actor == y.actor) ≡ bytes_eq (x.film ∷ x.actor ∷ []) (y.film ∷ y.actor ∷ [])
       cast_test x y = row_test {A = Cast} (record { branch = x.film; number = x.actor; it = x }) (record { branch = y.film; number = y.actor; it = y })
 
+  values_fit : (t : Table) → AreRowValues t (rows_of canonical t)
+  unfolding canonical
+  values_fit Customers = of.customers.fit
+  values_fit CopyRows = of.copies.fit
+  values_fit Rentals = of.rentals.fit
+  values_fit TermRows = of.terms.fit
+  values_fit Payments = of.payments.fit
+
   pub stands : HaveBooks tables canonical
   unfolding canonical
   stands = record {
     rows = have_all;
     values = record {
       catalogue = record {
-        office_token = (subst (AllByRecursion IsToken) (one_token chain.its rows.office_token chain.keeps) chain.fit).0;
+        office_token = (subst (AllByRecursion IsToken) (one_token of.chain.its rows.office_token of.chain.keeps) of.chain.fit).0;
         kept = kept.office_fit;
-        casts = casts.fit;
-        countries = countries.fit;
-        cities = cities.fit;
-        languages = languages.fit;
-        categories = categories.fit;
-        actors = actors.fit;
-        films = films.fit;
-        branches = (subst (λ n. n < 2 ^ 32) (sym (length-map (λ (it : Branch × Option Moment). it.0) branches.items)) branches.fit.0, branches_fit branches.items branches.fit.1);
-        staff = staff.fit;
+        casts = of.casts.fit;
+        countries = of.countries.fit;
+        cities = of.cities.fit;
+        languages = of.languages.fit;
+        categories = of.categories.fit;
+        actors = of.actors.fit;
+        films = of.films.fit;
+        branches = (subst (λ n. n < 2 ^ 32) (sym (length-map (λ (it : Branch × Option Moment). it.0) of.branches.items)) of.branches.fit.0, branches_fit of.branches.items of.branches.fit.1);
+        staff = of.staff.fit;
       };
-      customers = customers.fit;
-      copies = copies.fit;
-      rentals = rentals.fit;
-      terms = terms.fit;
-      payments = payments.fit;
-      lots = lots.fit;
+      rows = values_fit;
+      lots = of.lots.fit;
       consignments = all_moved IsConsignment _ _ (same_by_place by_key) fitting;
       kept = kept.kept_fit;
-      lasts = subst (λ (l : List CheckedBranch). AllByRecursion IsLast (lasts_from 1 l)) branches.keeps (lasts_fit 1 branches.items branches.fit.1);
+      lasts = subst (λ (l : List CheckedBranch). AllByRecursion IsLast (lasts_from 1 l)) of.branches.keeps (lasts_fit 1 of.branches.items of.branches.fit.1);
     };
     keys = have_keys;
   }

@@ -5,7 +5,7 @@ use Rattle.audit_rows.proofs.JoinLemmas.{unmapped_bag}
 use Rattle.audit_rows.proofs.Standing.{all_moved}
 use Rattle.audit_tables.specs.Listed.{AreRows, IsRowOf, FullOf}
 use Rattle.audit_tables.proofs.Ranges.{ranged}
-use Rattle.books_audit.specs.Read.{RowsRead}
+use Rattle.books_audit.specs.ReadLists.{RowsRead}
 
 -- the values of which so much is kept, and whose columns are the table's rows
 pub record Fulls {X F : Type 0} (columns : F → sql.Row) (Fits : F → Type 0) (small : F → X) (xs : List X) (rows : List sql.Row) : Type 0 where

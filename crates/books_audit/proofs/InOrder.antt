@@ -1,4 +1,4 @@
--- Books that have rows in order are in order.
+-- What was read is in order, and so are books that have such rows.
 use Rattle.shop_schema.proofs.Common.{◌≡◌, ◌==◌, [], ◌∷◌, map, length, true, sym, ap, ◌∙◌, arith, list_all, IsPermutation-sym, map-map, Moment, Owned, has_row, are_different, Books}
 use Rattle.audit_rows.specs.Lists.{climbs}
 use Rattle.audit_rows.specs.Canons.{row_key}
@@ -14,9 +14,26 @@ use Rattle.audit_rows.proofs.LastLemmas.{lasts_owned, lasts_apart}
 use Rattle.audit_rows.proofs.ShopLemmas.{has_row_is}
 use Rattle.audit_rows.proofs.Tests.{all_congr}
 use Rattle.books_audit.specs.Audits.{AreInOrder}
+use Rattle.books_audit.specs.ReadInOrder.{AreReadInOrder}
+use Rattle.books_audit.specs.declared.tables.TableRows.{TableRows}
 use Rattle.books_audit.proofs.CountRows.{branch_count}
 
-module _ (rows : OrderedBooks) (c : Books) (has : HaveOrderedRows rows c) (ordered : AreOrdered rows) (lines : climbs (map placed_key (map seen_placed rows.lines.items)) ≡ true) where
+pub are_ordered : (tables : TableRows) (rows : OrderedBooks) → AreReadInOrder tables rows → AreOrdered rows
+are_ordered tables rows read = record {
+  office_keys = read.kept.office_climb;
+  casts = read.casts.climb;
+  customers = read.customers.climb;
+  copies = read.copies.climb;
+  rentals = read.rentals.climb;
+  terms = read.terms.climb;
+  payments = read.payments.climb;
+  lots = read.lots.climb;
+  kept = read.kept.kept_climb;
+  headers = read.headers.climb;
+  lines = read.lines.climb;
+}
+
+module _ (rows : OrderedBooks) (c : Books) (has : HaveOrderedRows rows c) (ordered : AreOrdered rows) where
   customers : climbs (map row_key c.customers) ≡ true
   customers =
       ap climbs (sym (map-map (λ (x : CheckedCustomer). x.branch ∷ x.number ∷ []) customer_row c.customers) ∙ ap (map (λ (x : CheckedCustomer). x.branch ∷ x.number ∷ [])) has.customers) ∙ ordered.customers
@@ -50,7 +67,7 @@ module _ (rows : OrderedBooks) (c : Books) (has : HaveOrderedRows rows c) (order
         by_key = has.consignments.by_key;
         joined = IsPermutation-sym _ _ has.consignments.all;
         headers = ap (λ hs. climbs (map header_key hs)) sound.0 ∙ ap climbs (map-map header_key seen_header rows.headers.items) ∙ ordered.headers;
-        lines = ap (λ ps. climbs (map placed_key ps)) sound.1 ∙ lines;
+        lines = ap (λ ps. climbs (map placed_key ps)) sound.1 ∙ ap climbs (map-map placed_key seen_placed rows.lines.items) ∙ ordered.lines;
         places = has.consignments.in_order;
         lasts = lasts;
         lasts_apart = ap (are_different (λ (earlier later : Owned Moment). earlier.owner == later.owner)) has.lasts ∙ lasts_apart 1 rows.branches.items;

@@ -7,7 +7,8 @@ use Rattle.audit_rows.specs.declared.rows.CheckedKept.{CheckedKept}
 use Rattle.audit_tables.specs.Kept.{AnyKept, OfBranch, OfOffice, any_columns, AnyFits, caller_row, IsCallerRow}
 use Rattle.audit_tables.specs.declared.kept.CallerRow.{CallerRow}
 use Rattle.audit_tables.proofs.Ranges.{in_range}
-use Rattle.books_audit.specs.Read.{RowsRead, office_caller, branch_caller}
+use Rattle.books_audit.specs.Keys.{office_caller, branch_caller}
+use Rattle.books_audit.specs.ReadLists.{RowsRead}
 use Rattle.books_audit.proofs.FullLists.{full_rows}
 
 -- ---- head office's stand in front

@@ -19,12 +19,8 @@ pub mod Told
 pub mod CustodyAudits
 pub mod Counted
 pub mod Splits
-pub mod AllRead
 pub mod StandKeyed
-pub mod StandTables
 pub mod StandPlaces
-pub mod StandShared
-pub mod StandChain
 pub mod StandSent
 pub mod StandKept
 pub mod StandAll

@@ -1,5 +1,5 @@
 -- Consignments in the order of their keys, counted one after another: those of a pair of branches stand together.
-use Rattle.shop_schema.proofs.Common.{◌≡◌, ◌∙◌, ◌+◌, ◌<◌, ◌==◌, ◌&&◌, ℕ, List, [], ◌∷◌, ◌++◌, map, length, drop, get_or, drop-cons, add-one, suc, true, false, refl, sym, ap, subst, arith, AllByRecursion, and_parts, same_if, same_test, nat_tests, Pair, is_pair, count_pair}
+use Rattle.shop_schema.proofs.Common.{◌≡◌, ◌∙◌, ◌+◌, ◌<◌, ◌==◌, ◌&&◌, ℕ, List, [], ◌∷◌, ◌++◌, map, length, drop, get_or, drop-cons, add-one, suc, true, false, refl, sym, ap, subst, arith, AllByRecursion, and_parts, same_if, same_test, nat_tests, append-nil, map_push, Pair, is_pair, count_pair}
 use Rattle.audit_rows.specs.Lists.{Key, is_below, climbs_above}
 use Rattle.audit_rows.specs.declared.rows.CheckedHeader.{CheckedHeader}
 use Rattle.audit_rows.proofs.Keys.{both, below_trans, below_apart}
@@ -8,6 +8,7 @@ use Rattle.books_audit.specs.Read.{pairs_among}
 use Rattle.books_audit.specs.Triples.{seen_pair}
 use Rattle.books_audit.proofs.PairLemmas.{counted_here, counted_later}
 use Rattle.books_audit.proofs.Canonical.{two}
+use Rattle.books_audit.proofs.Splits.{all_more}
 
 abbrev pub Below : ℕ → ℕ → List Pair → Type 0
 Below s a = AllByRecursion (λ (p : Pair). is_below (p.source ∷ p.addressee ∷ []) (s ∷ a ∷ []) ≡ true)
@@ -30,27 +31,19 @@ lower : (s a t b : ℕ) (ps : List Pair) → is_below (s ∷ a ∷ []) (t ∷ b 
 lower s a t b [] up h = tt
 lower s a t b (p ∷ ps) up h = (below_trans (p.source ∷ p.addressee ∷ []) (s ∷ a ∷ []) (t ∷ b ∷ []) h.0 up, lower s a t b ps up h.1)
 
-with_last : (t b : ℕ) (ps : List Pair) (p : Pair) → Below t b ps → is_below (p.source ∷ p.addressee ∷ []) (t ∷ b ∷ []) ≡ true → Below t b (ps ++ p ∷ [])
-with_last t b [] p h low = (low, tt)
-with_last t b (q ∷ ps) p h low = (h.0, with_last t b ps p h.1 low)
-
 -- a key above that of the last consignment, and of another pair, is of a pair above the last
 pub other_above : (s a n t b m : ℕ) → is_below (s ∷ a ∷ n ∷ []) (t ∷ b ∷ m ∷ []) ≡ true → (t == s && b == a) ≡ false → is_below (s ∷ a ∷ []) (t ∷ b ∷ []) ≡ true
 other_above s a n t b m h other = grind (arith, nat_tests)
 
 module _ (s a t b : ℕ) (ps : List Pair) (low : Below s a ps) (up : is_below (s ∷ a ∷ []) (t ∷ b ∷ []) ≡ true) (n : ℕ) where
   pub all_below : Below t b (ps ++ record { source = s; addressee = a; last = n } ∷ [])
-  all_below = with_last t b ps (record { source = s; addressee = a; last = n }) (lower s a t b ps up low) up
+  all_below = all_more _ ps (record { source = s; addressee = a; last = n }) (lower s a t b ps up low) up
 
   -- the first of the next pair
   pub next_pair : count_pair t b (ps ++ record { source = s; addressee = a; last = n } ∷ []) ≡ (ps ++ record { source = s; addressee = a; last = n } ∷ []) ++ record { source = t; addressee = b; last = 1 } ∷ []
   next_pair =
       let all = ps ++ record { source = s; addressee = a; last = n } ∷ [] in
-      ap (count_pair t b) (sym (none_behind all)) ∙ past t b all [] all_below
-    where
-      none_behind : (l : List Pair) → l ++ [] ≡ l
-      none_behind [] = refl
-      none_behind (p ∷ l) = ap (λ r. p ∷ r) (none_behind l)
+      ap (count_pair t b) (sym (append-nil all)) ∙ past t b all [] all_below
 
 -- ---- the next consignment
 
@@ -62,10 +55,6 @@ key row = row.source ∷ row.addressee ∷ row.number ∷ []
 
 abbrev so_many : CheckedHeader → ℕ → Pair
 so_many row n = record { source = row.source; addressee = row.addressee; last = n }
-
-map_last : (xs : List Triple) (x : Triple) → map seen_pair (xs ++ x ∷ []) ≡ map seen_pair xs ++ seen_pair x ∷ []
-map_last [] x = refl
-map_last (y ∷ xs) x = ap (λ l. seen_pair y ∷ l) (map_last xs x)
 
 -- what holds behind it
 pub record Follows (ps : List Pair) (row : CheckedHeader) (n : ℕ) (rest : List CheckedHeader) (all : List Pair) : Type 0 where
@@ -102,7 +91,7 @@ module _ (last row : CheckedHeader) (before rest : List CheckedHeader) (n : ℕ)
     of_other olds news x e g k other =
         let up = both (is_below (key last) (key row)) (climbs_above (key row) (map key rest)) (rising f.rises) in
         let above = other_above last.source last.addressee last.number row.source row.addressee row.number up.0 other in
-        let is : ps ++ so_many last n ∷ [] ≡ map seen_pair news = (λ i. sym e i ++ sym k i ∷ []) ∙ sym (map_last olds x) ∙ ap (map seen_pair) (sym g) in
+        let is : ps ++ so_many last n ∷ [] ≡ map seen_pair news = (λ i. sym e i ++ sym k i ∷ []) ∙ sym (map_push seen_pair olds x) ∙ ap (map seen_pair) (sym g) in
         let once = next_pair last.source last.addressee row.source row.addressee ps f.below above n in
         record {
           same = ap (λ l. pairs_among (l ++ so_many row 1 ∷ []) rest) (sym is) ∙ ap (λ l. pairs_among l rest) (sym once) ∙ counted (ps ++ so_many last n ∷ []) f.same;

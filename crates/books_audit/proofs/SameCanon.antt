@@ -1,9 +1,10 @@
 -- Of two books for which the same tables stand, the one in the order of its keys is the other in that order.
-use Rattle.shop_schema.proofs.Common.{sym, ap, ◌∙◌, list_all, Moment, Owned, has_row, Books}
+use Rattle.shop_schema.proofs.Common.{sym, ap, ◌∙◌, list_all, Moment, Owned, has_row, Books, IsName, IsCity, IsActor, IsFilm, IsStaff, Customers, CopyRows, Rentals, TermRows, Payments}
+use Rattle.shop_schema.proofs.ShopTables as table
 use Rattle.audit_rows.specs.Canons.{IsCanonOf}
 use Rattle.books_audit.specs.declared.tables.TableRows.{TableRows}
 use Rattle.books_audit.specs.Audits.{HaveBooks, AreInOrder}
-use Rattle.books_audit.proofs.SameBooks as same
+use Rattle.books_audit.proofs.SameBooks.{one_shared, one_bag, one_value}
 use Rattle.books_audit.proofs.SameBranches as branch
 use Rattle.books_audit.proofs.SameConsignments as sent
 use Rattle.books_audit.proofs.SameKept as kept
@@ -11,34 +12,36 @@ use Rattle.books_audit.proofs.SameKept as kept
 pub one_canon : (tables : TableRows) (c b : Books) → HaveBooks tables c → HaveBooks tables b → AreInOrder c → IsCanonOf c b
 one_canon tables c b s t o =
     let branches = branch.branches tables c b s t in
+    let f = s.values.catalogue in
+    let g = t.values.catalogue in
     record {
       shared = λ i. record {
-        office_token = kept.office_token tables c b s t i;
+        office_token = one_value table.chain f.office_token g.office_token s.rows.chain t.rows.chain i;
         kept = c.catalogue.kept;
         casts = c.catalogue.casts;
-        countries = same.countries tables c b s t i;
-        cities = same.cities tables c b s t i;
-        languages = same.languages tables c b s t i;
-        categories = same.categories tables c b s t i;
-        actors = same.actors tables c b s t i;
-        films = same.films tables c b s t i;
+        countries = one_shared IsName table.named f.countries g.countries s.rows.countries t.rows.countries i;
+        cities = one_shared IsCity table.cities f.cities g.cities s.rows.cities t.rows.cities i;
+        languages = one_shared IsName table.named f.languages g.languages s.rows.languages t.rows.languages i;
+        categories = one_shared IsName table.named f.categories g.categories s.rows.categories t.rows.categories i;
+        actors = one_shared IsActor table.actors f.actors g.actors s.rows.actors t.rows.actors i;
+        films = one_shared IsFilm table.films f.films g.films s.rows.films t.rows.films i;
         branches = branches i;
-        staff = same.staff tables c b s t i;
-        rule = same.rule tables c b s t i;
+        staff = one_shared IsStaff table.staff f.staff g.staff s.rows.staff t.rows.staff i;
+        rule = one_value table.chain_rule tt tt s.rows.rule t.rows.rule i;
       };
       office_kept = kept.office_keys tables c b s t;
-      casts = same.casts tables c b s t;
-      customers = same.customers tables c b s t;
+      casts = one_bag table.casts g.casts f.casts t.rows.casts s.rows.casts;
+      customers = one_bag table.customers (t.values.rows Customers) (s.values.rows Customers) t.rows.customers s.rows.customers;
       customers_climb = o.customers;
-      copies = same.copies tables c b s t;
+      copies = one_bag table.copies (t.values.rows CopyRows) (s.values.rows CopyRows) t.rows.copies s.rows.copies;
       copies_climb = o.copies;
-      rentals = same.rentals tables c b s t;
+      rentals = one_bag table.rentals (t.values.rows Rentals) (s.values.rows Rentals) t.rows.rentals s.rows.rentals;
       rentals_climb = o.rentals;
-      terms = same.terms tables c b s t;
+      terms = one_bag table.terms (t.values.rows TermRows) (s.values.rows TermRows) t.rows.terms s.rows.terms;
       terms_climb = o.terms;
-      payments = same.payments tables c b s t;
+      payments = one_bag table.payments (t.values.rows Payments) (s.values.rows Payments) t.rows.payments s.rows.payments;
       payments_climb = o.payments;
-      lots = same.lots tables c b s t;
+      lots = one_bag table.lots t.values.lots s.values.lots t.rows.lots s.rows.lots;
       kept = kept.kept tables c b s t;
       consignments = sent.consignments tables c b s t o.by_key o.joined o.headers o.lines;
       in_order = o.places;

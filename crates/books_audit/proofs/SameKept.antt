@@ -1,5 +1,5 @@
 -- Two books for which the same tables stand have the same kept commands of branches, and the same keys of head office's.
-use Rattle.shop_schema.proofs.Common.{◌≡◌, ◌==◌, ℕ, List, [], ◌∷◌, map, not, Bool, true, false, refl, ap, subst, arith, IsTrue, IsPermutation, pos, AllByRecursion, nat_tests, IsPermutation-map, IsPermutation-trans, IsPermutation-sym, Value, Int, column, map-map, short_bag, Owned, Kept, OfficeKept, same_command, Books, chain_columns, kept_columns, office_kept_columns, kept_rows, command_form, IsKept, IsNumber}
+use Rattle.shop_schema.proofs.Common.{◌≡◌, ◌==◌, ℕ, List, [], ◌∷◌, map, not, Bool, true, false, refl, ap, subst, arith, IsTrue, IsPermutation, pos, AllByRecursion, nat_tests, IsPermutation-map, IsPermutation-trans, IsPermutation-sym, Value, Int, column, map-map, Owned, Kept, OfficeKept, same_command, Books, kept_columns, office_kept_columns, kept_rows, command_form, IsKept, IsNumber}
 use Rattle.sqlite.specs.declared.types.Value.TheVariants.{Text}
 use Rattle.sqlite_value.specs.Order as sql
 use Rattle.shop_schema.proofs.OneToOne.{command_equal, forms_are_one_to_one}
@@ -9,12 +9,6 @@ use Rattle.books_audit.specs.declared.tables.TableRows.{TableRows}
 use Rattle.books_audit.specs.Audits.{HaveBooks}
 
 -- ---- the rows of branches and of head office in one table
-
-negated : (b : Bool) → b ≡ false → not b ≡ true
-negated b h = ap not h
-
-unnegated : (b : Bool) → b ≡ true → not b ≡ false
-unnegated b h = ap not h
 
 mapped : {X : Type 0} (P Q : X → Type 0) → ((x : X) → P x → Q x) → (xs : List X) → AllByRecursion P xs → AllByRecursion Q xs
 mapped P Q f [] all = tt
@@ -63,10 +57,10 @@ module _ (ks ls : List (Owned Kept)) (os ps : List OfficeKept) (k : AllByRecursi
   same_kept =
       same_bag_of kept_columns IsKept one_kept ks ls k l
       (first_bag (λ r. not (by_office r)) (map kept_columns ks) (map office_kept_columns os) (map kept_columns ls) (map office_kept_columns ps)
-      (mapped (λ r. by_office r ≡ false) (λ r. not (by_office r) ≡ true) (λ r h. negated (by_office r) h) _ (of_branches ks k))
-      (mapped (λ r. by_office r ≡ true) (λ r. not (by_office r) ≡ false) (λ r h. unnegated (by_office r) h) _ (of_office os))
-      (mapped (λ r. by_office r ≡ false) (λ r. not (by_office r) ≡ true) (λ r h. negated (by_office r) h) _ (of_branches ls l))
-      (mapped (λ r. by_office r ≡ true) (λ r. not (by_office r) ≡ false) (λ r h. unnegated (by_office r) h) _ (of_office ps)) both)
+      (mapped (λ r. by_office r ≡ false) (λ r. not (by_office r) ≡ true) (λ r h. ap not h) _ (of_branches ks k))
+      (mapped (λ r. by_office r ≡ true) (λ r. not (by_office r) ≡ false) (λ r h. ap not h) _ (of_office os))
+      (mapped (λ r. by_office r ≡ false) (λ r. not (by_office r) ≡ true) (λ r h. ap not h) _ (of_branches ls l))
+      (mapped (λ r. by_office r ≡ true) (λ r. not (by_office r) ≡ false) (λ r h. ap not h) _ (of_office ps)) both)
 
   pub same_office_keys : IsPermutation (map office_key os) (map office_key ps)
   same_office_keys =
@@ -83,11 +77,3 @@ module _ (tables : TableRows) (c b : Books) (s : HaveBooks tables c) (t : HaveBo
 
   pub office_keys : IsPermutation (map office_key b.catalogue.kept) (map office_key c.catalogue.kept)
   office_keys = same_office_keys b.kept c.kept b.catalogue.kept c.catalogue.kept t.values.kept s.values.kept both
-
-  pub office_token : c.catalogue.office_token ≡ b.catalogue.office_token
-  office_token =
-      let one = short_bag _ _ (IsPermutation-trans _ _ _ (IsPermutation-sym _ _ s.rows.chain) t.rows.chain) (omega arith) in
-      told c.catalogue.office_token b.catalogue.office_token one
-    where
-      told : (u v : List ℕ) → ◌≡◌ {A = List sql.Row} (chain_columns u ∷ []) (chain_columns v ∷ []) → u ≡ v
-      told u v h = cc

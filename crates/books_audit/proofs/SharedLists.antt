@@ -6,9 +6,10 @@ use Rattle.audit_tables.specs.Columns.{told_columns, IsTold}
 use Rattle.audit_rows.specs.Ordered.{branch_row, last_of, lasts_from}
 use Rattle.audit_rows.specs.declared.rows.CheckedBranch.{CheckedBranch}
 use Rattle.audit_rows.proofs.LastLemmas.{last_at, last_in}
-use Rattle.books_audit.specs.Read.{SharedRead}
+use Rattle.books_audit.specs.ReadLists.{PlacesRead}
 use Rattle.books_audit.proofs.FullLists.{fulls, shared_rows, shared_fit}
 use Rattle.audit_rows.proofs.Maps.{length-map}
+use Rattle.books_audit.proofs.Counted.{as_many}
 
 pub record SharedOf {A S : Type 0} (columns : ℕ × A → sql.Row) (P : A → Type 0) (seen : A → S) (table : List sql.Row) (kept : List S) : Type 0 where
   pub items : List A
@@ -22,16 +23,16 @@ same_map f g h (x ∷ xs) = λ i. h x i ∷ same_map f g h xs i
 
 module _ {A X S : Type 0} (columns : ℕ × A → sql.Row) (P : A → Type 0) (small : ℕ × A → X) (number : X → ℕ) (keep : X → S) (seen : A → S)
     (numbers : (it : ℕ × A) → number (small it) ≡ it.0) (keeps_are : (it : ℕ × A) → keep (small it) ≡ seen it.1) where
-  pub shared_of : {table : List sql.Row} {kept : List S} → SharedRead (FullOf columns (IsShared P) small) number keep table kept → SharedOf columns P seen table kept
+  pub shared_of : {table : List sql.Row} {kept : List S} → PlacesRead (FullOf columns (IsShared P) small) number keep table kept → SharedOf columns P seen table kept
   shared_of {table} {kept} r =
       let f = fulls columns (IsShared P) small r.found r.sorted table r.are_rows r.same in
       let firsts : map (λ (it : ℕ × A). it.0) f.its ≡ map number r.sorted = sym (same_map _ _ numbers f.its) ∙ sym (map-map number small f.its) ∙ ap (map number) f.keeps in
       let items = map (λ (it : ℕ × A). it.1) f.its in
       let are : map seen items ≡ kept = map-map seen (λ (it : ℕ × A). it.1) f.its ∙ sym (same_map _ _ keeps_are f.its) ∙ sym (map-map keep small f.its) ∙ ap (map keep) f.keeps ∙ r.keeps in
-      let size : length items ≡ length kept = sym (length-map seen items) ∙ ap length are in record {
+      let size : length table ≡ length items = as_many table (map columns f.its) f.has ∙ length-map columns f.its ∙ sym (length-map (λ (it : ℕ × A). it.1) f.its) in record {
         items = items;
         has = shared_rows columns table f.its (subst (IsCounted 1) (sym firsts) r.counted) f.has;
-        fit = (subst (λ n. n < 2 ^ 32) (sym size) r.few, shared_fit P f.its f.fit);
+        fit = (subst (λ n. n < 2 ^ 32) size r.few, shared_fit P f.its f.fit);
         keeps = are;
       }
 

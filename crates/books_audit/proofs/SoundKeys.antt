@@ -1,12 +1,9 @@
 -- Sound books have no key twice.
-use Rattle.shop_schema.proofs.Common.{◌≡◌, ◌∙◌, ◌+◌, ◌<◌, ◌==◌, ◌&&◌, ◌||◌, ℕ, List, [], ◌∷◌, map, filter, not, Bool, true, false, cond, refl, sym, ap, arith, list_any, bytes_eq, nat_tests, nat_eq_equiv, Row, Owned, IsCounted, is_of, owned_by, are_different, Rules, Text, Kept, Books, Consignment, IsSound, widest, same_test}
+use Rattle.shop_schema.proofs.Common.{◌≡◌, ◌∙◌, ◌+◌, ◌<◌, ◌==◌, ◌&&◌, ◌||◌, ℕ, List, [], ◌∷◌, map, filter, not, Bool, true, false, cond, refl, sym, ap, arith, list_any, bytes_eq, nat_tests, nat_eq_equiv, Row, Owned, IsCounted, is_of, owned_by, are_different, Rules, Text, Kept, Books, Consignment, IsSound, widest, same_test, Customers, CopyRows, Rentals, TermRows, Payments}
 use Rattle.audit_rows.proofs.Keys.{both, different-map, bytes_eq_symm}
+use Rattle.audit_rows.proofs.MarkLemmas.{not_true}
 use Rattle.audit_rows.proofs.Tests.{different_congr}
 use Rattle.books_audit.specs.Audits.{HaveKeys, same_row}
-
-unnot : (b : Bool) → not b ≡ true → b ≡ false
-unnot true e = cc
-unnot false e = refl
 
 -- rows that differ within each group are different
 module _ {X : Type 0} (own num : X → X → Bool) (self : (x : X) → own x x ≡ true) where
@@ -28,7 +25,7 @@ module _ {X : Type 0} (own num : X → X → Bool) (self : (x : X) → own x x �
   groups_apart [] h = refl
   groups_apart (x ∷ xs) h =
       let here = both (not (list_any (num x) (filter (own x) xs))) (are_different num (filter (own x) xs)) (ap (λ t. are_different num (cond t (x ∷ filter (own x) xs) (filter (own x) xs))) (sym (self x)) ∙ h x) in
-      let none = none_in x xs (unnot (list_any (num x) (filter (own x) xs)) here.0) in
+      let none = none_in x xs (not_true (list_any (num x) (filter (own x) xs)) here.0) in
       (λ i. not (none i) && groups_apart xs (λ z. less z (own z x) (h z)) i)
     where
       less : (z : X) (t : Bool) → are_different num (cond t (x ∷ filter (own z) xs) (filter (own z) xs)) ≡ true → are_different num (filter (own z) xs) ≡ true
@@ -71,11 +68,11 @@ regrouped false b c d e p q = λ i. p i && q i && c
 pub keys_of_sound : (rules : Rules) (books : Books) → IsSound (widest rules) books → HaveKeys books
 keys_of_sound rules books sound = record {
   casts = sound.catalogue.single.casts;
-  customers = rows_apart books.customers sound.numbers.customers;
-  copies = rows_apart books.copies sound.numbers.copies;
-  rentals = rows_apart books.rentals sound.numbers.rentals;
-  terms = rows_apart books.terms sound.numbers.terms;
-  payments = rows_apart books.payments sound.numbers.payments;
+  customers = rows_apart books.customers (sound.numbers.rows Customers);
+  copies = rows_apart books.copies (sound.numbers.rows CopyRows);
+  rentals = rows_apart books.rentals (sound.numbers.rows Rentals);
+  terms = rows_apart books.terms (sound.numbers.rows TermRows);
+  payments = rows_apart books.payments (sound.numbers.rows Payments);
   lots = owned_apart (λ (x y : Text). bytes_eq x y) books.lots (λ b. different_congr _ _ (λ x y. bytes_eq_symm x y) (owned_by b books.lots) ∙ (sound.links b).lots);
   consignments = consignments_apart;
   kept = owned_apart (λ (x y : Kept). bytes_eq x.command.key y.command.key) books.kept (λ b. (sound.links b).keys);

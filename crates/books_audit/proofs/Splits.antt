@@ -1,39 +1,30 @@
 -- Rows moved one by one into one of two lists.
-use Rattle.shop_schema.proofs.Common.{◌≡◌, ◌≤◌, ◌==◌, ◌++◌, ℕ, Bool, true, false, List, [], ◌∷◌, length, map, Some, None, refl, sym, ap, subst, arith, IsPermutation, if◌then◌else◌, nat_tests, AllByRecursion, IsNumber, IsPermutation-refl, IsPermutation-trans, IsPermutation-sym, IsPermutation-append, IsPermutation-middle}
+use Rattle.shop_schema.proofs.Common.{◌≡◌, ◌≤◌, ◌==◌, ◌++◌, ℕ, Bool, true, false, List, [], ◌∷◌, length, map, Some, None, refl, sym, subst, arith, IsPermutation, if◌then◌else◌, nat_tests, AllByRecursion, IsNumber, IsPermutation-refl, IsPermutation-trans, IsPermutation-sym, IsPermutation-append, IsPermutation-middle, append-nil, append_assoc, map_push}
 use Rattle.sqlite_value.specs.Order as sql
 use Rattle.audit_tables.specs.Listed.{AreRows}
 use Rattle.books_audit.proofs.Counted.{kept_of_each}
-use Rattle.std.proofs.lemmas.List.{append-nil}
 use Rattle.audit_tables.proofs.Ranges.{ranged}
 use Rattle.audit_rows.specs.Lists.{Key}
 use Rattle.audit_rows.specs.declared.rows.CheckedKept.{CheckedKept}
 use Rattle.audit_tables.specs.declared.kept.CallerRow.{CallerRow}
-use Rattle.books_audit.specs.Read.{office_caller, branch_caller}
+use Rattle.books_audit.specs.Keys.{office_caller, branch_caller}
 
 module _ {X : Type 0} where
   pub one_moved : (all rest old new : List X) (x : X) → IsPermutation all ((x ∷ rest) ++ old) → IsPermutation new (x ∷ old) → IsPermutation all (rest ++ new)
   one_moved all rest old new x p q =
       IsPermutation-trans all _ _ p (IsPermutation-sym _ _ (IsPermutation-trans _ _ _ (IsPermutation-append rest rest new (x ∷ old) (IsPermutation-refl rest) q) (IsPermutation-middle rest x old)))
 
-  map_last : {K : Type 0} (f : K → X) (ks : List K) (k : K) → map f (ks ++ k ∷ []) ≡ map f ks ++ f k ∷ []
-  map_last f [] k = refl
-  map_last f (j ∷ ks) k = λ i. f j ∷ map_last f ks k i
-
   pub first_grows : {K : Type 0} (f : K → X) (ks : List K) (k : K) (others : List X) → IsPermutation (map f (ks ++ k ∷ []) ++ others) (f k ∷ (map f ks ++ others))
   first_grows f ks k others =
-      subst (λ l. IsPermutation (l ++ others) (f k ∷ (map f ks ++ others))) (sym (map_last f ks k))
-      (subst (λ l. IsPermutation l (f k ∷ (map f ks ++ others))) (sym (once_more (map f ks) (f k) others)) (IsPermutation-middle (map f ks) (f k) others))
-    where
-      once_more : (kept : List X) (x : X) (xs : List X) → (kept ++ x ∷ []) ++ xs ≡ kept ++ x ∷ xs
-      once_more [] x xs = refl
-      once_more (k ∷ kept) x xs = λ i. k ∷ once_more kept x xs i
+      subst (λ l. IsPermutation (l ++ others) (f k ∷ (map f ks ++ others))) (sym (map_push f ks k))
+      (subst (λ l. IsPermutation l (f k ∷ (map f ks ++ others))) (sym (append_assoc (map f ks) (f k ∷ []) others)) (IsPermutation-middle (map f ks) (f k) others))
 
   pub second_grows : {K : Type 0} (f : K → X) (ks : List K) (k : K) (others : List X) → IsPermutation (others ++ map f (ks ++ k ∷ [])) (f k ∷ (others ++ map f ks))
   second_grows f ks k others =
       IsPermutation-trans _ _ _ (IsPermutation-append others others _ _ (IsPermutation-refl others) (last (map f ks) (f k))) (IsPermutation-middle others (f k) (map f ks))
     where
       last : (xs : List X) (x : X) → IsPermutation (map f (ks ++ k ∷ [])) (f k ∷ map f ks)
-      last xs x = subst (λ l. IsPermutation l (f k ∷ map f ks)) (sym (map_last f ks k)) (subst (λ l. IsPermutation (map f ks ++ f k ∷ []) (f k ∷ l)) (append-nil (map f ks)) (IsPermutation-middle (map f ks) (f k) []))
+      last xs x = subst (λ l. IsPermutation l (f k ∷ map f ks)) (sym (map_push f ks k)) (subst (λ l. IsPermutation (map f ks ++ f k ∷ []) (f k ∷ l)) (append-nil (map f ks)) (IsPermutation-middle (map f ks) (f k) []))
 
 pub zero_is : (n : ℕ) → (if n == 0 then None else Some n) ≡ None → n ≡ 0
 zero_is n = go (n == 0) refl
@@ -79,11 +70,11 @@ number_is n m h high = subst IsNumber (some_is n m h) (ranged n (positive (n == 
     positive true e k = cc
     positive false e k = grind (arith, nat_tests)
 
-pub keys_same : (ks : List Key) → map (λ (k : Key). k) ks ≡ ks
-keys_same [] = refl
-keys_same (k ∷ ks) = ap (λ l. k ∷ l) (keys_same ks)
-
 -- ---- one row
 
-pub two_rows : {X : Type 0} (Is : X → sql.Row → Type 0) (first : X) (rest : List X) (rows : List sql.Row) → AreRows Is (first ∷ rest) rows → length rows ≡ 1 → length rest ≡ 0
-two_rows Is first rest rows h e = let many = kept_of_each Is (first ∷ rest) rows h in omega (arith, many, e)
+pub not_one_row : {X : Type 0} (Is : X → sql.Row → Type 0) (all rest : List X) (one : X) (rows : List sql.Row) → AreRows Is all rows → all ≡ rest ++ one ∷ [] → ¬ (length rest ≡ 0) → ¬ (length rows ≡ 1)
+not_one_row Is all [] one rows h e some is = some refl
+not_one_row Is [] (x ∷ rest) one rows h e some is = cc
+not_one_row Is (y ∷ []) (x ∷ []) one rows h e some is = cc
+not_one_row Is (y ∷ []) (x ∷ z ∷ rest) one rows h e some is = cc
+not_one_row Is (y ∷ z ∷ all) (x ∷ rest) one rows h e some is = let many = kept_of_each Is (y ∷ z ∷ all) rows h in omega (arith, many, is)

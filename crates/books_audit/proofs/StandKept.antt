@@ -11,8 +11,7 @@ use Rattle.audit_rows.proofs.Keys.{different_along, different-map, bytes_eq_symm
 use Rattle.audit_rows.proofs.Standing.{all_moved}
 use Rattle.books_audit.specs.declared.tables.TableRows.{TableRows}
 use Rattle.books_audit.specs.Audits.{HaveBooks}
-use Rattle.books_audit.specs.Read.{office_caller, branch_caller}
-use Rattle.books_audit.specs.Keys.{KeptCanBeRead}
+use Rattle.books_audit.specs.Keys.{office_caller, branch_caller, KeptCanBeRead}
 use Rattle.books_audit.proofs.KeptRows.{KeptOf, kept_of}
 use Rattle.books_audit.proofs.SameKept.{same_kept, same_office_keys}
 

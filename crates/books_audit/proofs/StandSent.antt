@@ -1,20 +1,22 @@
 -- The tables of consignments, where they stand for books, can be read in the order of their keys and joined.
-use Rattle.shop_schema.proofs.Common.{◌≡◌, ◌∙◌, ◌+◌, ◌<◌, ◌==◌, ◌&&◌, ◌||◌, ℕ, List, [], ◌∷◌, ◌++◌, map, not, Bool, true, false, Some, refl, sym, ap, arith, IsPermutation, AllByRecursion, flat_map, list_any, bytes_eq, nat_tests, IsPermutation-map, IsPermutation-sym, IsPermutation-trans, map-map, numbered_from, are_different, Books, Line, Consignment}
+use Rattle.shop_schema.proofs.Common.{◌≡◌, ◌∙◌, ◌+◌, ◌<◌, ◌==◌, ◌&&◌, ◌||◌, ℕ, List, [], ◌∷◌, ◌++◌, map, not, Bool, true, false, refl, sym, ap, arith, IsPermutation, AllByRecursion, flat_map, list_any, bytes_eq, nat_tests, IsPermutation-map, IsPermutation-sym, IsPermutation-trans, map-map, numbered_from, are_different, Books, Line, Consignment}
+use Rattle.std.proofs.lemmas.List.Folds.{list_any-append}
 use Rattle.audit_tables.specs.Listed.{AreRows}
 use Rattle.audit_tables.specs.AuditTables as audited
-use Rattle.audit_tables.specs.Rows.{header_row, IsHeaderRow, placed_row, IsLineRow}
+use Rattle.audit_tables.specs.Rows.{header_row, IsOneHeader, IsHeaderRow, placed_row, IsOneLine, IsLineRow}
 use Rattle.audit_rows.specs.Lists.{climbs}
-use Rattle.audit_rows.specs.Joins.{Header, Placed, header, placed, put_line, header_key, placed_key, join}
+use Rattle.audit_rows.specs.Joins.{Header, Placed, header, placed, put_line, header_key, placed_key}
 use Rattle.audit_rows.specs.Seen.{seen_header, seen_placed}
 use Rattle.audit_rows.specs.declared.rows.CheckedHeader.{CheckedHeader}
 use Rattle.audit_rows.specs.declared.rows.CheckedLine.{CheckedLine}
 use Rattle.audit_rows.proofs.JoinLemmas.{join_complete}
 use Rattle.audit_rows.proofs.Keys.{both, different-map}
+use Rattle.audit_rows.proofs.MarkLemmas.{not_true}
 use Rattle.audit_rows.proofs.Tests.{different_congr}
 use Rattle.books_audit.specs.declared.tables.TableRows.{TableRows}
 use Rattle.books_audit.specs.Audits.{HaveBooks}
-use Rattle.books_audit.specs.Read.{RowsRead}
-use Rattle.books_audit.specs.TableGroups.{SentCanBeRead}
+use Rattle.books_audit.specs.ReadInOrder.{AreJoined}
+use Rattle.books_audit.specs.ReadLists.{RowsRead, AreKeyed}
 use Rattle.books_audit.proofs.CustodyAudits.{placed_again}
 use Rattle.books_audit.proofs.Canonical.{same_consignment, three}
 use Rattle.books_audit.proofs.SameConsignments.{headers_fit, lines_fit, header_rows, placed_rows}
@@ -26,23 +28,14 @@ abbrev same_place : Placed → Placed → Bool
 same_place x y = bytes_eq (placed_key x) (placed_key y)
 
 none_joined : {X : Type 0} (p : X → Bool) (xs ys : List X) → list_any p xs ≡ false → list_any p ys ≡ false → list_any p (xs ++ ys) ≡ false
-none_joined p [] ys h k = k
-none_joined p (x ∷ xs) ys h k = go (p x) h (λ e. none_joined p xs ys e k)
-  where
-    go : (b : Bool) → (b || list_any p xs) ≡ false → (list_any p xs ≡ false → list_any p (xs ++ ys) ≡ false) → (b || list_any p (xs ++ ys)) ≡ false
-    go true e more = cc
-    go false e more = more e
+none_joined p xs ys h k = list_any-append p xs ys ∙ (λ i. h i || k i)
 
 different_joined : {X : Type 0} (same : X → X → Bool) (xs ys : List X) → are_different same xs ≡ true → are_different same ys ≡ true → AllByRecursion (λ x. list_any (same x) ys ≡ false) xs → are_different same (xs ++ ys) ≡ true
 different_joined same [] ys h k none = k
 different_joined same (x ∷ xs) ys h k none =
     let parts = both (not (list_any (same x) xs)) (are_different same xs) h in
-    let here = none_joined (same x) xs ys (unnot (list_any (same x) xs) parts.0) none.0 in
+    let here = none_joined (same x) xs ys (not_true (list_any (same x) xs) parts.0) none.0 in
     (λ i. not (here i) && different_joined same xs ys parts.1 k none.1 i)
-  where
-    unnot : (b : Bool) → not b ≡ true → b ≡ false
-    unnot true e = cc
-    unnot false e = refl
 
 last_differs : (a b c : Bool) → (a && (b && (c && (false && true)))) ≡ false
 last_differs true true true = refl
@@ -92,25 +85,21 @@ lines_apart : (its : List Consignment) → are_different same_consignment its �
 lines_apart [] h = refl
 lines_apart (it ∷ its) h =
     let parts = both (not (list_any (same_consignment it) its)) (are_different same_consignment its) h in
-    different_joined same_place (placed it) (flat_map placed its) (one_apart (header it) 1 it.lines) (lines_apart its parts.1) (all_apart it 1 it.lines its (unnot (list_any (same_consignment it) its) parts.0))
-  where
-    unnot : (b : Bool) → not b ≡ true → b ≡ false
-    unnot true e = cc
-    unnot false e = refl
+    different_joined same_place (placed it) (flat_map placed its) (one_apart (header it) 1 it.lines) (lines_apart its parts.1) (all_apart it 1 it.lines its (not_true (list_any (same_consignment it) its) parts.0))
 
 -- ---- from books that stand
 
 module _ (tables : TableRows) (b : Books) (t : HaveBooks tables b) where
-  pub sent_can_be_read : SentCanBeRead tables
-  sent_can_be_read = record {
-    headers =
-        stands_keyed audited.headers header_row tables.consignments.items (map header b.consignments) (headers_fit b.consignments t.values.consignments) (header_rows tables b t) (λ row. row.source ∷ row.addressee ∷ row.number ∷ [])
-        (different-map (λ x y. bytes_eq (header_key x) (header_key y)) header b.consignments
-        ∙ sym (different_congr same_consignment _ (λ x y. three (x.source == y.source) (x.addressee == y.addressee) (x.number == y.number)) b.consignments) ∙ t.keys.consignments);
-    lines =
-        stands_keyed audited.lines placed_row tables.lines.items (flat_map placed b.consignments) (lines_fit b.consignments t.values.consignments) (placed_rows tables b t) (λ row. row.source ∷ row.addressee ∷ row.number ∷ row.line ∷ [])
-        (lines_apart b.consignments t.keys.consignments);
-  }
+  pub headers_can_be_read : AreKeyed IsHeaderRow IsOneHeader (λ (row : CheckedHeader). row.source ∷ row.addressee ∷ row.number ∷ []) tables.consignments.items
+  headers_can_be_read =
+      stands_keyed audited.headers header_row tables.consignments.items (map header b.consignments) (headers_fit b.consignments t.values.consignments) (header_rows tables b t) (λ row. row.source ∷ row.addressee ∷ row.number ∷ [])
+      (different-map (λ x y. bytes_eq (header_key x) (header_key y)) header b.consignments
+      ∙ sym (different_congr same_consignment _ (λ x y. three (x.source == y.source) (x.addressee == y.addressee) (x.number == y.number)) b.consignments) ∙ t.keys.consignments)
+
+  pub lines_can_be_read : AreKeyed IsLineRow IsOneLine (λ (row : CheckedLine). row.source ∷ row.addressee ∷ row.number ∷ row.line ∷ []) tables.lines.items
+  lines_can_be_read =
+      stands_keyed audited.lines placed_row tables.lines.items (flat_map placed b.consignments) (lines_fit b.consignments t.values.consignments) (placed_rows tables b t) (λ row. row.source ∷ row.addressee ∷ row.number ∷ row.line ∷ [])
+      (lines_apart b.consignments t.keys.consignments)
 
   headers_bag : (found : List CheckedHeader) → AreRows IsHeaderRow found tables.consignments.items → IsPermutation (map seen_header found) (map header b.consignments)
   headers_bag = seen_bag audited.headers header_row tables.consignments.items (map header b.consignments) (headers_fit b.consignments t.values.consignments) (header_rows tables b t) seen_header (λ it. refl)
@@ -120,7 +109,7 @@ module _ (tables : TableRows) (b : Books) (t : HaveBooks tables b) where
 
   pub can_be_joined : (headers : List CheckedHeader) (lines : List CheckedLine) → RowsRead IsHeaderRow tables.consignments.items headers → RowsRead IsLineRow tables.lines.items lines
       → climbs (map (λ (row : CheckedHeader). row.source ∷ row.addressee ∷ row.number ∷ []) headers) ≡ true → climbs (map (λ (row : CheckedLine). row.source ∷ row.addressee ∷ row.number ∷ row.line ∷ []) lines) ≡ true
-      → (by_key : List Consignment) × (join (map seen_header headers) (map seen_placed lines) ≡ Some by_key)
+      → AreJoined headers lines
   can_be_joined headers lines h l up down =
       let found = join_complete b.consignments (map seen_header headers) (map seen_placed lines)
       (IsPermutation-trans _ _ _ (IsPermutation-sym _ _ (headers_bag h.found h.are_rows)) (IsPermutation-map seen_header _ _ h.same))

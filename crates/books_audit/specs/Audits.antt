@@ -13,15 +13,14 @@ use Rattle.audit_rows.specs.Lists.{climbs}
 use Rattle.audit_rows.specs.Canons.{row_key}
 use Rattle.audit_rows.specs.Joins.{header, placed, header_key, placed_key}
 use Rattle.shop_model.specs.Books.{Books, Consignment}
-use Rattle.shop_model.specs.Sound.{IsSound, widest, made, here, transit, gone}
+use Rattle.shop_model.specs.Sound.{IsSound, widest, all_lines}
 use Rattle.shop_schema.specs.Columns.{chain_columns, named_columns, city_columns, actor_columns, film_columns, cast_columns, branch_columns, staff_columns, customer_columns, copy_columns, rental_columns, terms_columns, payment_columns, lot_columns, consignment_columns, line_rows, kept_rows, counter_columns, out_columns, pair_columns, rule_columns}
 use Rattle.shop_schema.specs.Counts.{counts_of}
 use Rattle.shop_schema.specs.RowValues.{AreValues}
 use Rattle.shop_schema.specs.Shop.{AreTermed}
 use Rattle.books_audit.specs.declared.tables.TableRows.{TableRows}
 use Rattle.shop_types.specs.declared.audit.Audit.{Audit}
-use Rattle.books_audit.specs.Audited.{CountsNothing}
-use Rattle.audit_rows.specs.Marked.{any_mark}
+use Rattle.books_audit.specs.Audited.{CountsCustody, CountsNothing}
 
 -- ---- standing for books
 
@@ -83,11 +82,8 @@ pub record StandsForBooks (tables : TableRows) (books : Books) : Type 0 where
 
 -- ---- what an audit says
 
-pub record Counts (audit : Audit) (books : Books) : Type 0 where
-  pub made : audit.made ≡ made any_mark books
-  pub here : audit.here ≡ here any_mark books
-  pub transit : audit.transit ≡ transit any_mark books
-  pub gone : audit.gone ≡ gone any_mark books
+abbrev pub Counts : Audit → Books → Type 0
+Counts audit books = CountsCustody audit books.copies (all_lines books)
 
 -- the tables stand for sound books
 abbrev pub AreSound : Rules → TableRows → Type 0

@@ -2,9 +2,7 @@ pub mod Audits
 pub mod Read
 pub mod Audited
 pub mod ReadLists
-pub mod TableGroups
 pub mod Keys
-pub mod Parts
 pub mod ReadInOrder
 pub mod Triples
 pub mod Shops

@@ -1,4 +1,4 @@
--- What a table has to be for its rows to be read in order: what every table that stands for books is.
+-- What is read of a table's rows in order, and what the table has to be for that: what every table that stands for books is.
 use Rattle.std.specs.Prelude.{◌≡◌, ◌<◌, ◌^◌, ℕ, List, map, length, true, IsPermutation}
 use Rattle.std.specs.List.{AllByRecursion}
 use Rattle.std.specs.List.Sorted.{IsSortedByKey}
@@ -7,8 +7,24 @@ use Rattle.std.specs.Str.{bytes_eq}
 use Rattle.sqlite_value.specs.Order as sql
 use Rattle.shop_model.specs.Links.{are_different}
 use Rattle.shop_model.specs.Rows.{IsCounted}
-use Rattle.audit_rows.specs.Lists.{Key}
+use Rattle.audit_rows.specs.Lists.{Key, climbs}
 use Rattle.audit_tables.specs.Listed.{AreRows}
+
+-- what was kept of a table's rows, in another order
+pub record RowsRead {X : Type 0} (Is : X → sql.Row → Type 0) (table : List sql.Row) (kept : List X) : Type 0 where
+  pub found : List X
+  pub are_rows : AreRows Is found table
+  pub same : IsPermutation found kept
+
+-- there is one row, and it is one of the table
+pub record IsSingle (One : sql.Row → Type 0) (table : List sql.Row) : Type 0 where
+  pub ones : AllByRecursion One table
+  pub one : length table ≡ 1
+
+-- what was kept of a table's rows, in the order of their keys, of which no two are the same
+pub record KeyedRead {X : Type 0} (Is : X → sql.Row → Type 0) (key : X → Key) (table : List sql.Row) (kept : List X) : Type 0 where
+  pub rows : RowsRead Is table kept
+  pub climb : climbs (map key kept) ≡ true
 
 -- each row is one of the table, and no two have one key
 pub record AreKeyed {X : Type 0} (Is : X → sql.Row → Type 0) (One : sql.Row → Type 0) (key : X → Key) (table : List sql.Row) : Type 0 where

@@ -8,6 +8,7 @@ ghost use Rattle.books_audit.specs.Shops.{AuditsTables};
 
 use crate::counts::have_counts;
 use crate::custody::NOTHING;
+use crate::lists::Unread;
 use crate::ordered::audit_ordered;
 use crate::reading::read_ordered;
 use crate::tables::TableRows;
@@ -22,11 +23,14 @@ use std::alloc::Global;
 /// table's, a number of a shared row or of a line is missing, a key is there twice, a line is of no consignment, a
 /// rental has no terms or terms have no rental, or a table of counts says anything but what the books have. It takes
 /// time n log n in the rows.
+#[tactic(auto, using(crate::proofs::InOrder::are_ordered))]
 pub fn check_books(alloc: Global, tables: &TableRows) -> Result<Audit, NoMemory>
     ensures { IfOk result (IsAuditOf tables.now) }
 {
-    let Some(rows) = read_ordered(alloc, tables)? else {
-        return Ok(NOTHING);
+    let rows = match read_ordered(alloc, tables) {
+        Ok(rows) => rows,
+        Err(Unread::NoBooks) => return Ok(NOTHING),
+        Err(Unread::Memory) => return Err(NoMemory),
     };
     if !have_counts(alloc, tables, &rows)? {
         return Ok(NOTHING);

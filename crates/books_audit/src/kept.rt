@@ -1,17 +1,16 @@
-//! Keys of kept commands, and the one row of the chain and of its rule.
+//! Keys of kept commands.
 
-ghost use Rattle.std.specs.Prelude.{[], ◌∷◌, ◌++◌, map, IsPermutation, IfOk, IfSome, IfNone};
+ghost use Rattle.std.specs.Prelude.{◌≡◌, ◌++◌, map, IsPermutation, IfOk, IfErr};
 ghost use Rattle.std.specs.List.{AllByRecursion};
 ghost use Rattle.shop_schema.specs.RowValues.{IsNumber};
 ghost use Rattle.audit_rows.specs.declared.rows.CheckedKept.{CheckedKept};
-ghost use Rattle.audit_tables.specs.Rows.{IsChainRow, IsRuleRow};
-ghost use Rattle.books_audit.specs.Read.{RowsRead, office_caller, branch_caller};
-ghost use Rattle.books_audit.specs.Keys.{KeptAreRead, KeptCanBeRead, ChainCanBeRead, RuleCanBeRead};
+ghost use Rattle.books_audit.specs.Keys.{office_caller, branch_caller, KeptAreRead, KeptCanBeRead};
 
+use crate::lists::Unread;
 use crate::tables::TableRows;
 use audit_rows::{CheckedKept, climbs, sort_rows};
-use audit_tables::{CallerRow, ChainRow, RuleRow, read_rows};
-use shop_types::{BranchNo, Key, NoMemory, Token};
+use audit_tables::{CallerRow, read_rows};
+use shop_types::{BranchNo, Key, NoMemory};
 use std::alloc::Global;
 
 /// The keys of head office's kept commands and of the branches'.
@@ -47,12 +46,13 @@ fn split_callers(alloc: Global, rows: Vec<CallerRow>) -> Result<Keys, NoMemory>
     Ok(Keys { office, kept })
 }
 
-pub(crate) fn read_kept(alloc: Global, tables: &TableRows) -> Result<Option<Keys>, NoMemory>
-    ensures read { IfOk result (λ o. IfSome o (KeptAreRead tables.now)) }
-    ensures none { IfOk result (λ o. IfNone o (¬ KeptCanBeRead tables.now)) }
+/// The keys of each, in their order. There are no books where a row is no kept command's or one caller has a key twice.
+pub(crate) fn read_kept(alloc: Global, tables: &TableRows) -> Result<Keys, Unread>
+    ensures read { IfOk result (λ keys. KeptAreRead tables.now keys.office.items keys.kept.items) }
+    ensures none { IfErr result (λ e. e ≡ Unread.NoBooks → ¬ KeptCanBeRead tables.now) }
 {
     let Some(rows) = read_rows::<CallerRow>(alloc, tables.kept.as_slice())? else {
-        return Ok(None);
+        return Err(Unread::NoBooks);
     };
     let Keys {
         mut office,
@@ -60,46 +60,11 @@ pub(crate) fn read_kept(alloc: Global, tables: &TableRows) -> Result<Option<Keys
     } = split_callers(alloc, rows)?;
     sort_rows(&mut office);
     if !climbs(office.as_slice()) {
-        return Ok(None);
+        return Err(Unread::NoBooks);
     }
     sort_rows(&mut kept);
     if !climbs(kept.as_slice()) {
-        return Ok(None);
+        return Err(Unread::NoBooks);
     }
-    Ok(Some(Keys { office, kept }))
-}
-
-/// The token of head office, which stands in one row.
-pub(crate) fn read_chain(alloc: Global, tables: &TableRows) -> Result<Option<Token>, NoMemory>
-    ensures read { IfOk result (λ o. IfSome o
-        (λ token. RowsRead IsChainRow tables.now.chain.items (record { office_token = token } ∷ []))) }
-    ensures none { IfOk result (λ o. IfNone o (¬ ChainCanBeRead tables.now)) }
-{
-    let Some(rows) = read_rows::<ChainRow>(alloc, tables.chain.as_slice())? else {
-        return Ok(None);
-    };
-    let Some((first, rest)) = rows.as_slice().split_first() else {
-        return Ok(None);
-    };
-    if !rest.is_empty() {
-        return Ok(None);
-    }
-    Ok(Some(first.office_token))
-}
-
-/// What is kept of the one row that has the rule of balances.
-pub(crate) fn read_rule(alloc: Global, tables: &TableRows) -> Result<Option<RuleRow>, NoMemory>
-    ensures read { IfOk result (λ o. IfSome o (λ row. RowsRead IsRuleRow tables.now.rule.items (row ∷ []))) }
-    ensures none { IfOk result (λ o. IfNone o (¬ RuleCanBeRead tables.now)) }
-{
-    let Some(rows) = read_rows::<RuleRow>(alloc, tables.rule.as_slice())? else {
-        return Ok(None);
-    };
-    let Some((first, rest)) = rows.as_slice().split_first() else {
-        return Ok(None);
-    };
-    if !rest.is_empty() {
-        return Ok(None);
-    }
-    Ok(Some(*first))
+    Ok(Keys { office, kept })
 }

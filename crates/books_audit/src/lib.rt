@@ -8,10 +8,8 @@ mod kept;
 mod laws;
 mod lists;
 mod ordered;
-mod parts;
 mod reading;
 mod shared;
-mod table_groups;
 mod tables;
 mod whole;
 

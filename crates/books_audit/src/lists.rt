@@ -1,11 +1,10 @@
 //! What was read of a table, in the order of keys or of numbers.
 
-ghost use Rattle.std.specs.Prelude.{◌≡◌, ◌<◌, ◌^◌, ℕ, true, map, length, IsPermutation, IfOk, IfSome, IfNone};
+ghost use Rattle.std.specs.Prelude.{◌≡◌, ℕ, [], ◌∷◌, map, IsPermutation, IfOk, IfErr};
 ghost use Rattle.std.specs.List.Sorted.{IsSortedByKey};
 ghost use Rattle.std.specs.Ordering.{nat_cmp};
-ghost use Rattle.audit_rows.specs.Lists.{climbs, counts_from};
-ghost use Rattle.books_audit.specs.Read.{RowsRead};
-ghost use Rattle.books_audit.specs.ReadLists.{AreKeyed, AreInPlaces, PlacesRead};
+ghost use Rattle.audit_rows.specs.Lists.{counts_from};
+ghost use Rattle.books_audit.specs.ReadLists.{RowsRead, IsSingle, KeyedRead, AreKeyed, PlacesRead, AreInPlaces};
 
 use audit_rows::{Keyed, climbs, sort_rows};
 use audit_tables::{Listed, read_rows};
@@ -13,24 +12,56 @@ use shop_types::NoMemory;
 use sqlite::Row;
 use std::alloc::Global;
 
-/// What is kept of a table's rows in the order of their keys, or nothing where a row is none of the table's or two
-/// have one key.
-pub(crate) fn read_keyed<T: Listed + Keyed>(
-    alloc: Global,
-    rows: &[Row],
-) -> Result<Option<Vec<T>>, NoMemory>
-    ensures found { IfOk result (λ o. IfSome o (λ all. RowsRead T.Listed.is_row rows.now all.items)) }
-    ensures climbs { IfOk result (λ o. IfSome o (λ all. climbs (map T.Keyed.key all.items) ≡ true)) }
-    ensures none { IfOk result (λ o. IfNone o (¬ AreKeyed T.Listed.is_row T.Listed.is_one T.Keyed.key rows.now)) }
+/// Why tables weren't read: there is no memory, or they stand for no books.
+#[derive(Clone, Copy, Drop)]
+pub(crate) enum Unread {
+    Memory,
+    NoBooks,
+}
+
+impl From<NoMemory> for Unread {
+    ghost use Rattle.books_audit.specs.declared.lists.Unread.TheVariants.{Memory};
+
+    ghost from_gives = { λ _ e. e ≡ Memory };
+
+    fn from(_: NoMemory) -> Unread {
+        Unread::Memory
+    }
+}
+
+/// What is kept of the one row of a table. There are no books where it has none or others, or it is none of the
+/// table's.
+pub(crate) fn read_one<T: Listed>(alloc: Global, rows: &[Row]) -> Result<T, Unread>
+    ensures read { IfOk result (λ one. RowsRead T.Listed.is_row rows.now (one ∷ [])) }
+    ensures none { IfErr result (λ e. e ≡ Unread.NoBooks → ¬ IsSingle T.Listed.is_one rows.now) }
 {
     let Some(mut all) = read_rows::<T>(alloc, rows)? else {
-        return Ok(None);
+        return Err(Unread::NoBooks);
+    };
+    let Some(one) = all.pop() else {
+        return Err(Unread::NoBooks);
+    };
+    if !all.is_empty() {
+        return Err(Unread::NoBooks);
+    }
+    Ok(one)
+}
+
+/// What is kept of a table's rows in the order of their keys. There are no books where a row is none of the table's
+/// or two have one key.
+pub(crate) fn read_keyed<T: Listed + Keyed>(alloc: Global, rows: &[Row]) -> Result<Vec<T>, Unread>
+    ensures read { IfOk result (λ all. KeyedRead T.Listed.is_row T.Keyed.key rows.now all.items) }
+    ensures none { IfErr result
+        (λ e. e ≡ Unread.NoBooks → ¬ AreKeyed T.Listed.is_row T.Listed.is_one T.Keyed.key rows.now) }
+{
+    let Some(mut all) = read_rows::<T>(alloc, rows)? else {
+        return Err(Unread::NoBooks);
     };
     sort_rows(&mut all);
     if !climbs(all.as_slice()) {
-        return Ok(None);
+        return Err(Unread::NoBooks);
     }
-    Ok(Some(all))
+    Ok(all)
 }
 
 /// What is kept of a shared row has its number, which is its place.
@@ -84,25 +115,26 @@ fn keep_all<T: Shared>(alloc: Global, rows: Vec<T>) -> Result<Vec<T::Kept>, NoMe
     Ok(all)
 }
 
-/// What stands in the places of a table's rows, or nothing where a row is none of the table's or they aren't numbered
-/// 1, 2, ..
+/// What stands in the places of a table's rows. There are no books where a row is none of the table's or they aren't
+/// numbered 1, 2, ..
 pub(crate) fn read_shared<T: Listed + Shared>(
     alloc: Global,
     rows: &[Row],
-) -> Result<Option<Vec<T::Kept>>, NoMemory>
-    ensures found { IfOk result (λ o. IfSome o
-        (λ all. PlacesRead T.Listed.is_row T.Shared.place T.Shared.keep rows.now all.items)) }
-    ensures none { IfOk result (λ o. IfNone o (¬ AreInPlaces T.Listed.is_row T.Listed.is_one T.Shared.place rows.now)) }
+) -> Result<Vec<T::Kept>, Unread>
+    ensures read { IfOk result
+        (λ all. PlacesRead T.Listed.is_row T.Shared.place T.Shared.keep rows.now all.items) }
+    ensures none { IfErr result
+        (λ e. e ≡ Unread.NoBooks → ¬ AreInPlaces T.Listed.is_row T.Listed.is_one T.Shared.place rows.now) }
 {
     if rows.len() > 4_294_967_295 {
-        return Ok(None);
+        return Err(Unread::NoBooks);
     }
     let Some(mut all) = read_rows::<T>(alloc, rows)? else {
-        return Ok(None);
+        return Err(Unread::NoBooks);
     };
     sort_places(&mut all);
     if !are_placed(all.as_slice()) {
-        return Ok(None);
+        return Err(Unread::NoBooks);
     }
-    Ok(Some(keep_all(alloc, all)?))
+    Ok(keep_all(alloc, all)?)
 }

@@ -1,6 +1,6 @@
 use Rattle.shop_schema.proofs.Common.{◌++◌, map, IsPermutation, AllByRecursion, IsNumber}
 use Rattle.audit_rows.specs.declared.rows.CheckedKept.{CheckedKept}
-use Rattle.books_audit.specs.Read.{office_caller, branch_caller}
+use Rattle.books_audit.specs.Keys.{office_caller, branch_caller}
 use Rattle.books_audit.proofs.kept.split_callers.Given as goal
 
 abbrev pub invariant-loop-row : goal.invariant-loop-row

@@ -4,12 +4,12 @@ use Rattle.books_audit.proofs.lists.read_shared.Goals as goal
 use Rattle.audit_rows.proofs.Tests.{counted_is, is_counted}
 
 pub returns-then-not-are_placed-clause-none : goal.returns-then-not-are_placed-clause-none
-returns-then-not-are_placed-clause-none g c h =
+returns-then-not-are_placed-clause-none g c e h =
     let is = c.are_placed.ensures ∙ ap (λ xs. counts_from 1 (map g.T.Shared.place xs)) c.as_slice.ensures.value in
     true≢false (sym (is_counted 1 _ (h.counted c.in-Some.all.items _ (rw c.in-Some.is at c.in_ok-all.ensures.found) c.sort_places.ensures.permutation c.sort_places.ensures.sorted)) ∙ sym is ∙ c.if-not-are_placed.true)
 
-pub returns-clause-found : goal.returns-clause-found
-returns-clause-found g c =
+pub returns-clause-read : goal.returns-clause-read
+returns-clause-read g c =
     let is = c.are_placed.ensures ∙ ap (λ xs. counts_from 1 (map g.T.Shared.place xs)) c.as_slice.ensures.value in
     let low = c.if-rows-gt4294967295.false in record {
       found = c.in-Some.all.items;
