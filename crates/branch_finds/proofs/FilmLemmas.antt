@@ -1,9 +1,9 @@
 -- The copies of a film, row by row, are those of the branch's shop.
-use Rattle.shop_schema.proofs.Common.{◌≡◌, ◌∙◌, refl, sym, ap, ℕ, ◌+◌, Bool, List, [], ◌∷◌, map, filter, Row, is_of, of, numbered, numbered_from, IsCounted, AreNumbered, Copy, Rental, is_here, in_stock, BookCopy, Books, shop_of, unmarked, map_map}
+use Rattle.shop_schema.proofs.Common.{◌≡◌, ◌∙◌, refl, sym, ap, ℕ, ◌+◌, Bool, List, [], ◌∷◌, map, filter, Row, is_of, of, numbered, numbered_from, IsCounted, AreNumbered, Copy, Rental, is_here, in_stock, BookCopy, Books, shop_of, unmarked, map_map, filter-map}
 use Rattle.std.specs.Prelude.{◌==◌, ◌&&◌}
 use Rattle.shop_store.specs.declared.copies.CopyRow.{CopyRow}
 use Rattle.shop_store.specs.Seen.{seen_copy_row}
-use Rattle.shop_ledger.proofs.Rising.{filter_twice, map_filter}
+use Rattle.shop_ledger.proofs.Rising.{filter_twice}
 use Rattle.branch_core.specs.declared.film_copies.FilmCopy.{FilmCopy}
 use Rattle.branch_core.specs.Agreed.{seen_film_copy, AreOfFilm}
 use Rattle.branch_finds.specs.Finds.{copy_shown}
@@ -31,7 +31,7 @@ film_rows b film rentals rows counted =
     let pairs : map pair_of own ≡ numbered (map unmarked (of b rows)) = counted_pairs 1 own counted ∙ ap (λ (copies : List Copy). numbered copies) (sym (map_map unmarked (λ (row : Row BookCopy). row.it) own)) in
     sym (map_map (told rentals) pair_of (filter (λ (row : Row BookCopy). is_of b row && q (pair_of row)) rows))
     ∙ ap (λ (found : List (Row BookCopy)). map (told rentals) (map pair_of found)) (filter_twice (is_of b) (λ (row : Row BookCopy). q (pair_of row)) rows)
-    ∙ ap (map (told rentals)) (map_filter pair_of q own ∙ ap (filter q) pairs)
+    ∙ ap (map (told rentals)) (sym (filter-map q pair_of own) ∙ ap (filter q) pairs)
 
 -- rows that are the branch's of the film
 pub of_film : (b film : ℕ) (books : Books) (copies : List FilmCopy) (rows : List CopyRow) → AreNumbered (is_of b) (λ (row : Row BookCopy). row.number) books.copies

@@ -1,4 +1,3 @@
-pub use Rattle.consign_finds.proofs.Chained
 pub mod Readings
 pub mod Lookings
 pub mod FilmLemmas

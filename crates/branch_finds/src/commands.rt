@@ -72,8 +72,8 @@ fn find_rows<S: Alter>(
         (AgreesAt branch command.now.at (seen_act command.now.act) found))) }
 {
     match &command.act {
-        Act::Customer(person) => Ok(RowsFound {
-            has_city: has_city(tx, person.city)?,
+        Act::Customer(it) => Ok(RowsFound {
+            has_city: has_city(tx, it.person.city)?,
             ..RowsFound::none(alloc)
         }),
         Act::Active { customer, .. } => Ok(RowsFound {

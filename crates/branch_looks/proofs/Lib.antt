@@ -1,5 +1,3 @@
-pub use Rattle.branch_finds.proofs.Chained
 pub use Rattle.branch_reports.proofs.Decisions
-pub use Rattle.branch_reports.proofs.Firsts
 pub mod Shows
 pub mod Telling

@@ -1,5 +1,5 @@
 -- The month before a moment's lies between the first second of that month and that of the moment's own.
-use Rattle.shop_schema.proofs.Common.{◌≡◌, ◌∙◌, refl, sym, ap, arith, ℕ, ℤ, pos, suc, ◌+◌, ◌*◌, ◌<◌, ◌≤◌, List, [], ◌∷◌, map, filter, Bool, true, false, cond, Option, Some, None, option_map, nat_lt, nat_le, int_le, if◌then◌else◌, AllByRecursion, nat_tests, all-filter, Moment, is_leap_year, days_in_year, days_in_month, is_by, is_earlier, month_days, month_before, Row, is_of, of, Payment, Shop, Books, rewarded_in, IsRow, IsPayment, IsHeld}
+use Rattle.shop_schema.proofs.Common.{◌≡◌, ◌∙◌, refl, sym, ap, arith, ℕ, ℤ, pos, suc, ◌+◌, ◌*◌, ◌<◌, ◌≤◌, List, [], ◌∷◌, map, filter, Bool, true, false, cond, Option, Some, None, option_map, nat_lt, nat_le, int_le, if◌then◌else◌, AllByRecursion, nat_tests, all-filter, Moment, is_leap_year, days_in_year, days_in_month, is_by, is_earlier, month_days, month_before, Row, is_of, of, Payment, Shop, Books, rewarded_in, IsRow, IsPayment, IsHeld, Payments}
 use Rattle.std.specs.Prelude.{◌-◌, ◌==◌, ◌&&◌, ◌||◌}
 use Rattle.std.proofs.lemmas.Int.{ints}
 use Rattle.shop_model.specs.Calendar.{days_of_years, days_of_months, day_number, day_of, seconds_of}
@@ -117,7 +117,7 @@ pub of_the_month : (b : ℕ) (month : ℤ × ℤ) (days : Option (ℕ × ℕ)) (
 of_the_month b month None start end are bounds books held = cc
 of_the_month b month (Some days) start end are bounds books held =
     let same : month ≡ seen_days days = cc in
-    same_days month days start end same (bounds days refl) (filter (is_of b) books.payments) (all-filter (IsRow IsPayment) (is_of b) books.payments held.values.payments)
+    same_days month days start end same (bounds days refl) (filter (is_of b) books.payments) (all-filter (IsRow IsPayment) (is_of b) books.payments (held.values.rows Payments))
 
 pub no_month : (days : Option (ℕ × ℕ)) (shop : Shop) (purchases cents : ℕ) → None ≡ option_map seen_days days → [] ≡ rewarded_in days shop purchases cents
 no_month None shop purchases cents none = refl

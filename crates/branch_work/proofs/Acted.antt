@@ -1,5 +1,5 @@
 -- What an accepted act makes of the books, with what was found of the rows that it names, and with the command kept.
-use Rattle.shop_schema.proofs.Common.{◌≡◌, ◌∙◌, refl, sym, ap, subst, ℕ, Bool, [], ◌∷◌, ◌++◌, map, filter, Some, Result, MutBor, is_some, Held, DoesWithin, does_such, Row, of, is_row, Text, Rules, Command, Act, Rental, reply_text, Books, book_acted, book_done, set_last, shop_of, map_at, row_at, found_some, IsHeld}
+use Rattle.shop_schema.proofs.Common.{◌≡◌, ◌∙◌, refl, sym, ap, subst, ℕ, Bool, [], ◌∷◌, ◌++◌, map, filter, Some, Result, MutBor, is_some, Held, DoesWithin, does_such, Row, of, is_row, Text, Rules, Command, Act, Rental, reply_text, Books, book_acted, book_done, set_last, shop_of, map_at, row_at, found_some, IsHeld, Rentals}
 use Rattle.sqlite.specs.Store.{Ghosts}
 use Rattle.shop_model.specs.Values as model
 use Rattle.branch_core.specs.declared.found.RentalFound.{RentalFound}
@@ -23,7 +23,7 @@ pub copy_found : (b r : ℕ) (found : RentalFound) (books : Books) → IsHeld bo
 copy_found b r found books held is =
     let one = found_some (λ (it : Rental). let p : ℕ × ℕ × Bool = (it.customer, it.copy, is_some it.returned) in p) r (of b books.rentals) (seen_rental found) is in
     let copy : one.0.copy ≡ found.copy = ap (λ (p : ℕ × ℕ × Bool). p.1) one.2 in
-    row_at (λ (it : Rental). it.copy) b r books.rentals (held.numbers.rentals b)
+    row_at (λ (it : Rental). it.copy) b r books.rentals (held.numbers.rows Rentals b)
     ∙ sym (map_at (λ (it : Rental). it.copy) r (of b books.rentals))
     ∙ ap (map (λ (it : Rental). it.copy)) one.1
     ∙ ap (λ (m : ℕ). m ∷ []) copy

@@ -1,11 +1,12 @@
 -- What a dispatch and a receipt write, step by step, and with which counts the tables then stand for the books.
-use Rattle.shop_schema.proofs.Common.{◌≡◌, ◌∙◌, refl, sym, ap, subst, ℕ, ◌+◌, ◌<◌, ◌≤◌, Bool, true, false, cond, not, List, [], ◌∷◌, ◌++◌, length, take, map, filter, get_or, Option, Some, None, option_map, arith, append_assoc, append-nil, add-zero, IfSome, map-append, take_more, take_all, length-take-le, State, PicksOne, Row, AreNumbered, arrived, is_of, is_row, mem, next, numbered_from, put_all, set_row, set_rows, Books, BookCopy, Mark, Consignment, between, checked, come, is_consignment, put_state, unpacked, length_map, set_rows_counted, ParcelLine, seen_parcel_line, Pair, add_pair, count_pair, counts_of, raise, AreTermed, Holds, HoldsWith, Writes}
+use Rattle.shop_schema.proofs.Common.{[], inl, inr, suc, cases_Bool, ◌≡◌, ◌∙◌, refl, sym, ap, subst, ℕ, ◌+◌, ◌<◌, ◌≤◌, Bool, not, List, ◌∷◌, ◌++◌, length, take, map, filter, get_or, Option, Some, None, option_map, arith, append-nil, IfSome, map-append, take_more, take_all, length-take-le, State, PicksOne, Row, AreNumbered, arrived, is_of, is_row, mem, next, numbered_from, put_all, set_row, set_rows, Books, BookCopy, Mark, Consignment, between, checked, come, is_consignment, put_state, unpacked, length_map, set_rows_counted, ParcelLine, seen_parcel_line, Pair, add_pair, count_pair, counts_of, raise, AreTermed, Holds, HoldsWith, Writes}
 use Rattle.std.specs.Prelude.{fold, flat_map, option_to_list}
+use Rattle.std.proofs.lemmas.List.Filters.{length-filter_both}
 use Rattle.shop_model.specs.Rows.{update_where}
 use Rattle.shop_model.specs.Values as model
 use Rattle.shop_schema.proofs.Lists.{picks_row}
 use Rattle.shop_ledger.proofs.CountsOf.{agreed}
-use Rattle.shop_ledger.proofs.Agreeing.{copies_counted, state_counted}
+use Rattle.shop_ledger.proofs.Agreeing.{state_counted}
 use Rattle.shop_store.specs.declared.copies.CopyRow.{CopyRow}
 use Rattle.shop_store.specs.Seen.{seen_copy_row}
 use Rattle.consign_store.specs.Parcels.{sent_off}
@@ -13,8 +14,8 @@ use Rattle.consign_store.proofs.PairCounts.{pair_counted}
 use Rattle.branch_core.specs.declared.found.ArrivalFound.{ArrivalFound}
 use Rattle.branch_core.specs.Marked.{line_parts, arrival_parts, consignment_parts, IsArrival}
 use Rattle.branch_core.specs.Consigned.{come_copy, made_from, sent_line, with_dispatch, with_receipt}
-use Rattle.branch_core.proofs.MadeRows.{made_put, made_own, length_made}
-use Rattle.branch_work.proofs.Writings.{with_copies}
+use Rattle.branch_work.proofs.Writings.{with_copies, copies_then}
+use Rattle.branch_work.proofs.CopyLemmas.{made_more, made_counted, made_stand}
 
 -- ---- copies that are set one after another
 
@@ -74,14 +75,6 @@ dispatch_added s b to xs lines n place books next last termed holds =
 
 -- ---- copies that come one after another
 
-makes_more : {A : Type 0} (b n : ℕ) (makes : List (ℕ → A)) (make : ℕ → A) → made_from b n (makes ++ make ∷ []) ≡ made_from b n makes ++ record { branch = b; number = n + length makes; it = make (n + length makes) } ∷ []
-makes_more b n [] make = rw (add-zero n) refl
-makes_more {A} b n (m ∷ makes) make =
-    let row : Row A = record { branch = b; number = n; it = m n } in
-    let further : n + 1 + length makes ≡ n + length (m ∷ makes) = omega arith in
-    ap (λ (rows : List (Row A)). row ∷ rows)
-    (makes_more b (n + 1) makes make ∙ ap (λ (k : ℕ). made_from b (n + 1) makes ++ record { branch = b; number = k; it = make k } ∷ []) further)
-
 -- the rows of lines that came
 abbrev pub come_rows : ℕ → ℕ → List ParcelLine → List (Row BookCopy)
 come_rows b first lines = made_from b first (map come_copy lines)
@@ -96,13 +89,10 @@ one_come b first i lines line row books lt is row_is =
     let many : length (map come_copy done) ≡ i = length_map come_copy done ∙ length-take-le i lines short in
     let taken : take (i + 1) lines ≡ done ++ line ∷ [] = take_more lines i line lt ∙ ap (λ (it : ParcelLine). done ++ it ∷ []) (sym is) in
     let whole : come_rows b first (take (i + 1) lines) ≡ front ++ record { branch = b; number = first + i; it = come_copy line (first + i) } ∷ [] =
-    ap (come_rows b first) taken ∙ ap (made_from b first) (map-append come_copy done (line ∷ [])) ∙ makes_more b first (map come_copy done) (come_copy line)
+    ap (come_rows b first) taken ∙ ap (made_from b first) (map-append come_copy done (line ∷ [])) ∙ made_more b first (map come_copy done) (come_copy line ∷ [])
     ∙ ap (λ (k : ℕ). front ++ record { branch = b; number = first + k; it = come_copy line (first + k) } ∷ []) many in
-    let all : (books.copies ++ front) ++ seen_copy_row row ∷ [] ≡ books.copies ++ come_rows b first (take (i + 1) lines) =
-    append_assoc books.copies front (seen_copy_row row ∷ [])
-    ∙ ap (λ (it : Row BookCopy). books.copies ++ (front ++ it ∷ [])) row_is
-    ∙ ap (λ (rs : List (Row BookCopy)). books.copies ++ rs) (sym whole) in
-    (λ i. record books { copies = all i })
+    copies_then front (seen_copy_row row ∷ []) books
+    ∙ ap (λ (rs : List (Row BookCopy)). with_copies rs books) (ap (λ (it : Row BookCopy). front ++ it ∷ []) row_is ∙ sym whole)
 
 pub all_come : (b first i : ℕ) (lines : List ParcelLine) (books : Books) → length lines ≤ i → with_copies (come_rows b first (take i lines)) books ≡ with_copies (come_rows b first lines) books
 all_come b first i lines books le = ap (λ (ls : List ParcelLine). with_copies (come_rows b first ls) books) (take_all i lines le)
@@ -112,22 +102,17 @@ none_come b first lines books = λ i. record books { copies = append-nil books.c
 
 -- ---- how many lines come
 
-some_pass : {A : Type 0} (missing : List ℕ) (n : ℕ) (xs : List A) → length (filter (λ (it : ℕ × A). not (mem it.0 missing)) (numbered_from n xs)) ≤ length xs
-some_pass missing n [] = omega arith
-some_pass {A} missing n (x ∷ xs) = go (not (mem n missing)) (some_pass missing (n + 1) xs)
-  where
-    rest : List (ℕ × A)
-    rest = filter (λ (it : ℕ × A). not (mem it.0 missing)) (numbered_from (n + 1) xs)
-
-    go : (t : Bool) → length rest ≤ length xs → length (cond t ((n, x) ∷ rest) rest) ≤ length (x ∷ xs)
-    go true few = omega (arith, few)
-    go false few = omega (arith, few)
+pub length_numbered : {A : Type 0} (k : ℕ) (xs : List A) → length (numbered_from k xs) ≡ length xs
+length_numbered k [] = refl
+length_numbered k (x ∷ xs) = ap suc (length_numbered (k + 1) xs)
 
 pub few_arrive : {A : Type 0} (missing : List ℕ) (xs : List A) → length (arrived missing xs) ≤ length xs
 few_arrive {A} missing xs =
-    let same = length_map (λ (it : ℕ × A). it.1) (filter (λ (it : ℕ × A). not (mem it.0 missing)) (numbered_from 1 xs)) in
-    let few = some_pass missing 1 xs in
-    omega (arith, same, few)
+    let came : ℕ × A → Bool = λ it. not (mem it.0 missing) in
+    let same = length_map (λ (it : ℕ × A). it.1) (filter came (numbered_from 1 xs)) in
+    let parts = length-filter_both came (λ it. not (came it)) (λ it. refl) (numbered_from 1 xs) in
+    let all = length_numbered 1 xs in
+    omega (arith, same, parts, all)
 
 -- the one consignment has as many lines as were found
 same_many : (c : Consignment) (it : ArrivalFound) → arrival_parts it ≡ consignment_parts c → length c.lines ≡ length it.lines
@@ -165,13 +150,9 @@ few_come b source n missing found books is few = come_of missing (filter (is_con
 -- consignments that are checked keep their pairs
 pairs_stay : (p : Consignment → Bool) (missing : List ℕ) (pairs : List Pair) (cs : List Consignment) → fold (λ pairs it. count_pair it.source it.addressee pairs) pairs (update_where p (checked missing) cs) ≡ fold (λ pairs it. count_pair it.source it.addressee pairs) pairs cs
 pairs_stay p missing pairs [] = refl
-pairs_stay p missing pairs (c ∷ cs) = go (p c) (pairs_stay p missing (count_pair c.source c.addressee pairs) cs)
-  where
-    go : (t : Bool) → fold (λ pairs it. count_pair it.source it.addressee pairs) (count_pair c.source c.addressee pairs) (update_where p (checked missing) cs) ≡ fold (λ pairs it. count_pair it.source it.addressee pairs) (count_pair c.source c.addressee pairs) cs
-        → fold (λ pairs it. count_pair it.source it.addressee pairs) (count_pair (cond t (checked missing c) c).source (cond t (checked missing c) c).addressee pairs) (update_where p (checked missing) cs)
-        ≡ fold (λ pairs it. count_pair it.source it.addressee pairs) (count_pair c.source c.addressee pairs) cs
-    go true more = more
-    go false more = more
+pairs_stay p missing pairs (c ∷ cs) =
+    let more = pairs_stay p missing (count_pair c.source c.addressee pairs) cs in
+    elim (cases_Bool (p c)) [ inl hit ↦ rw hit more | inr miss ↦ rw miss more ]
 
 -- the books with these copies, and the consignments checked
 abbrev receiving : ℕ → List (ℕ → BookCopy) → (Consignment → Bool) → List ℕ → Books → Books
@@ -183,13 +164,8 @@ receiving b makes p missing books = record books {
 module _ (b : ℕ) (books : Books) (low : 1 ≤ b) where
   pub receiving_counted : (makes : List (ℕ → BookCopy)) (p : Consignment → Bool) (missing : List ℕ) → counts_of (receiving b makes p missing books) ≡ raise b 1 (length makes) (counts_of books)
   receiving_counted makes p missing =
-      let grown : List (Row BookCopy) = made_from b (next b books.copies) makes in
-      let put : Books = record books { copies = put_all b makes books.copies } in
       let same = pairs_stay p missing [] books.consignments in
-      (λ i. record { counters = (counts_of put).counters; outs = (counts_of books).outs; pairs = same i })
-      ∙ sym (ap (λ (rs : List (Row BookCopy)). counts_of (record books { copies = rs })) (made_put b makes books.copies))
-      ∙ copies_counted b grown books.lots books low (made_own b (next b books.copies) makes)
-      ∙ ap (λ (n : ℕ). raise b 1 n (counts_of books)) (length_made b (next b books.copies) makes)
+      (λ i. record { counters = (counts_of (record books { copies = put_all b makes books.copies })).counters; outs = (counts_of books).outs; pairs = same i }) ∙ made_counted b books low makes books.lots
 
   pub receipt_added : (s : State) (source n first m : ℕ) (lines : List ParcelLine) (missing : List ℕ) → first ≡ next b books.copies → m ≡ length (arrived missing lines) → AreTermed books
       → HoldsWith (raise b 1 m (counts_of books)) s (record books { copies = books.copies ++ come_rows b first (arrived missing lines); consignments = update_where (is_consignment source b n) (checked missing) books.consignments })
@@ -199,6 +175,4 @@ module _ (b : ℕ) (books : Books) (low : 1 ≤ b) where
       let received : List Consignment = update_where (is_consignment source b n) (checked missing) books.consignments in
       let count : m ≡ length makes = all ∙ sym (length_map come_copy (arrived missing lines)) in
       agreed s (receiving b makes (is_consignment source b n) missing books) (raise b 1 (length makes) (counts_of books)) (receiving_counted makes (is_consignment source b n) missing) termed
-      (subst (λ (rs : List (Row BookCopy)). HoldsWith (raise b 1 (length makes) (counts_of books)) s (record books { copies = rs; consignments = received })) (made_put b makes books.copies)
-      (subst (λ (k : ℕ). HoldsWith (raise b 1 k (counts_of books)) s (record books { copies = books.copies ++ made_from b (next b books.copies) makes; consignments = received })) count
-      (subst (λ (k : ℕ). HoldsWith (raise b 1 m (counts_of books)) s (record books { copies = books.copies ++ made_from b k makes; consignments = received })) is holds)))
+      (made_stand b books low s first m makes (λ rs. record books { copies = rs; consignments = received }) is count holds)

@@ -1,5 +1,5 @@
 -- With the counts of its new rows, the tables stand for the books that have the rows.
-use Rattle.shop_schema.proofs.Common.{◌≡◌, ◌∙◌, refl, sym, ap, subst, ℕ, ◌≤◌, ◌<◌, ◌^◌, List, [], ◌∷◌, ◌++◌, length, map, None, arith, State, Limits, Row, Owned, of, owned_by, next, put_all, Command, Text, Customer, Rental, Terms, Payment, Rules, Kept, Catalogue, films_in, Books, BookCopy, Customers, CopyRows, Rentals, Payments, edits_of, book_acted, imported, unmarked, length_map, grown, rows_edited, edits_small, catalogue_stays, seen_act, IsHeld, Counts, counts_of, count_in, raise, put_out, AreTermed, Holds, HoldsWith}
+use Rattle.shop_schema.proofs.Common.{[], ◌≡◌, ◌∙◌, refl, sym, subst, ℕ, ◌≤◌, ◌<◌, ◌^◌, List, ◌∷◌, ◌++◌, length, map, None, arith, State, Limits, Row, Owned, of, owned_by, next, put_all, Command, Text, Customer, Rental, Terms, Payment, Rules, Kept, Catalogue, films_in, Books, Customers, CopyRows, Rentals, Payments, edits_of, book_acted, imported, unmarked, length_map, grown, rows_edited, edits_small, catalogue_stays, seen_act, IsHeld, Counts, counts_of, count_in, raise, put_out, AreTermed, Holds, HoldsWith}
 use Rattle.shop_model.specs.Rows.{put}
 use Rattle.shop_model.specs.Values as model
 use Rattle.shop_types.specs.declared.command.Act.{Act}
@@ -10,14 +10,14 @@ use Rattle.shop_ledger.specs.declared.counts.CountKind.{CountKind}
 use Rattle.shop_ledger.specs.declared.counts.CountKind.TheVariants as kind
 use Rattle.shop_ledger.specs.Counted.{kind_number, CountsOnce}
 use Rattle.shop_ledger.proofs.CountsOf.{agreed, small_once}
-use Rattle.shop_ledger.proofs.Agreeing.{kept_counted, customer_row_counted, payment_row_counted, rental_row_counted, copies_counted}
+use Rattle.shop_ledger.proofs.Agreeing.{kept_counted, customer_row_counted, payment_row_counted, rental_row_counted}
 use Rattle.branch_work.specs.Rules.{rules_of}
 use Rattle.branch_core.specs.declared.found.RowsFound.{RowsFound}
 use Rattle.branch_core.specs.Marked.{AreMarked}
 use Rattle.branch_work.specs.Added.{with_kept, copies_from, HasFewLines}
 use Rattle.branch_work.proofs.ConsignLemmas.{few_come}
 use Rattle.branch_work.proofs.Acted.{acted_kept}
-use Rattle.branch_work.proofs.CopyLemmas.{copies_own, copies_put, length_copies}
+use Rattle.branch_work.proofs.CopyLemmas.{made_counted, made_stand}
 use Rattle.branch_work.proofs.TermLemmas.{more_termed}
 
 -- the books with copies of these films, as a lot of that name
@@ -25,15 +25,6 @@ abbrev pub with_import : ℕ → List ℕ → Text → Books → Books
 with_import b films lot books = record books { copies = put_all b (map (imported b) films) books.copies; lots = books.lots ++ record { owner = b; it = lot } ∷ [] }
 
 -- ---- rows with the next numbers
-
-module _ (b : ℕ) (books : Books) (low : 1 ≤ b) where
-  pub import_counted : (films : List ℕ) (lot : Text) → counts_of (with_import b films lot books) ≡ raise b 1 (length films) (counts_of books)
-  import_counted films lot =
-      let lots = books.lots ++ record { owner = b; it = lot } ∷ [] in
-      let grown : List (Row BookCopy) = copies_from b (next b books.copies) films in
-      sym (ap (λ (rs : List (Row BookCopy)). counts_of (record books { copies = rs; lots = lots })) (copies_put b films books.copies))
-      ∙ copies_counted b grown lots books low (copies_own b (next b books.copies) films)
-      ∙ ap (λ (n : ℕ). raise b 1 n (counts_of books)) (length_copies b (next b books.copies) films)
 
 module _ (s : State) (b : ℕ) (books : Books) (low : 1 ≤ b) (termed : AreTermed books) where
   pub customer_added : (n : ℕ) (it : Customer) → n ≡ next b books.customers → HoldsWith (raise b 0 1 (counts_of books)) s (record books { customers = books.customers ++ record { branch = b; number = n; it = it } ∷ [] })
@@ -79,12 +70,9 @@ module _ (s : State) (b : ℕ) (books : Books) (low : 1 ≤ b) (termed : AreTerm
       → Holds s (with_import b films lot books)
   import_added first m films lot is all holds =
       let lots = books.lots ++ record { owner = b; it = lot } ∷ [] in
-      let grown : List (Row BookCopy) = copies_from b (next b books.copies) films in
-      let put : books.copies ++ grown ≡ put_all b (map (imported b) films) books.copies = copies_put b films books.copies in
-      agreed s _ (raise b 1 (length films) (counts_of books)) (import_counted b books low films lot) termed
-      (subst (λ (rs : List (Row BookCopy)). HoldsWith (raise b 1 (length films) (counts_of books)) s (record books { copies = rs; lots = lots })) put
-      (subst (λ (k : ℕ). HoldsWith (raise b 1 k (counts_of books)) s (record books { copies = books.copies ++ grown; lots = lots })) all
-      (subst (λ (n : ℕ). HoldsWith (raise b 1 m (counts_of books)) s (record books { copies = books.copies ++ copies_from b n films; lots = lots })) is holds)))
+      let makes = map (imported b) films in
+      agreed s _ (raise b 1 (length makes) (counts_of books)) (made_counted b books low makes lots) termed
+      (made_stand b books low s first m makes (λ rs. record books { copies = rs; lots = lots }) is (all ∙ sym (length_map (imported b) films)) holds)
 
 -- ---- the command itself
 

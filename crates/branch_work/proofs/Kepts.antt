@@ -1,5 +1,5 @@
 -- What is found under a key, by the stored form of the command and by the command itself.
-use Rattle.shop_schema.proofs.Common.{◌≡◌, ◌∙◌, refl, ap, ℕ, Bool, true, false, List, [], ◌∷◌, map, filter, cond, Option, Some, option_map, AllByRecursion, bytes_eq, bytes_eq-Decides, IsMoment, Owned, owned_by, Command, Kept, same_command, head, command_form, IsKept}
+use Rattle.shop_schema.proofs.Common.{[], inl, inr, cases_Bool, All-map, All-weaker, all-filter, ◌≡◌, ◌∙◌, refl, ap, ℕ, true, List, ◌∷◌, map, filter, Option, Some, option_map, AllByRecursion, bytes_eq, bytes_eq-Decides, IsMoment, Owned, owned_by, Command, Kept, same_command, head, command_form, IsKept}
 use Rattle.std.specs.Prelude.{◌==◌}
 use Rattle.shop_schema.proofs.OneToOne.{forms_are_one_to_one}
 use Rattle.shop_schema.proofs.OfficeOneToOne.{same_truth}
@@ -11,13 +11,9 @@ IsReal kept = IsMoment kept.command.moment
 
 owned_real : (b : ℕ) (rows : List (Owned Kept)) → AllByRecursion IsKept rows → AllByRecursion IsReal (owned_by b rows)
 unfolding IsReal
-owned_real b [] all = tt
-owned_real b (row ∷ rows) all = go (row.owner == b) (owned_real b rows all.1)
-  where
-    go : (t : Bool) → AllByRecursion (λ (k : Kept). IsMoment k.command.moment) (map (λ (r : Owned Kept). r.it) (filter (λ r. r.owner == b) rows))
-        → AllByRecursion (λ (k : Kept). IsMoment k.command.moment) (map (λ (r : Owned Kept). r.it) (cond t (row ∷ filter (λ r. r.owner == b) rows) (filter (λ r. r.owner == b) rows)))
-    go true more = (all.0.1.moment, more)
-    go false more = more
+owned_real b rows all =
+    All-map IsReal (λ (row : Owned Kept). row.it) (filter (λ row. row.owner == b) rows)
+    (all-filter (λ (row : Owned Kept). IsReal row.it) (λ row. row.owner == b) rows (All-weaker IsKept (λ (row : Owned Kept). IsReal row.it) (λ row such. such.1.moment) rows all))
 
 -- under one key, the stored forms are the same exactly where the commands are
 one_told : (command : Command) (form : List ℕ) (kept : Kept) → form ≡ command_form command → IsMoment command.moment → IsReal kept → bytes_eq kept.command.key command.key ≡ true
@@ -34,15 +30,10 @@ first_told : (command : Command) (form : List ℕ) (kepts : List Kept) → form 
     → option_map (by_form form) (head (map stored_kept (filter (λ (k : Kept). bytes_eq k.command.key command.key) kepts)))
     ≡ head (map (kept_for command) (filter (λ (k : Kept). bytes_eq k.command.key command.key) kepts))
 first_told command form [] is real all = refl
-first_told command form (kept ∷ kepts) is real all = go (bytes_eq kept.command.key command.key) refl (first_told command form kepts is real all.1)
-  where
-    under : List Kept
-    under = filter (λ (k : Kept). bytes_eq k.command.key command.key) kepts
-
-    go : (t : Bool) → bytes_eq kept.command.key command.key ≡ t → option_map (by_form form) (head (map stored_kept under)) ≡ head (map (kept_for command) under)
-        → option_map (by_form form) (head (map stored_kept (cond t (kept ∷ under) under))) ≡ head (map (kept_for command) (cond t (kept ∷ under) under))
-    go true key more = ap Some (one_told command form kept is real all.0 key)
-    go false key more = more
+first_told command form (kept ∷ kepts) is real all = elim (cases_Bool (bytes_eq kept.command.key command.key)) [
+  | inl key ↦ rw key (ap Some (one_told command form kept is real all.0 key))
+  | inr other ↦ rw other (first_told command form kepts is real all.1)
+]
 
 pub kept_told : (b : ℕ) (command : Command) (form : List ℕ) (found : Option (List ℕ × List ℕ)) (rows : List (Owned Kept)) → form ≡ command_form command → IsMoment command.moment → AllByRecursion IsKept rows
     → found ≡ head (map stored_kept (filter (λ (k : Kept). bytes_eq k.command.key command.key) (owned_by b rows)))

@@ -1,5 +1,5 @@
 -- What an accepted act makes of the books, and what is replied of it.
-use Rattle.std.specs.Prelude.{◌≡◌, ⊤, ℕ, ◌+◌, ◌≤◌, List, [], ◌∷◌, ◌++◌, length, IfSome}
+use Rattle.std.specs.Prelude.{◌≡◌, ⊤, ℕ, ◌≤◌, List, ◌∷◌, ◌++◌, length, map, IfSome, []}
 use Rattle.sqlite.specs.State.{State}
 use Rattle.shop_model.specs.Json.{object}
 use Rattle.shop_model.specs.Rows.{Row}
@@ -12,11 +12,11 @@ use Rattle.shop_schema.specs.Shop.{Holds}
 use Rattle.branch_core.specs.declared.found.RowsFound.{RowsFound}
 use Rattle.branch_core.specs.Agreed.{ActAgrees}
 use Rattle.branch_core.specs.Marked.{AreMarked}
+use Rattle.branch_core.specs.Consigned.{made_from}
 
 -- imported copies of these films, with numbers from the first on
 abbrev pub copies_from : ℕ → ℕ → List ℕ → List (Row BookCopy)
-copies_from b first [] = []
-copies_from b first (film ∷ films) = record { branch = b; number = first; it = imported b film first } ∷ copies_from b (first + 1) films
+copies_from b first films = made_from b first (map (imported b) films)
 
 -- a consignment that is received has 100 lines at most
 abbrev pub HasFewLines : Act → RowsFound → Type 0

@@ -4,7 +4,7 @@
 ghost use Rattle.std.specs.Prelude.{◌≡◌, ⊤, true, string_bytes, IfOk};
 ghost use Rattle.sql_rows.specs.Calls.{DoesWithin};
 ghost use Rattle.shop_model.specs.Values as model;
-ghost use Rattle.shop_types.specs.Seen.{seen_act, seen_command, seen_person};
+ghost use Rattle.shop_types.specs.Seen.{seen_act, seen_command, seen_customer, seen_new_customer};
 ghost use Rattle.shop_schema.specs.Forms.{command_form};
 ghost use Rattle.branch_work.specs.Acts.{Acts, ActsAlways, ActsBy, Keeps, Takes};
 
@@ -17,8 +17,8 @@ use shop_store::{
     set_active, set_returned, set_state,
 };
 use shop_types::{
-    Act, Amount, BranchNo, Command, CopyNo, CopyState, Customer, CustomerNo, Moment, Payment,
-    Person, Rental, RentalNo, RowNumber,
+    Act, Amount, BranchNo, Command, CopyNo, CopyState, Customer, CustomerNo, Moment, NewCustomer,
+    Payment, Rental, RentalNo, RowNumber,
 };
 use shop_views::{
     active_text, new_customer_text, payment_text, rental_text, returned_text, scrapped_text,
@@ -39,7 +39,7 @@ pub fn carry_out<S: Alter>(
         (λ text. ActsBy branch (seen_command command.now) (seen_act command.now.act) found.now (string_bytes text)) }
 {
     match &command.act {
-        Act::Customer(person) => add_customer(alloc, tx, branch, command, person),
+        Act::Customer(it) => add_customer(alloc, tx, branch, command, it),
         Act::Active { customer, active } => put_active(alloc, tx, branch, *customer, *active),
         Act::Rent { customer, copy } => {
             add_rental(alloc, tx, branch, command, *customer, *copy, found.copy)
@@ -101,11 +101,11 @@ fn next_number<const KIND: u8, S: Alter>(
 }
 
 /// The customer that a command of that moment adds, who is active.
-fn new_customer(person: &Person, at: Moment) -> Result<Customer, AllocError>
-    ensures { IfOk result (λ customer. customer ≡ record { person = person.now; active = true; created = at }) }
+fn new_customer(it: &NewCustomer, at: Moment) -> Result<Customer, AllocError>
+    ensures { IfOk result (λ customer. seen_customer customer ≡ model.new_customer at (seen_new_customer it.now)) }
 {
     Ok(Customer {
-        person: person.clone()?,
+        person: it.person.clone()?,
         active: true,
         created: at,
     })
@@ -116,13 +116,13 @@ fn add_customer<S: Alter>(
     tx: &mut Transaction<'_, S>,
     branch: BranchNo,
     command: &Command,
-    person: &Person,
+    it: &NewCustomer,
 ) -> Result<String, StoreFault>
     ensures { DoesWithin S.Store tx.old.conn tx.new.conn result
-        (λ text. Acts branch (seen_command command.now) (model.AddCustomer (seen_person person.now)) (λ _. ⊤)
+        (λ text. Acts branch (seen_command command.now) (model.AddCustomer (seen_new_customer it.now)) (λ _. ⊤)
         (string_bytes text)) }
 {
-    let customer = new_customer(person, command.at)?;
+    let customer = new_customer(it, command.at)?;
     let number = next_number(tx, branch, CountKind::Customers)?;
     let row = CustomerRow {
         branch,

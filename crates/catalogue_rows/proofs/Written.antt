@@ -7,7 +7,8 @@ use Rattle.shop_ledger.proofs.CountsOf.{beside}
 use Rattle.shop_ledger.proofs.OfficeCounts.{lacks_next, kept_stays, none_of}
 use Rattle.shop_views.specs.Bodies.{office_members}
 use Rattle.catalogue_rows.specs.Added.{with_act, with_counts, with_kept, IsActed, IsNumbered}
-use Rattle.catalogue_rows.proofs.Numbers.{then_does, numbered_as, IsNext}
+use Rattle.sql_rows.proofs.Chaining.{then_does}
+use Rattle.catalogue_rows.proofs.Numbers.{numbered_as, IsNext}
 
 -- ---- a branch that isn't there has no last moment
 

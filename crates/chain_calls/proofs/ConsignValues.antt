@@ -1,12 +1,14 @@
 -- The rows of consignments stay such as the program can hold, where one is sent off and where one is received; and what is replied of them is a text.
-use Rattle.shop_schema.proofs.Common.{◌≡◌, ◌≤◌, ◌<◌, ◌+◌, ◌*◌, ◌^◌, ◌==◌, ◌&&◌, ℕ, zero, suc, List, [], ◌∷◌, ◌++◌, map, filter, not, cond, length, Bool, true, false, inl, inr, refl, ap, subst, ◌∙◌, arith, codes, decimal, IsUtf8, IsAscii, length-append, nat_le, nat_lt, if◌then◌else◌, AllByRecursion, flat_map, list_all, and_parts, cases_Bool, leb-true, ltb-true, nat_tests, IsAscii-decimal, IsUtf8-from_ascii, IsAscii-append, IsAscii-nil, IsAscii-cons, All-append, All-map, All-push, All-weaker, all-filter, comma_if, items_text, numbers_text, object, Row, arrived, mem, numbered_from, of, is_row, next, put_all, set_row, set_rows, total, Act, Command, Rules, arrival, Shop, here, incoming, numbers_from, parcels_to, Books, BookCopy, Line, Consignment, as_parcel, between, book_acted, book_done, checked, checked_line, come, is_consignment, new_consignment, put_state, rows_at, shop_of, under_way, unmarked, unpacked, is_parcel, IsSound, one, differ_if, differ_test, length_map, put_all_own, put_own, same_if, same_test, IsHeld, IsNumber, IsRow, IsCopy, IsLine, IsConsignment, IsAct, IsCommand, AreValues, FitsTables}
+use Rattle.shop_schema.proofs.Common.{◌≡◌, ◌≤◌, ◌<◌, ◌+◌, ◌*◌, ◌^◌, ◌==◌, ◌&&◌, ℕ, zero, suc, List, [], ◌∷◌, ◌++◌, map, filter, not, cond, length, Bool, true, false, inl, inr, refl, ap, subst, ◌∙◌, arith, codes, decimal, IsUtf8, IsAscii, length-append, nat_le, nat_lt, if◌then◌else◌, AllByRecursion, flat_map, list_all, and_parts, cases_Bool, leb-true, nat_tests, IsAscii-decimal, IsUtf8-from_ascii, IsAscii-append, IsAscii-nil, IsAscii-cons, All-append, All-map, All-push, All-weaker, all-filter, comma_if, items_text, numbers_text, object, Row, arrived, mem, numbered_from, of, is_row, next, put_all, set_row, set_rows, total, Act, Command, Rules, arrival, Shop, here, incoming, numbers_from, parcels_to, Books, BookCopy, Line, Consignment, as_parcel, between, book_acted, book_done, checked, checked_line, come, is_consignment, new_consignment, put_state, rows_at, shop_of, under_way, unmarked, unpacked, is_parcel, IsSound, one, length_map, put_all_own, put_own, same_test, IsHeld, IsNumber, IsRow, IsCopy, IsLine, IsConsignment, IsAct, IsCommand, AreValues, FitsTables, by_table, AreRowValues, CopyRows}
+use Rattle.std.proofs.lemmas.List.Filters.{length-filter_both}
+use Rattle.sqlite_keyed.proofs.ListLemmas.{all-flat_map, filter-filter}
 use Rattle.shop_model.specs.Json.{escape_byte}
 use Rattle.shop_model.specs.Rows.{put, update_where}
-use Rattle.shop_model.specs.Values as model
 use Rattle.shop_model.specs.Machine.{told}
 use Rattle.shop_model.proofs.ShopLemmas.{acted_own}
 use Rattle.shop_schema.proofs.Values.{IfConsigns, ascii_bytes, number_fits, small, values_done}
 use Rattle.chain_calls.specs.Chains.{widest_rules}
+use Rattle.shop_model.specs.Values as model
 
 -- ---- rows that are changed
 
@@ -34,30 +36,20 @@ sent_lines b xs rows all =
 
 -- ---- lines that came
 
-arrived_lines : (missing : List ℕ) (k : ℕ) (ls : List Line) → AllByRecursion IsLine ls
-    → AllByRecursion IsLine (map (λ (it : ℕ × Line). it.1) (filter (λ (it : ℕ × Line). not (mem it.0 missing)) (numbered_from k ls)))
-arrived_lines missing k [] all = tt
-arrived_lines missing k (l ∷ ls) all = by (not (mem k missing)) (arrived_lines missing (k + 1) ls all.1)
-  where
-    rest : List (ℕ × Line)
-    rest = filter (λ (it : ℕ × Line). not (mem it.0 missing)) (numbered_from (k + 1) ls)
+each_numbered : {A : Type 0} (P : A → Type 0) (k : ℕ) (xs : List A) → AllByRecursion P xs → AllByRecursion (λ (it : ℕ × A). P it.1) (numbered_from k xs)
+each_numbered P k [] all = tt
+each_numbered P k (x ∷ xs) all = (all.0, each_numbered P (k + 1) xs all.1)
 
-    by : (came : Bool) → AllByRecursion IsLine (map (λ (it : ℕ × Line). it.1) rest) → AllByRecursion IsLine (map (λ (it : ℕ × Line). it.1) (cond came ((k, l) ∷ rest) rest))
-    by true more = (all.0, more)
-    by false more = more
+arrived_lines : (missing : List ℕ) (ls : List Line) → AllByRecursion IsLine ls → AllByRecursion IsLine (arrived missing ls)
+arrived_lines missing ls all =
+    let came : ℕ × Line → Bool = λ it. not (mem it.0 missing) in
+    All-map IsLine (λ (it : ℕ × Line). it.1) (filter came (numbered_from 1 ls)) (all-filter (λ (it : ℕ × Line). IsLine it.1) came (numbered_from 1 ls) (each_numbered IsLine 1 ls all))
 
 come_lines : (missing : List ℕ) (p : Consignment → Bool) (cs : List Consignment) → AllByRecursion IsConsignment cs
     → AllByRecursion IsLine (flat_map (λ (it : Consignment). arrived missing it.lines) (filter p cs))
-come_lines missing p [] all = tt
-come_lines missing p (c ∷ cs) all = by (p c) (come_lines missing p cs all.1)
-  where
-    rest : List Consignment
-    rest = filter p cs
-
-    by : (is : Bool) → AllByRecursion IsLine (flat_map (λ (it : Consignment). arrived missing it.lines) rest)
-        → AllByRecursion IsLine (flat_map (λ (it : Consignment). arrived missing it.lines) (cond is (c ∷ rest) rest))
-    by true more = All-append IsLine (arrived missing c.lines) (flat_map (λ (it : Consignment). arrived missing it.lines) rest) (arrived_lines missing 1 c.lines all.0.lines) more
-    by false more = more
+come_lines missing p cs all =
+    all-flat_map IsLine (λ (it : Consignment). arrived missing it.lines) (filter p cs)
+    (All-weaker IsConsignment (λ (it : Consignment). AllByRecursion IsLine (arrived missing it.lines)) (λ it such. arrived_lines missing it.lines such.lines) (filter p cs) (all-filter IsConsignment p cs all))
 
 checked_lines : (missing : List ℕ) (k : ℕ) (ls : List Line) → AllByRecursion IsLine ls → AllByRecursion IsLine (map (checked_line missing) (numbered_from k ls))
 checked_lines missing k [] all = tt
@@ -80,34 +72,15 @@ unpacked_rows b (l ∷ ls) rows branch lines few all =
 
 -- ---- how many consignments there are
 
-lt_true : (s n : ℕ) → s < n → nat_lt s n ≡ true
-lt_true s n lt = grind (arith, nat_tests)
-
-lt_false : (s n : ℕ) → n ≤ s → nat_lt s n ≡ false
-lt_false s n ge = grind (arith, nat_tests)
-
-lt_isnt : (s n : ℕ) → nat_lt s n ≡ false → n ≤ s
-lt_isnt s n isnt = grind (arith, nat_tests)
-
 number_low : (n : ℕ) → IsNumber n → n < 4_294_967_296
 number_low n is = grind (arith, nat_tests)
 
 below : (s n : ℕ) → one (nat_lt s (suc n)) ≡ one (nat_lt s n) + one (s == n)
-below s n = elim (cases_Bool (nat_lt s n)) [
-  | inl low ↦
-      let lt = ltb-true s n low in
-      rw (low, lt_true s (suc n) (omega (arith, lt)), differ_test s n (λ e. omega (arith, e, lt))) refl
-  | inr high ↦
-      let ge = lt_isnt s n high in
-      elim (cases_Bool (s == n)) [
-        | inl is ↦ let e = same_if s n is in rw (high, is, lt_true s (suc n) (omega (arith, e))) refl
-        | inr isnt ↦ let d = differ_if s n isnt in rw (high, isnt, lt_false s (suc n) (omega (arith, ge, d))) refl
-      ]
-]
+below s n = grind (arith, nat_tests)
 
 below_none : (cs : List Consignment) → total (λ (it : Consignment). one (nat_lt it.source 0)) cs ≡ 0
 below_none [] = refl
-below_none (c ∷ cs) = let more = below_none cs in rw (lt_false c.source 0 (omega arith)) (omega (arith, more))
+below_none (c ∷ cs) = let more = below_none cs in grind (arith, nat_tests)
 
 below_more : (n : ℕ) (cs : List Consignment) → total (λ (it : Consignment). one (nat_lt it.source (suc n))) cs ≡ total (λ (it : Consignment). one (nat_lt it.source n)) cs + total (λ (it : Consignment). one (it.source == n)) cs
 below_more n [] = refl
@@ -115,7 +88,7 @@ below_more n (c ∷ cs) = let first = below c.source n in let more = below_more 
 
 below_all : (cs : List Consignment) → AllByRecursion IsConsignment cs → total (λ (it : Consignment). one (nat_lt it.source 4_294_967_296)) cs ≡ length cs
 below_all [] all = refl
-below_all (c ∷ cs) all = let more = below_all cs all.1 in rw (lt_true c.source 4_294_967_296 (number_low c.source all.0.source)) (omega (arith, more))
+below_all (c ∷ cs) all = let more = below_all cs all.1 in let low = number_low c.source all.0.source in grind (arith, nat_tests)
 
 below_few : (cs : List Consignment) → ((b : ℕ) → total (λ (it : Consignment). one (it.source == b)) cs ≤ 1_000_000) → (n : ℕ) → total (λ (it : Consignment). one (nat_lt it.source n)) cs ≤ n * 1_000_000
 below_few cs few zero = let none = below_none cs in omega (arith, none)
@@ -127,29 +100,16 @@ below_few cs few (suc n) =
 
 counted : {A : Type 0} (p : A → Bool) (xs : List A) → total (λ x. one (p x)) xs ≡ length (filter p xs)
 counted p [] = refl
-counted p (x ∷ xs) = by (p x) (counted p xs)
-  where
-    by : (hit : Bool) → total (λ x. one (p x)) xs ≡ length (filter p xs) → one hit + total (λ x. one (p x)) xs ≡ length (cond hit (x ∷ filter p xs) (filter p xs))
-    by true more = omega (arith, more)
-    by false more = omega (arith, more)
+counted p (x ∷ xs) = let more = counted p xs in elim (cases_Bool (p x)) [ inl hit ↦ rw hit (omega (arith, more)) | inr miss ↦ rw miss (omega (arith, more)) ]
 
 filter_few : {A : Type 0} (p : A → Bool) (xs : List A) → length (filter p xs) ≤ length xs
-filter_few p [] = omega arith
-filter_few p (x ∷ xs) = by (p x) (filter_few p xs)
-  where
-    by : (hit : Bool) → length (filter p xs) ≤ length xs → length (cond hit (x ∷ filter p xs) (filter p xs)) ≤ suc (length xs)
-    by true more = omega (arith, more)
-    by false more = omega (arith, more)
+filter_few p xs = let parts = length-filter_both p (λ x. not (p x)) (λ x. refl) xs in omega (arith, parts)
 
 both_few : {A : Type 0} (p q : A → Bool) (xs : List A) → length (filter (λ x. p x && q x) xs) ≤ length (filter p xs)
-both_few p q [] = omega arith
-both_few p q (x ∷ xs) = by (p x) (q x) (both_few p q xs)
-  where
-    by : (a b : Bool) → length (filter (λ x. p x && q x) xs) ≤ length (filter p xs)
-        → length (cond (a && b) (x ∷ filter (λ x. p x && q x) xs) (filter (λ x. p x && q x) xs)) ≤ length (cond a (x ∷ filter p xs) (filter p xs))
-    by true true more = omega (arith, more)
-    by true false more = omega (arith, more)
-    by false b more = more
+both_few p q xs =
+    let same = ap length (filter-filter (λ x. p x && q x) p (λ x both. (and_parts (p x) (q x) both).0) xs) in
+    let few = filter_few (λ x. p x && q x) (filter p xs) in
+    omega (arith, same, few)
 
 -- where each parcel of a branch is one, the last consignment has few lines
 last_few : (b : ℕ) (cs : List Consignment) (c : Consignment) → (c.source == b) ≡ true
@@ -233,15 +193,11 @@ module _ (rules : Rules) (b : ℕ) (command : Command) (books : Books) (branch :
         number = number_fits (length (between b to books.consignments) + 1) (omega arith) (omega (arith, own, few));
         place = (omega arith, omega (arith, all));
         few = omega (arith, lines);
-        lines = sent_lines b xs books.copies v.copies;
+        lines = sent_lines b xs books.copies (v.rows CopyRows);
       } in
       record {
         catalogue = v.catalogue;
-        customers = v.customers;
-        copies = sent_rows b xs books.copies v.copies;
-        rentals = v.rentals;
-        terms = v.terms;
-        payments = v.payments;
+        rows = by_table AreRowValues CopyRows _ books (sent_rows b xs books.copies (v.rows CopyRows)) v.rows;
         lots = v.lots;
         consignments = All-push IsConsignment books.consignments (new_consignment b to xs books) v.consignments sent;
         kept = v.kept;
@@ -269,11 +225,9 @@ module _ (rules : Rules) (b : ℕ) (command : Command) (books : Books) (branch :
         let fit : length (of b books.copies) + length lines ≤ 1_001_000 = omega (arith, few, whole, parts, were, come) in
         record {
           catalogue = v.catalogue;
-          customers = v.customers;
-          copies = unpacked_rows b lines books.copies branch (come_lines missing (is_consignment source b number) books.consignments v.consignments) fit v.copies;
-          rentals = v.rentals;
-          terms = v.terms;
-          payments = v.payments;
+          rows = by_table AreRowValues CopyRows _ books
+              (unpacked_rows b lines books.copies branch (come_lines missing (is_consignment source b number) books.consignments v.consignments) fit (v.rows CopyRows))
+              v.rows;
           lots = v.lots;
           consignments = updated IsConsignment (is_consignment source b number) (checked missing)
               (λ it such. record { source = such.source; addressee = such.addressee; number = such.number; place = such.place; few = few_checked missing 1 it.lines such.few; lines = checked_lines missing 1 it.lines such.lines }) books.consignments v.consignments;

@@ -1,5 +1,5 @@
 -- The one row of a table `chain` that tells version 1: a token stands in it, since the tables obey their schema.
-use Rattle.shop_schema.proofs.Common.{◌≡◌, ◌&&◌, ◌==◌, pos, List, [], ◌∷◌, map, Bool, true, false, refl, ap, subst, inl, inr, IsPermutation, AllByRecursion, cases_Bool, false≢true, IsPermutation-refl, column, Trees, HasRows, columns_of, number_value, Text, same_if, first_version, versioned_columns, version_1_schema, chain_table, version_of, version_told}
+use Rattle.shop_schema.proofs.Common.{and_parts, ◌≡◌, ◌&&◌, ◌==◌, pos, List, [], ◌∷◌, map, Bool, true, false, refl, ap, subst, inl, inr, IsPermutation, AllByRecursion, cases_Bool, false≢true, IsPermutation-refl, column, Trees, HasRows, columns_of, number_value, Text, same_if, first_version, versioned_columns, version_1_schema, chain_table, version_of, version_told}
 use Rattle.shop_schema.specs.declared.known.KnownVersion.TheVariants.{This, First, Other}
 use Rattle.std.specs.Prelude.{negsuc}
 use Rattle.sqlite_value.specs.declared.value.Value.{Value}
@@ -8,38 +8,26 @@ use Rattle.sqlite_value.specs.Order.{Row}
 use Rattle.sqlite_schema.specs.declared.schema.Constraint.TheVariants.{Datatype, NotNull}
 use Rattle.sqlite_schema.specs.Rules.{passes, Obeys}
 use Rattle.shop_migration.specs.Migrating.{Tells}
-use Rattle.shop_schema.specs.declared.known.KnownVersion.TheVariants.{Missing}
 
 no_and : (a : Bool) → (a && false) ≡ true → ⊥
-no_and true h = false≢true h
-no_and false h = false≢true h
+no_and a h = false≢true (and_parts a false h).1
 
 no_both : (a c : Bool) → ((a && false) && c) ≡ true → ⊥
-no_both true c h = false≢true h
-no_both false c h = false≢true h
-
-missing : Missing ≡ First → ⊥
-missing h = cc
-
-other : Other ≡ First → ⊥
-other h = cc
-
-this : This ≡ First → ⊥
-this h = cc
+no_both a c h = no_and a (and_parts (a && false) c h).0
 
 told_first : (v : Value) → version_told v ≡ First → v ≡ number_value first_version
-told_first value.Null h = absurd (other h)
+told_first value.Null h = cc
 told_first (value.Int (pos n)) h = elim (cases_Bool (n == 2)) [
-  | inl is ↦ absurd (this (rw is at h))
+  | inl is ↦ let no : This ≡ First = rw is at h in cc
   | inr isnt ↦ elim (cases_Bool (n == 1)) [
     | inl is ↦ ap number_value (same_if n 1 is)
-    | inr neither ↦ absurd (other (rw (isnt, neither) at h))
+    | inr neither ↦ let no : Other ≡ First = rw (isnt, neither) at h in cc
   ]
 ]
-told_first (value.Int (negsuc n)) h = absurd (other h)
-told_first (value.Real x) h = absurd (other h)
-told_first (value.Text t) h = absurd (other h)
-told_first (value.Blob b) h = absurd (other h)
+told_first (value.Int (negsuc n)) h = cc
+told_first (value.Real x) h = cc
+told_first (value.Text t) h = cc
+told_first (value.Blob b) h = cc
 
 module _ (db : Trees) where
   abbrev IsTyped : Row → Type 0
@@ -60,8 +48,8 @@ module _ (db : Trees) where
 
   row_told : (tree : List Row) → AllByRecursion IsTyped tree → AllByRecursion IsThere tree → version_of (map (columns_of 1) tree) ≡ First
       → (token : Text) × HasRows 2 tree (versioned_columns first_version token ∷ [])
-  row_told [] typed there told = absurd (missing told)
-  row_told (row ∷ other ∷ more) typed there told = absurd (missing told)
+  row_told [] typed there told = cc
+  row_told (row ∷ other ∷ more) typed there told = cc
   row_told (row ∷ []) typed there told =
       let version = told_first (column row 1) told in
       let token = text_there row typed.0 there.0 in

@@ -1,5 +1,4 @@
 pub mod Failures
-pub mod Calling
 pub mod ConsignValues
 pub mod Standing
 pub mod Asking

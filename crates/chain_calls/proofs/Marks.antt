@@ -1,5 +1,5 @@
 -- Which marks were made, by the copies of the branches that imported them, and how many places each has.
-use Rattle.shop_schema.proofs.Common.{◌≡◌, ◌∙◌, ◌+◌, ◌-◌, ◌≤◌, ◌==◌, ◌&&◌, ℕ, Bool, true, false, List, [], ◌∷◌, map, filter, inl, inr, refl, sym, ap, arith, nat_lt, cases_Bool, Row, at, of, is_of, IsCounted, total, Books, BookCopy, Mark, HasNumbers, HasCustody, one, is_mark, rows_made, made, same_if, differ_if, apart_weight, low_none, made_once}
+use Rattle.shop_schema.proofs.Common.{◌≡◌, ◌∙◌, ◌+◌, ◌-◌, ◌≤◌, ◌==◌, ◌&&◌, ℕ, Bool, true, false, List, [], ◌∷◌, map, filter, inl, inr, refl, sym, ap, arith, nat_lt, cases_Bool, Row, at, of, is_of, IsCounted, total, Books, BookCopy, Mark, HasNumbers, HasCustody, one, is_mark, rows_made, made, same_if, differ_if, apart_weight, low_none, made_once, CopyRows}
 use Rattle.consign_store.specs.Custody.{HasOnePlace}
 use Rattle.consign_store.proofs.Custody.{one_place}
 
@@ -7,7 +7,7 @@ use Rattle.consign_store.proofs.Custody.{one_place}
 pub held_once : (mark : Mark) (books : Books) → HasNumbers books → HasCustody books → HasOnePlace mark books
 held_once mark books numbers custody =
     let places = custody (is_mark mark) in
-    let once = made_once mark 1 books.copies (numbers.copies mark.branch) in
+    let once = made_once mark 1 books.copies (numbers.rows CopyRows mark.branch) in
     one_place mark books (omega (arith, places, once))
 
 -- ---- the row of an import
@@ -55,10 +55,10 @@ made_at : (mark : Mark) (books : Books) → HasNumbers books → made (is_mark m
 made_at mark books numbers = elim (cases_Bool (mark.copy == 0)) [
   | inl zero ↦
       let e : mark.copy ≡ 0 = same_if mark.copy 0 zero in
-      low_none mark 1 books.copies (numbers.copies mark.branch) (omega (arith, e))
+      low_none mark 1 books.copies (numbers.rows CopyRows mark.branch) (omega (arith, e))
       ∙ sym (ap (λ (n : ℕ). total (λ (it : BookCopy). one (is_mark mark it.mark)) (at n (of mark.branch books.copies))) e
       ∙ ap (total (λ (it : BookCopy). one (is_mark mark it.mark))) (at_none (of mark.branch books.copies)))
-  | inr some ↦ let d = differ_if mark.copy 0 some in made_from mark 1 mark.copy books.copies (numbers.copies mark.branch) (omega arith) (omega (arith, d))
+  | inr some ↦ let d = differ_if mark.copy 0 some in made_from mark 1 mark.copy books.copies (numbers.rows CopyRows mark.branch) (omega arith) (omega (arith, d))
 ]
 
 -- whether a mark was made, by what was found of its number: a copy with that mark, one that came from another branch, or none

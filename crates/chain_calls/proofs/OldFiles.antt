@@ -64,13 +64,10 @@ module _ {D : Type 0} {g : Ghosts D} (c : Held (FileStore D g)) (files : Files D
   has_version_1 first = (opened_state.committed.trees, held_of_first first.0, first_database first, told_committed first)
 
   pub holds_version_1_damage : IsFirst opened_state → IsUnsoundVersion1 opened_state → HoldsVersion1Damage (image_of g files)
-  holds_version_1_damage first unsound = (
-    opened_state.committed.trees,
-    held_of_first first.0,
-    first_database first,
-    told_committed first,
-    λ books sound. unsound.1 (is_version_1 first.0) books (subst (λ (t : Trees). StandsSoundlyForVersion1 t books) (sym same) sound),
-  )
+  unfolding has_version_1
+  holds_version_1_damage first unsound =
+      let it = has_version_1 first in
+      (it.0, it.1, it.2, it.3, λ books sound. unsound.1 (is_version_1 first.0) books (subst (λ (t : Trees). StandsSoundlyForVersion1 t books) (sym same) sound))
 
   pub tells_first : IsFirst opened_state → (token : Text) × Tells first_version token opened_state.now.trees
   tells_first first =

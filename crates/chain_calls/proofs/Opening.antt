@@ -1,7 +1,7 @@
 -- What an open of files finds, and what files hold after the store is closed.
 use Rattle.std.proofs.Common.{◌⊎◌}
 use Rattle.std.specs.Prelude.{◌==◌}
-use Rattle.shop_schema.proofs.Common.{◌≡◌, ◌≢◌, ◌∙◌, inl, inr, refl, sym, ap, subst, true, false, IsTrue, arith, map, take, ℕ, List, [], ◌∷◌, pos, negsuc, AllZip, cases_Bool, length_permutation, ∥∥₁_elim, ∥∥₁_map, column, Value, Null, Int, Real, Blob, Trees, IsClean, Trees-set, no_doubt, AreListed, IsTableRow, IsIndexRow, IsViewRow, Database, State, HasCleanDisk, Survives, Held, AreDatabases, HoldsDatabase, Finds, IsOpened, IsEmpty, over_files, file_state, image_of, one_permutation, opens_again, no_schema, columns_of, HasRows, number_value, opened_keyed, one_schema, Books, IsSound, AreValues, shop_schema, HasVersion, StandsFor, this_version, first_version, versioned_columns, Schema, version_of, version_told, HoldsOne, IsHeldIn, IsFoundIn, OpenFailed}
+use Rattle.shop_schema.proofs.Common.{[], ◌≡◌, ◌≢◌, ◌∙◌, inl, inr, refl, sym, ap, subst, true, false, IsTrue, arith, map, take, ℕ, List, ◌∷◌, pos, negsuc, AllZip, cases_Bool, length_permutation, ∥∥₁_elim, ∥∥₁_map, column, Value, Null, Int, Real, Blob, Trees, IsClean, Trees-set, no_doubt, AreListed, IsTableRow, IsIndexRow, IsViewRow, Database, State, HasCleanDisk, Survives, Held, AreDatabases, HoldsDatabase, Finds, IsOpened, IsEmpty, over_files, file_state, image_of, one_permutation, opens_again, no_schema, columns_of, HasRows, number_value, opened_keyed, one_schema, Books, IsSound, AreValues, shop_schema, HasVersion, StandsFor, this_version, first_version, versioned_columns, Schema, version_of, version_told, HoldsOne, IsHeldIn, IsFoundIn, OpenFailed}
 use Rattle.shop_schema.specs.declared.known.KnownVersion.{KnownVersion}
 use Rattle.shop_schema.specs.declared.known.KnownVersion.TheVariants.{This, First, Other}
 use mathlib.Core.HLevel.{⊥_prop}
@@ -197,15 +197,6 @@ module _ {D : Type 0} {g : Ghosts D} (c : Held (FileStore D g)) (files : Files D
   pub holds_sound : opened_state.now.schema ≡ shop_schema → (books : Books) → StandsFor opened_state.now.trees books → HoldsSoundly (image_of g files) books
   holds_sound schema books stands = (opened_state.committed.trees, held_of_shop schema, subst (λ (t : Trees). StandsFor t books) same_trees stands)
 
-  pub holds_damage : Knows This opened_state → ¬ StandsSoundly opened_state.now.trees → HoldsDamage (image_of g files)
-  holds_damage it none = (
-    opened_state.committed.trees,
-    held_of_shop it.0,
-    subst (λ (schema : Schema). IsDatabaseOf schema opened_state.committed.trees) it.0 committed_database,
-    subst (λ (t : Trees). version_of (map (columns_of 1) (t 0)) ≡ This) same_trees it.1,
-    λ sound. none (subst StandsSoundly (sym same_trees) sound),
-  )
-
   pub is_database : (db : Trees) → HoldsDatabase (image_of g files) db → IsDatabaseOf opened_state.now.schema db
   is_database db held = subst (IsDatabaseOf opened_state.now.schema) (shows_found db held) (opened.1 opened.0.is_open).0
 
@@ -226,6 +217,10 @@ module _ {D : Type 0} {g : Ghosts D} (c : Held (FileStore D g)) (files : Files D
     subst (λ (schema : Schema). IsDatabaseOf schema opened_state.committed.trees) it.0 committed_database,
     subst (λ (t : Trees). version_of (map (columns_of 1) (t 0)) ≡ This) same_trees it.1,
   )
+
+  pub holds_damage : Knows This opened_state → ¬ StandsSoundly opened_state.now.trees → HoldsDamage (image_of g files)
+  unfolding has_this_version
+  holds_damage it none = let this = has_this_version it in (this.0, this.1, this.2, this.3, λ sound. none (subst StandsSoundly (sym same_trees) sound))
 
   pub has_no_version : Knows Missing opened_state → HasNoVersion (image_of g files)
   has_no_version (inl none) db held = (opened_state.now.schema, is_database db held, inl none)

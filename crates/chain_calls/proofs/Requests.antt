@@ -1,5 +1,5 @@
 -- What one request makes of a chain.
-use Rattle.shop_schema.proofs.Common.{◌≡◌, ◌≢◌, ◌∙◌, ◌≤◌, ℕ, List, Bool, true, false, inl, inr, refl, sym, ap, subst, Ok, Some, cases_Bool, Ghosts, state, HasCleanDisk, Film, Catalogue, Request, Sorry, Answer, answer_of, problem_answer, Books, Caller, known_caller, caller_of, reply_for, after_for, IsSound, office_look, is_store_failure, memory_failure, size_failure, failed_failure, IsHeld, StandsFor, Audit, Refusal, seen_caller, seen_refusal, seen_request, StoreFault}
+use Rattle.shop_schema.proofs.Common.{◌⊎◌, false≢true, ◌≡◌, ◌≢◌, ◌∙◌, ◌≤◌, ℕ, List, Bool, true, false, inl, inr, refl, sym, ap, subst, Ok, Some, cases_Bool, Ghosts, state, HasCleanDisk, Film, Catalogue, Request, Sorry, Answer, answer_of, problem_answer, Books, Caller, known_caller, caller_of, reply_for, after_for, IsSound, office_look, is_store_failure, memory_failure, size_failure, failed_failure, IsHeld, StandsFor, Audit, Refusal, seen_caller, seen_refusal, seen_request, StoreFault}
 use Rattle.shop_model.specs.Refusals as named
 use Rattle.chain_caches.specs.Films.{AreRows}
 use Rattle.chain_caches.specs.Callers.{AreCallers, KnownCallers}
@@ -18,36 +18,19 @@ use Rattle.chain_calls.proofs.Failures.{decided_fine}
 use Rattle.chain_calls.proofs.Audits.{audit_of_books}
 use Rattle.chain_calls.proofs.Standing.{are_held, values_after, sound_after}
 
-pub no_failure : (b : Bool) (p : Bool) → b ≡ false → b ≡ true → p ≡ true
-no_failure b p isnt is = let no : false ≡ true = sym isnt ∙ is in absurd (apart no)
-  where
-    apart : false ≡ true → ⊥
-    apart e = cc
-
 pub never : {P : Type 0} (b : Bool) → b ≡ false → b ≡ true → P
-never b isnt is = let no : false ≡ true = sym isnt ∙ is in absurd (apart no)
-  where
-    apart : false ≡ true → ⊥
-    apart e = cc
+never b isnt is = absurd (false≢true (sym isnt ∙ is))
 
 -- ---- what a refusal of the store answers
 
-pub lacks_memory : (caller : Caller) (request : Request) (old new : Holding) → new ≡ old → old.is_failed ≡ false → Answers caller request (problem_answer named.Memory) old new
-lacks_memory caller request old new same fine = record {
+lacks : (caller : Caller) (request : Request) (answer : Answer) (old new : Holding) → (answer ≡ problem_answer named.Memory) ⊎ (answer ≡ problem_answer named.Size) → is_store_failure answer ≡ false
+    → new ≡ old → old.is_failed ≡ false → Answers caller request answer old new
+lacks caller request answer old new which sends same fine = record {
   limits = ap (λ (h : Holding). h.limits) same;
-  failed = ap (λ (h : Holding). h.is_failed) same ∙ fine ∙ sym memory_failure;
-  stays = no_failure old.is_failed _ fine;
-  step = inr (inl (record { reply = inl refl; books = ap (λ (h : Holding). h.books) same }));
-  at_failure = never _ memory_failure;
-}
-
-pub lacks_room : (caller : Caller) (request : Request) (old new : Holding) → new ≡ old → old.is_failed ≡ false → Answers caller request (problem_answer named.Size) old new
-lacks_room caller request old new same fine = record {
-  limits = ap (λ (h : Holding). h.limits) same;
-  failed = ap (λ (h : Holding). h.is_failed) same ∙ fine ∙ sym size_failure;
-  stays = no_failure old.is_failed _ fine;
-  step = inr (inl (record { reply = inr refl; books = ap (λ (h : Holding). h.books) same }));
-  at_failure = never _ size_failure;
+  failed = ap (λ (h : Holding). h.is_failed) same ∙ fine ∙ sym sends;
+  stays = never old.is_failed fine;
+  step = inr (inl (record { reply = which; books = ap (λ (h : Holding). h.books) same }));
+  at_failure = never _ sends;
 }
 
 failed_limits : (caller : Caller) (request : Request) (old : Holding) → (failed_at caller request old).limits ≡ old.limits
@@ -77,8 +60,8 @@ fails caller request old new same = record {
 
 pub store_refuses : (caller : Caller) (request : Request) (it : Refusal) (old new : Holding) → IsStoreRefusalAt caller request it old new
     → Answers caller request (problem_answer (seen_refusal it)) old new
-store_refuses caller request it old new (inl (inl memory, same, fine)) = rw memory (lacks_memory caller request old new same fine)
-store_refuses caller request it old new (inl (inr size, same, fine)) = rw size (lacks_room caller request old new same fine)
+store_refuses caller request it old new (inl (inl memory, same, fine)) = rw memory (lacks caller request _ old new (inl refl) memory_failure same fine)
+store_refuses caller request it old new (inl (inr size, same, fine)) = rw size (lacks caller request _ old new (inr refl) size_failure same fine)
 store_refuses caller request it old new (inr (failed, same)) = rw failed (fails caller request old new same)
 
 -- the store refuses before the request is known, and a crash may as well leave the books after it
@@ -128,7 +111,7 @@ pub decided : (caller : Caller) (request : Request) (d : named.Refusal) (held : 
 decided caller request d held fine reply same = record {
   limits = refl;
   failed = fine ∙ sym (decided_fine (Sorry d));
-  stays = no_failure held.is_failed _ fine;
+  stays = never held.is_failed fine;
   step = inl (record { reply = ap answer_of (sym reply); books = same });
   at_failure = never _ (decided_fine (Sorry d));
 }
@@ -199,7 +182,7 @@ module _ {S : Type 0} (g : Ghosts S) (old new : Chained S) (limits : new.limits 
           let P : Answers caller request answer (holding old books besides) (holding new after after) = record {
             limits = limits;
             failed = still ∙ sym sends;
-            stays = no_failure old.is_failed _ fine;
+            stays = never old.is_failed fine;
             step = inl (record { reply = told; books = refl });
             at_failure = never _ sends;
           } in (
@@ -226,14 +209,8 @@ module _ {S : Type 0} (g : Ghosts S) (old new : Chained S) (limits : new.limits 
     pub unmade : (it : StoreFault) → KnowsNoMore → new.is_failed ≡ is_final it → (HasCleanDisk (state g new.conn) → HasCleanDisk (state g old.conn))
         → (HasCleanDisk (state g new.conn) → (it ≢ fault.Failed → IsUndone (state g old.conn) (state g new.conn)) × LeavesEitherOf old.limits caller request Given (state g old.conn) (state g new.conn))
         → Takes g old new (Answers caller request (problem_answer (seen_refusal (refusal_for it))))
-    unmade fault.Memory rows failed clean is = kept fault.Memory _ rows failed clean (λ now. (is now).0 (λ e. other e)) (λ before after refused. store_refuses caller request _ before after (room_at caller request _ before after (λ e. let no : _ = e in cc) refused))
-      where
-        other : fault.Memory ≡ fault.Failed → ⊥
-        other e = cc
-    unmade fault.Size rows failed clean is = kept fault.Size _ rows failed clean (λ now. (is now).0 (λ e. other e)) (λ before after refused. store_refuses caller request _ before after (room_at caller request _ before after (λ e. let no : _ = e in cc) refused))
-      where
-        other : fault.Size ≡ fault.Failed → ⊥
-        other e = cc
+    unmade fault.Memory rows failed clean is = kept fault.Memory _ rows failed clean (λ now. (is now).0 (λ e. cc)) (λ before after refused. store_refuses caller request _ before after (room_at caller request _ before after (λ e. let no : _ = e in cc) refused))
+    unmade fault.Size rows failed clean is = kept fault.Size _ rows failed clean (λ now. (is now).0 (λ e. cc)) (λ before after refused. store_refuses caller request _ before after (room_at caller request _ before after (λ e. let no : _ = e in cc) refused))
     unmade fault.Failed rows failed clean is = record {
       clean = clean;
       goes = λ now books besides at.

@@ -5,11 +5,10 @@ ghost use Rattle.std.specs.Prelude.{◌≡◌, nat_lt, false, IfOk};
 ghost use Rattle.sqlite.specs.Held.{state};
 ghost use Rattle.sqlite.specs.State.{HasCleanDisk, Survives};
 ghost use Rattle.sql_rows.specs.Calls.{DoesInside};
-ghost use Rattle.shop_model.specs.Sound.{IsSound, is_mark, made};
+ghost use Rattle.shop_model.specs.Sound.{HasCustody, is_mark, made};
 ghost use Rattle.shop_types.specs.Seen.{seen_mark};
 ghost use Rattle.shop_types.specs.Replies.{seen_reply};
 ghost use Rattle.shop_ledger.specs.Calls.{Finds};
-ghost use Rattle.chain_calls.specs.Chains.{widest_rules};
 ghost use Rattle.chain_calls.specs.Steps.{IsDecision, IsUndone};
 ghost use Rattle.chain_calls.specs.OfficeReads.{custody_told, TellsAudit, TellsCustody, TellsOffice};
 
@@ -89,7 +88,7 @@ fn place_in<S: Alter>(
     mark: &Mark,
 ) -> Result<Reply, StoreFault>
     ensures does { DoesInside S.Store tx.old.conn tx.new.conn result (λ reply. Finds (λ books.
-        IsSound widest_rules books → seen_reply reply ≡ custody_told (seen_mark mark.now) books)) }
+        HasCustody books → seen_reply reply ≡ custody_told (seen_mark mark.now) books)) }
     ensures decided { IfOk result (λ reply. IsDecision (seen_reply reply)) }
 {
     let Some(_) = branch_manager(tx, mark.branch)? else {

@@ -17,6 +17,10 @@ is_live was told fault failed = elim (cases_Bool was) [
   | inr live ↦ live
 ]
 
+-- whether it has failed is told by the value as by its parts
+pub same_failed : {S : Type 0} {old self : Chained S} → old ≡ self → old.is_failed ≡ self.is_failed
+same_failed {S} = ap (λ (x : Chained S). x.is_failed)
+
 -- with the connection as it was, whatever the fault is
 pub stays_failed : {S : Type 0} (old : Chained S) (conn : Held S) (fault : StoreFault) → old.is_failed ≡ true → conn ≡ old.conn
     → record { limits = old.limits; is_failed = old.is_failed || is_final fault; films = old.films; callers = old.callers; conn = conn } ≡ old
@@ -64,10 +68,10 @@ module _ {S A : Type 0} (g : Ghosts S) (old self new : Chained S) (conn : Held S
   old_refused was = let it = failed was in (told ∙ stays_failed old conn fault was it.0, ap refusal_for it.1)
 
   pub stays_refused : self.is_failed ≡ true → (new ≡ self) × (refusal_for fault ≡ StoreFailed)
-  stays_refused was = let it = old_refused (ap (λ (x : Chained S). x.is_failed) is ∙ was) in (it.0 ∙ is, it.1)
+  stays_refused was = let it = old_refused (same_failed is ∙ was) in (it.0 ∙ is, it.1)
 
   pub refused_fails : new.is_failed ≡ is_store_failure (problem_answer (seen_refusal (refusal_for fault)))
-  refused_fails = ap (λ (x : Chained S). x.is_failed) told ∙ fails_by old.is_failed fault (λ was. (failed was).1)
+  refused_fails = same_failed told ∙ fails_by old.is_failed fault (λ was. (failed was).1)
 
   pub look_refused : (HasCleanDisk (state g conn) → HasCleanDisk (state g old.conn)) → (HasCleanDisk (state g conn) → IsUndone (state g old.conn) (state g conn))
       → Takes g self new (IsStoreRefusal (refusal_for fault))

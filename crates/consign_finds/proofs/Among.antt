@@ -1,5 +1,5 @@
 -- Whether numbers are among others that were put in order, and what that tells of copies that are away or out.
-use Rattle.shop_schema.proofs.Common.{◌≡◌, ◌≢◌, ◌∙◌, refl, sym, ap, inl, inr, arith, ℕ, zero, suc, ◌+◌, ◌<◌, ◌≤◌, Bool, true, false, not, List, [], ◌∷◌, length, map, filter, get_or, Result, Ok, Err, IsPermutation, None, subst, take, is_none, is_ok, MatchResult, nat_cmp, list_any, IsBinarySearchResult, IsSortedByKey, list_any_more, IsNonDecreasingBy-from_sort, list_any-IsPermutation, searched, cases_Bool, cases_lt, or-true, Row, is_of, is_row, lacks, mem, of, CopyState, Here, Sent, Scrapped, Copy, Rental, is_here, in_stock, keeps_out, is_away, HasNumbers, copy_is, Books, BookCopy, shop_of, unmarked, differ_test, equal_test, row_at}
+use Rattle.shop_schema.proofs.Common.{◌≡◌, ◌≢◌, ◌∙◌, refl, sym, ap, inl, inr, arith, ℕ, zero, suc, ◌+◌, ◌<◌, ◌≤◌, Bool, true, false, not, List, [], ◌∷◌, length, map, filter, get_or, Result, Ok, Err, IsPermutation, None, subst, take, is_none, is_ok, MatchResult, nat_cmp, list_any, IsBinarySearchResult, IsSortedByKey, list_any_more, IsNonDecreasingBy-from_sort, list_any-IsPermutation, searched, cases_Bool, cases_lt, or-true, Row, is_of, is_row, lacks, mem, of, CopyState, Here, Sent, Scrapped, Copy, Rental, is_here, in_stock, keeps_out, is_away, HasNumbers, copy_is, Books, BookCopy, shop_of, unmarked, differ_test, equal_test, row_at, CopyRows}
 use Rattle.std.specs.Prelude.{◌==◌, ◌||◌, ◌&&◌}
 use Rattle.shop_ledger.proofs.Outs.{copies_of}
 use Rattle.consign_finds.specs.Finds.{AreListed}
@@ -83,7 +83,7 @@ among b x [] = refl
 among b x (row ∷ rows) = among_more b x row rows (row.branch == b) (row.number == x) row.it.state refl refl refl (among b x rows)
 
 away_among : (b x : ℕ) (books : Books) → HasNumbers books → is_away (shop_of b books).copies x ≡ (mem x (numbers_of b Sent books.copies) || mem x (numbers_of b Scrapped books.copies))
-away_among b x books numbers = ap (list_any (λ (it : Copy). not (is_here it))) (sym (row_at unmarked b x books.copies (numbers.copies b))) ∙ among b x books.copies
+away_among b x books numbers = ap (list_any (λ (it : Copy). not (is_here it))) (sym (row_at unmarked b x books.copies (numbers.rows CopyRows b))) ∙ among b x books.copies
 
 -- ---- copies that are out
 

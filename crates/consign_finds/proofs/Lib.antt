@@ -1,4 +1,3 @@
-pub mod Chained
 pub mod Readings
 pub mod Outs
 pub mod Parcels

@@ -1,8 +1,7 @@
 use Rattle.shop_schema.proofs.Common.{◌∙◌, sym, true, subst, done, of, shop_of, unmarked, length_map}
-use Rattle.sql_rows.proofs.Chaining.{one_call}
+use Rattle.sql_rows.proofs.Chaining.{one_call, and_more}
 use Rattle.branch_core.specs.declared.found.ListedFound.{ListedFound}
 use Rattle.consign_finds.specs.Finds.{AreListed}
-use Rattle.consign_finds.proofs.Chained.{and_more}
 use Rattle.consign_finds.proofs.Parcels.{unknown_listed}
 use Rattle.consign_finds.proofs.find_listed.Goals as goal
 

@@ -2,7 +2,7 @@ use Rattle.shop_schema.proofs.Common.{◌≡◌, ◌∙◌, refl, sym, ap, subst
 use Rattle.shop_store.specs.SharedSeen.{withdrawn_of}
 use Rattle.branch_core.specs.Agreed.{AreOfFilm}
 use Rattle.branch_looks.specs.Looks.{stock_asked, stock_listed}
-use Rattle.branch_reports.proofs.Firsts.{first_done, one_done}
+use Rattle.sql_rows.proofs.Chaining.{first_done, done_inside}
 use Rattle.branch_reports.proofs.Given.{given_none, given_some}
 use Rattle.branch_reports.proofs.Decisions.{accepted_told, refused_told}
 use Rattle.branch_looks.proofs.looks.look_film_copies.Goals as goal
@@ -28,7 +28,7 @@ returns-in-Ok-clause-does g c = first_done c.in_ok-film_withdrawn.ensures (some_
     ))
 
 pub returns-in_default-clause-does : goal.returns-in_default-clause-does
-returns-in_default-clause-does g c = one_done c.in_ok-film_withdrawn.ensures (λ withdrawn books holds held.
+returns-in_default-clause-does g c = done_inside c.in_ok-film_withdrawn.ensures (λ withdrawn books holds held.
     let b = c.args.branch in
     let found = withdrawn books holds held in
     (found.0, c.refused.ensures ∙ ap answer_of (sym (no_film c.args.is_in b c.args.film books.catalogue (shop_of b books) (sym c.in_default.is ∙ found.1)))))

@@ -2,7 +2,7 @@ use Rattle.shop_schema.proofs.Common.{◌∙◌, ◌∷◌, refl, sym, ap, ℕ, 
 use Rattle.shop_store.specs.Seen.{seen_copy_now}
 use Rattle.shop_store.specs.declared.copies.CopyNow.{CopyNow}
 use Rattle.branch_looks.proofs.Shows.{first_holder}
-use Rattle.branch_reports.proofs.Firsts.{first_done, one_done}
+use Rattle.sql_rows.proofs.Chaining.{first_done, done_inside}
 use Rattle.branch_reports.proofs.Decisions.{accepted_told, refused_told}
 use Rattle.branch_looks.proofs.looks.look_holder.Goals as goal
 
@@ -29,7 +29,7 @@ returns-clause-does g c = first_done c.in_ok-found.ensures (some_calls c.in_ok-h
     ))
 
 pub returns-in_default-clause-does : goal.returns-in_default-clause-does
-returns-in_default-clause-does g c = one_done c.in_ok-found.ensures (λ row books holds held.
+returns-in_default-clause-does g c = done_inside c.in_ok-found.ensures (λ row books holds held.
     let found = row books holds held in
     let holders = held_by c.args.copy (shop_of c.args.branch books).rentals in
     (found.0, c.refused.ensures ∙ ap (λ (copies : List Copy). answer_of (told holders copies)) (ap listed (sym c.in_default.is) ∙ found.1.0)))

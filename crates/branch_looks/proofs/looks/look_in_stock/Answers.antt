@@ -2,7 +2,7 @@ use Rattle.shop_schema.proofs.Common.{◌≡◌, ◌∙◌, refl, sym, ap, Bool,
 use Rattle.shop_store.specs.Seen.{seen_copy_now}
 use Rattle.shop_store.specs.declared.copies.CopyNow.{CopyNow}
 use Rattle.branch_finds.proofs.Shows.{stock_of_out}
-use Rattle.branch_reports.proofs.Firsts.{one_done}
+use Rattle.sql_rows.proofs.Chaining.{done_inside}
 use Rattle.branch_reports.proofs.Decisions.{accepted_told, refused_told}
 use Rattle.branch_looks.proofs.looks.look_in_stock.Goals as goal
 
@@ -13,7 +13,7 @@ abbrev listed : Option CopyNow → List Copy
 listed o = option_to_list (option_map seen_copy_now o)
 
 pub returns-in_ok-in_stock_text-in-Some-clause-does : goal.returns-in_ok-in_stock_text-in-Some-clause-does
-returns-in_ok-in_stock_text-in-Some-clause-does g c = one_done c.in_ok-found.ensures (λ row books holds held.
+returns-in_ok-in_stock_text-in-Some-clause-does g c = done_inside c.in_ok-found.ensures (λ row books holds held.
     let rentals = (shop_of c.args.branch books).rentals in
     let found = row books holds held in
     let is_in : c.is_none.result ≡ in_stock c.args.copy rentals = stock_of_out c.args.copy rentals c.in-Some.found.out _ c.is_none.ensures (rw c.in-Some.is at found.1.1) in
@@ -24,7 +24,7 @@ returns-in_ok-in_stock_text-in-Some-clause-does g c = one_done c.in_ok-found.ens
     ))
 
 pub returns-in-None-clause-does : goal.returns-in-None-clause-does
-returns-in-None-clause-does g c = one_done c.in_ok-found.ensures (λ row books holds held.
+returns-in-None-clause-does g c = done_inside c.in_ok-found.ensures (λ row books holds held.
     let found = row books holds held in
     (found.0, c.refused.ensures ∙ ap (λ (copies : List Copy). answer_of (told (in_stock c.args.copy (shop_of c.args.branch books).rentals) copies)) (ap listed (sym c.in-None.is) ∙ found.1.0)))
 

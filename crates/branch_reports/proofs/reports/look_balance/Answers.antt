@@ -1,7 +1,6 @@
 use Rattle.shop_schema.proofs.Common.{◌∙◌, refl, sym, ap, subst, ℤ, and_then, some_calls, Customer, Rule, NoCustomer, Decision, balance, BalanceIs, Reply, Shows, answer_of, accepted_answer, shop_of}
-use Rattle.sql_rows.proofs.Chaining.{one_call}
+use Rattle.sql_rows.proofs.Chaining.{one_call, first_done, done_inside}
 use Rattle.balance_rule.specs.Balance.{AreTermsOf, ArePaidBy}
-use Rattle.branch_reports.proofs.Firsts.{first_done, one_done}
 use Rattle.branch_reports.proofs.Given.{given_none, given_some}
 use Rattle.branch_reports.proofs.Decisions.{accepted_told, refused_told}
 use Rattle.branch_reports.proofs.reports.look_balance.Goals as goal
@@ -28,7 +27,7 @@ returns-clause-does g c = first_done c.in_ok-active_at.ensures
     ))
 
 pub returns-in_default-clause-does : goal.returns-in_default-clause-does
-returns-in_default-clause-does g c = one_done c.in_ok-active_at.ensures (λ active books holds held.
+returns-in_default-clause-does g c = done_inside c.in_ok-active_at.ensures (λ active books holds held.
     let found = active books holds held in
     (found.0, c.refused.ensures ∙ ap answer_of (sym (given_none NoCustomer _ (λ (it : Customer). it.active) _ (sym c.in_default.is ∙ found.1)))))
 

@@ -1,4 +1,6 @@
-use Rattle.shop_schema.proofs.Common.{◌≡◌, ◌≤◌, ◌∙◌, ◌∷◌, ◌++◌, [], ℕ, true, ap, subst, arith, codes, decimal, state, and_then, done, some_calls, object, next, Customer, seen_customer, seen_person, HoldsWith, counts_of, raise}
+use Rattle.shop_schema.proofs.Common.{◌≡◌, ◌≤◌, ◌∙◌, ◌∷◌, ◌++◌, [], ℕ, true, ap, subst, arith, codes, decimal, state, and_then, done, some_calls, object, next, Customer, seen_customer, HoldsWith, counts_of, raise}
+use Rattle.shop_model.specs.Values.{new_customer}
+use Rattle.shop_types.specs.Seen.{seen_new_customer}
 use Rattle.sql_rows.proofs.Chaining.{one_call}
 use Rattle.shop_ledger.specs.declared.counts.CountKind.TheVariants as kind
 use Rattle.shop_ledger.proofs.CountsOf.{beside, held_once, told_more}
@@ -14,6 +16,6 @@ returns g c = done (and_then (some_calls c.in_ok-number.ensures) (one_call c.in_
     let is : n ≡ next b books.customers = told_more b 0 1 books n low taken.1 in
     let put = said.1 (raise b 0 1 (counts_of books)) books taken.0 tt in
     let s = state g.S.Store c.put_customer.new.tx.conn.now in
-    let row : Customer = record { person = seen_person c.args.person.now; active = true; created = c.args.command.now.at } in
-    let same : seen_customer c.in_ok-customer.customer ≡ row = ap seen_customer c.in_ok-customer.ensures in
+    let row : Customer = new_customer c.args.command.now.at (seen_new_customer c.args.it.now) in
+    let same : seen_customer c.in_ok-customer.customer ≡ row = c.in_ok-customer.ensures in
     (customer_added _ b books low holds.stands.more.termed n row is (subst (λ (it : Customer). HoldsWith (raise b 0 1 (counts_of books)) s (record books { customers = books.customers ++ record { branch = b; number = n; it = it } ∷ [] })) same put), c.in_ok-new_customer_text.ensures ∙ ap (λ (m : ℕ). object ((codes "customer", decimal m) ∷ [])) is, tt))

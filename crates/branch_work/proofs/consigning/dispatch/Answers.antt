@@ -1,4 +1,4 @@
-use Rattle.shop_schema.proofs.Common.{◌≡◌, ◌∙◌, ◌+◌, ℕ, List, [], Option, length, map, filter, ap, sym, subst, IfSome, state, and_then, done, some_calls, between, is_consignment, ParcelLine, seen_parcel_line, add_pair, counts_of, Holds}
+use Rattle.shop_schema.proofs.Common.{◌≡◌, ◌∙◌, ◌+◌, ℕ, List, [], Option, length, map, filter, ap, sym, subst, IfSome, state, and_then, done, some_calls, between, is_consignment, ParcelLine, seen_parcel_line, add_pair, counts_of, Holds, CopyRows}
 use Rattle.sql_rows.proofs.Chaining.{one_call}
 use Rattle.shop_ledger.proofs.CountsOf.{beside}
 use Rattle.consign_store.proofs.PairCounts.{next_is_new, pair_last, pairs_once}
@@ -29,7 +29,7 @@ returns g c = done
     let counts = add_pair b to (counts_of books) in
     let new : filter (is_consignment b to n) books.consignments ≡ [] =
     subst (λ (k : ℕ). filter (is_consignment b to k) books.consignments ≡ []) (sym next) (next_is_new b to books held) in
-    let set = said.1.1.1 counts _ (said.1.1.0 counts books taken.0 new) (held.numbers.copies b) in
+    let set = said.1.1.1 counts _ (said.1.1.0 counts books taken.0 new) (held.numbers.rows CopyRows b) in
     let are : map seen_parcel_line lines ≡ parts_at b xs books =
     subst (λ (it : Option (List ParcelLine)). IfSome it (λ ls. map seen_parcel_line ls ≡ parts_at b xs books)) (same ∙ c.in-Some.is) marked in (
       subst (Holds s) (dispatch_acted rules b command to xs lines books held.numbers are) (dispatch_added s b to xs lines n place books next behind holds.stands.more.termed set),

@@ -1,4 +1,4 @@
-use Rattle.shop_schema.proofs.Common.{◌∙◌, refl, ap, subst, Result, Ok, Err, IfOk-weaker, state, does_such, within_none, verdict, shop_of, Change, Refusal, IsVerdict, seen_command}
+use Rattle.shop_schema.proofs.Common.{◌∙◌, refl, ap, Result, Ok, IfOk-weaker, state, does_such, within_none, verdict, shop_of, Change, Refusal, seen_command}
 use Rattle.shop_types.specs.declared.change.Change.TheVariants as change
 use Rattle.branch_work.specs.Rules.{rules_of}
 use Rattle.branch_work.proofs.Doing.{branch_goes, again_done, accepted_done, refused_done}
@@ -16,8 +16,7 @@ returns-in-Ok-Again-clause-does g c = record {
       let command = seen_command c.args.command.now in
       let s = state g.S.Store c.args.tx.now.conn.now in
       let rules = rules_of c.args.limits in
-      let P : Result Change Refusal → Type 0 = λ it. IsVerdict (verdict rules b books.catalogue (shop_of b books) command) it in
-      let is : P (Ok (change.Again c.in-Ok-Again.reply)) = subst P (c.in-Ok-Again.is ∙ ap known c.in-Ok-Again.field-0-is) (c.decide.ensures rules books.catalogue (shop_of b books) refl refl agrees) in
+      let is = rw (c.in-Ok-Again.is ∙ ap known c.in-Ok-Again.field-0-is) at (c.decide.ensures rules books.catalogue (shop_of b books) refl refl agrees) in
       again_done (branch_goes c.args.limits b books command there) done s _ is told.0 holds) c.again.ensures;
 }
 
@@ -26,8 +25,7 @@ returns-in-Ok-Accepted-clause-does g c = does_such c.add.ensures.does (λ done o
     let b = c.args.branch in
     let command = seen_command c.args.command.now in
     let rules = rules_of c.args.limits in
-    let P : Result Change Refusal → Type 0 = λ it. IsVerdict (verdict rules b books.catalogue (shop_of b books) command) it in
-    let is : P (Ok change.Accepted) = subst P (c.in-Ok-Accepted.is ∙ ap known c.in-Ok-Accepted.field-0-is) (c.decide.ensures rules books.catalogue (shop_of b books) refl refl agrees) in
+    let is = rw (c.in-Ok-Accepted.is ∙ ap known c.in-Ok-Accepted.field-0-is) at (c.decide.ensures rules books.catalogue (shop_of b books) refl refl agrees) in
     let added = told.1 c.args.limits books holds held agrees.act marked in
     accepted_done (branch_goes c.args.limits b books command there) done new is added.1 told.0 added.0)
 
@@ -39,8 +37,7 @@ returns-in-Err-clause-does g c = record {
       let command = seen_command c.args.command.now in
       let s = state g.S.Store c.args.tx.now.conn.now in
       let rules = rules_of c.args.limits in
-      let P : Result Change Refusal → Type 0 = λ it. IsVerdict (verdict rules b books.catalogue (shop_of b books) command) it in
-      let is : P (Err c.in-Err.refusal) = subst P c.in-Err.is (c.decide.ensures rules books.catalogue (shop_of b books) refl refl agrees) in
+      let is = rw c.in-Err.is at (c.decide.ensures rules books.catalogue (shop_of b books) refl refl agrees) in
       let refused = told.1 (verdict rules b books.catalogue (shop_of b books) command) is in
       refused_done (branch_goes c.args.limits b books command there) done s refused.0 refused.1 refused.2 holds) c.refuse.ensures.told;
 }

@@ -1,10 +1,9 @@
 use Rattle.shop_schema.proofs.Common.{◌∙◌, refl, ap, Option, option_map, and_then, some_calls, within_err, within_of, within_then, seen_command}
 use Rattle.std.proofs.lemmas.Result.{IfOk-from_err}
-use Rattle.sql_rows.proofs.Chaining.{one_call}
+use Rattle.sql_rows.proofs.Chaining.{one_call, and_more}
 use Rattle.shop_ledger.specs.declared.kept.KeptRow.{KeptRow}
 use Rattle.shop_ledger.specs.Seen.{seen_kept, by_form}
 use Rattle.shop_ledger.proofs.KeptLemmas.{copied_told}
-use Rattle.branch_looks.proofs.Chained.{and_more}
 use Rattle.branch_work.specs.Rules.{rules_of}
 use Rattle.branch_work.proofs.Kepts.{kept_told}
 use Rattle.branch_work.proofs.requests.answer_command.Goals as goal

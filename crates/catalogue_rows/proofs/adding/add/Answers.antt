@@ -1,7 +1,7 @@
 use Rattle.shop_schema.proofs.Common.{◌≡◌, ◌+◌, ◌∙◌, ap, refl, subst, arith, length, string_bytes, state, object, office_told, accepted_answer, Books, seen_office, counts_of, HoldsWith}
 use Rattle.shop_ledger.specs.Counted.{office_counted}
 use Rattle.shop_ledger.proofs.OfficeCounts.{office_counts_agreed, office_grown_once}
-use Rattle.catalogue_rows.proofs.Numbers.{then_does, done_inside}
+use Rattle.sql_rows.proofs.Chaining.{then_does, done_inside}
 use Rattle.catalogue_rows.proofs.Written.{act_kept}
 use Rattle.catalogue_rows.proofs.adding.add.Goals as goal
 

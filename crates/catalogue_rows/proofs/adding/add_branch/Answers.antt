@@ -1,6 +1,7 @@
 use Rattle.shop_schema.proofs.Common.{◌≡◌, ◌∙◌, ◌+◌, ◌∷◌, [], ℕ, ap, codes, decimal, length, owned_by, counts_of}
 use Rattle.shop_ledger.proofs.CountsOf.{beside}
-use Rattle.catalogue_rows.proofs.Numbers.{err_inside, then_does, numbered_as}
+use Rattle.sql_rows.proofs.Chaining.{err_inside, then_does}
+use Rattle.catalogue_rows.proofs.Numbers.{numbered_as}
 use Rattle.catalogue_rows.proofs.Written.{no_last, branch_added}
 use Rattle.catalogue_rows.proofs.adding.add_branch.Goals as goal
 

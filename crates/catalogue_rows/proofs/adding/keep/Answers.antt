@@ -1,5 +1,5 @@
 use Rattle.shop_schema.proofs.Common.{refl, sym, seen_office}
-use Rattle.catalogue_rows.proofs.Numbers.{then_does, done_inside}
+use Rattle.sql_rows.proofs.Chaining.{then_does, done_inside}
 use Rattle.catalogue_rows.proofs.adding.keep.Goals as goal
 
 pub returns : goal.returns

@@ -1,10 +1,9 @@
 use Rattle.shop_schema.proofs.Common.{◌∙◌, refl, sym}
-use Rattle.sql_rows.proofs.Chaining.{one_call}
-use Rattle.branch_looks.proofs.Firsts.{first_done, one_done}
+use Rattle.sql_rows.proofs.Chaining.{one_call, first_done, done_inside}
 use Rattle.chain_calls.proofs.callers.caller_in.Goals as goal
 
 pub returns-then-branch : goal.returns-then-branch
-returns-then-branch g c = one_done c.in_ok-is_office.ensures (λ said books holds held.
+returns-then-branch g c = done_inside c.in_ok-is_office.ensures (λ said books holds held.
     let found = said books holds held in
     (found.0, rw (sym found.1 ∙ c.if-branch.true) refl))
 

@@ -1,4 +1,4 @@
-use Rattle.chain_calls.proofs.Calling.{only_stays}
+use Rattle.sql_rows.proofs.Chaining.{only_stays}
 use Rattle.chain_calls.proofs.Resting.{looks}
 use Rattle.chain_calls.proofs.files.version_in.Goals as goal
 

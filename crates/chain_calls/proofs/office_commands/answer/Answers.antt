@@ -3,7 +3,7 @@ use Rattle.branch_work.specs.Rules.{rules_of}
 use Rattle.branch_work.proofs.Doing.{again_done, accepted_done, refused_done}
 use Rattle.branch_work.proofs.Decisions.{accepted_told}
 use Rattle.chain_calls.proofs.Asking.{office_goes}
-use Rattle.chain_calls.proofs.Calling.{and_told}
+use Rattle.sql_rows.proofs.Chaining.{and_told}
 use Rattle.chain_calls.proofs.office_commands.answer.Goals as goal
 
 abbrev known : Change → Result Change Refusal

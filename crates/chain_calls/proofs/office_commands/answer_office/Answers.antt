@@ -3,7 +3,7 @@ use Rattle.shop_ledger.specs.declared.kept.KeptRow.{KeptRow}
 use Rattle.shop_ledger.specs.Seen.{seen_kept, by_form}
 use Rattle.shop_ledger.proofs.KeptLemmas.{copied_told}
 use Rattle.shop_schema.proofs.OfficeOneToOne.{office_told}
-use Rattle.chain_calls.proofs.Calling.{first_last}
+use Rattle.sql_rows.proofs.Chaining.{first_last}
 use Rattle.chain_calls.proofs.office_commands.answer_office.Goals as goal
 
 pub returns-clause-does : goal.returns-clause-does

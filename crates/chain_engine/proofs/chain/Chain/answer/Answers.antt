@@ -1,6 +1,6 @@
-use Rattle.shop_schema.proofs.Common.{◌≡◌, ◌∙◌, inr, sym, ap, Decision, NoCounter, NoRoute, StoreFailed, Sorry, is_store_failure, failed_failure}
-use Rattle.chain_steps.specs.Holding.{Chained}
+use Rattle.shop_schema.proofs.Common.{◌∙◌, inr, sym, ap, Decision, NoCounter, NoRoute, StoreFailed, Sorry, is_store_failure, failed_failure}
 use Rattle.chain_steps.proofs.Failures.{decided_fine}
+use Rattle.chain_engine.proofs.Failing.{same_failed}
 use Rattle.chain_engine.proofs.chain.Chain.answer.Goals as goal
 
 pub returns-then-self-clause-told : goal.returns-then-self-clause-told
@@ -14,18 +14,12 @@ returns-in-Do-clause-told g c = inr (Decision NoRoute, c.refused-in-Do.ensures)
 
 pub returns-then-self-clause-fails : goal.returns-then-self-clause-fails
 returns-then-self-clause-fails g c =
-    let inside = c.self.inside in
-    let is : record { limits = inside.limits; is_failed = inside.is_failed; films = inside.films; callers = inside.callers; conn = inside.conn } ≡ c.args.self.now = c.self.view_is in
-    sym (ap (λ (x : Chained _). x.is_failed) is) ∙ c.if-self.true ∙ sym (ap is_store_failure c.refused.ensures ∙ failed_failure)
+    sym (same_failed c.self.view_is) ∙ c.if-self.true ∙ sym (ap is_store_failure c.refused.ensures ∙ failed_failure)
 
 pub returns-in-Nobody-clause-fails : goal.returns-in-Nobody-clause-fails
 returns-in-Nobody-clause-fails g c =
-    let inside = c.self.inside in
-    let is : record { limits = inside.limits; is_failed = inside.is_failed; films = inside.films; callers = inside.callers; conn = inside.conn } ≡ c.args.self.now = c.self.view_is in
-    sym (ap (λ (x : Chained _). x.is_failed) is) ∙ c.if-self.false ∙ sym (ap is_store_failure c.refused-in-Nobody.ensures ∙ decided_fine (Sorry NoCounter))
+    sym (same_failed c.self.view_is) ∙ c.if-self.false ∙ sym (ap is_store_failure c.refused-in-Nobody.ensures ∙ decided_fine (Sorry NoCounter))
 
 pub returns-in-Do-clause-fails : goal.returns-in-Do-clause-fails
 returns-in-Do-clause-fails g c =
-    let inside = c.self.inside in
-    let is : record { limits = inside.limits; is_failed = inside.is_failed; films = inside.films; callers = inside.callers; conn = inside.conn } ≡ c.args.self.now = c.self.view_is in
-    sym (ap (λ (x : Chained _). x.is_failed) is) ∙ c.if-self.false ∙ sym (ap is_store_failure c.refused-in-Do.ensures ∙ decided_fine (Sorry NoRoute))
+    sym (same_failed c.self.view_is) ∙ c.if-self.false ∙ sym (ap is_store_failure c.refused-in-Do.ensures ∙ decided_fine (Sorry NoRoute))

@@ -7,7 +7,7 @@ use Rattle.chain_steps.specs.Steps.{IsHeldBy, IsKnownFor, asker, asked_of}
 use Rattle.chain_steps.specs.Decisions.{refusal_for, is_final}
 use Rattle.chain_steps.proofs.Requests.{made, unmade}
 use Rattle.chain_steps.proofs.Failures.{decision_fine}
-use Rattle.chain_engine.proofs.Failing.{fails_by}
+use Rattle.chain_engine.proofs.Failing.{fails_by, same_failed}
 use Rattle.chain_engine.proofs.chain.Chain.answer_asked.Goals as goal
 
 pub returns-in-Ok-clause-taken : goal.returns-in-Ok-clause-taken
@@ -16,7 +16,7 @@ returns-in-Ok-clause-taken g c =
     let old : Chained _ = record { limits = inside.limits; is_failed = inside.is_failed; films = inside.films; callers = inside.callers; conn = inside.conn } in
     let new : Chained _ = record { limits = inside.limits; is_failed = inside.is_failed; films = c.step.new.films; callers = inside.callers; conn = c.step.new.conn } in
     let is : old ≡ c.args.self.now = c.self.view_is in
-    let fine : inside.is_failed ≡ false = ap (λ (x : Chained _). x.is_failed) is ∙ c.requires.fine in
+    let fine : inside.is_failed ≡ false = same_failed is ∙ c.requires.fine in
     let known : (catalogue : Catalogue) → AreCallers inside.callers catalogue → IsKnownFor c.args.asked.now catalogue =
     λ catalogue callers. c.requires.known catalogue (subst (λ (x : Chained _). AreCallers x.callers catalogue) is callers) in
     let caller : Caller = asker c.args.asked.now in
@@ -30,7 +30,7 @@ returns-in-Err-clause-taken g c =
     let inside = c.self.inside in
     let old : Chained _ = record { limits = inside.limits; is_failed = inside.is_failed; films = inside.films; callers = inside.callers; conn = inside.conn } in
     let is : old ≡ c.args.self.now = c.self.view_is in
-    let fine : inside.is_failed ≡ false = ap (λ (x : Chained _). x.is_failed) is ∙ c.requires.fine in
+    let fine : inside.is_failed ≡ false = same_failed is ∙ c.requires.fine in
     let known : (catalogue : Catalogue) → AreCallers inside.callers catalogue → IsKnownFor c.args.asked.now catalogue =
     λ catalogue callers. c.requires.known catalogue (subst (λ (x : Chained _). AreCallers x.callers catalogue) is callers) in
     let caller : Caller = asker c.args.asked.now in
@@ -48,18 +48,13 @@ returns-in-Ok-clause-told g c = c.in-Ok.ensures.decided.told
 
 pub returns-in-Ok-clause-fails : goal.returns-in-Ok-clause-fails
 returns-in-Ok-clause-fails g c =
-    let inside = c.self.inside in
-    let is : record { limits = inside.limits; is_failed = inside.is_failed; films = inside.films; callers = inside.callers; conn = inside.conn } ≡ c.args.self.now = c.self.view_is in
-    let fine : inside.is_failed ≡ false = ap (λ (x : Chained _). x.is_failed) is ∙ c.requires.fine in
-    fine ∙ sym (decision_fine (seen_reply c.in-Ok.reply) c.in-Ok.ensures.decided.decided)
+    same_failed c.self.view_is ∙ c.requires.fine ∙ sym (decision_fine (seen_reply c.in-Ok.reply) c.in-Ok.ensures.decided.decided)
 
 pub returns-in-Err-clause-told : goal.returns-in-Err-clause-told
 returns-in-Err-clause-told g c = inr (seen_refusal c.refusal.result, c.refused.ensures)
 
 pub returns-in-Err-clause-fails : goal.returns-in-Err-clause-fails
 returns-in-Err-clause-fails g c =
-    let inside = c.self.inside in
-    let is : record { limits = inside.limits; is_failed = inside.is_failed; films = inside.films; callers = inside.callers; conn = inside.conn } ≡ c.args.self.now = c.self.view_is in
-    let fine : inside.is_failed ≡ false = ap (λ (x : Chained _). x.is_failed) is ∙ c.requires.fine in
+    let fine : c.self.inside.is_failed ≡ false = same_failed c.self.view_is ∙ c.requires.fine in
     let tells = c.refused.ensures ∙ ap (λ r. problem_answer (seen_refusal r)) c.refusal.ensures.told in
-    ap (λ (x : Chained _). x.is_failed) c.refusal.ensures.failed ∙ fails_by inside.is_failed c.in-Err.fault (λ was. absurd (false≢true (sym fine ∙ was))) ∙ sym (ap is_store_failure tells)
+    same_failed c.refusal.ensures.failed ∙ fails_by c.self.inside.is_failed c.in-Err.fault (λ was. absurd (false≢true (sym fine ∙ was))) ∙ sym (ap is_store_failure tells)

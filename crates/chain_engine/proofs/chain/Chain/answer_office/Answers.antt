@@ -6,7 +6,7 @@ use Rattle.chain_steps.specs.Decisions.{refusal_for, is_final}
 use Rattle.chain_steps.proofs.Requests.{came, unmade}
 use Rattle.chain_steps.proofs.Asking.{office_read, office_unread}
 use Rattle.chain_steps.proofs.Failures.{decision_fine}
-use Rattle.chain_engine.proofs.Failing.{fails_by}
+use Rattle.chain_engine.proofs.Failing.{fails_by, same_failed}
 use Rattle.chain_engine.proofs.chain.Chain.answer_office.Goals as goal
 
 pub returns-in-Ok-clause-taken : goal.returns-in-Ok-clause-taken
@@ -15,7 +15,7 @@ returns-in-Ok-clause-taken g c =
     let old : Chained _ = record { limits = inside.limits; is_failed = inside.is_failed; films = inside.films; callers = inside.callers; conn = inside.conn } in
     let new : Chained _ = record { limits = inside.limits; is_failed = inside.is_failed; films = inside.films; callers = inside.callers; conn = c.read_office.new.conn } in
     let is : old ≡ c.args.self.now = c.self.view_is in
-    let fine : inside.is_failed ≡ false = ap (λ (x : Chained _). x.is_failed) is ∙ c.requires in
+    let fine : inside.is_failed ≡ false = same_failed is ∙ c.requires in
     let request : Request = OfficeLook (seen_office_ask c.args.ask) in
     subst (λ x. Takes g.S.Store x new (Answers HeadOffice request (seen_reply c.in-Ok.reply))) is
     (came g.S.Store old new refl refl fine HeadOffice request (IsHeldWith inside.films) (λ books held films callers. (held, films)) tt tt c.limits_fit.ensures.commands c.limits_fit.ensures.copies (seen_reply c.in-Ok.reply) fine (λ now. omega (arith, now, c.in-Ok.ensures.crash.clean))
@@ -26,7 +26,7 @@ returns-in-Err-clause-taken g c =
     let inside = c.self.inside in
     let old : Chained _ = record { limits = inside.limits; is_failed = inside.is_failed; films = inside.films; callers = inside.callers; conn = inside.conn } in
     let is : old ≡ c.args.self.now = c.self.view_is in
-    let fine : inside.is_failed ≡ false = ap (λ (x : Chained _). x.is_failed) is ∙ c.requires in
+    let fine : inside.is_failed ≡ false = same_failed is ∙ c.requires in
     let request : Request = OfficeLook (seen_office_ask c.args.ask) in
     let new : Chained _ = record { limits = inside.limits; is_failed = is_final c.in-Err.fault; films = inside.films; callers = inside.callers; conn = c.read_office.new.conn } in
     let so : new ≡ c.refusal.new.self = sym (rw fine at c.refusal.ensures.failed) in
@@ -41,18 +41,13 @@ returns-in-Ok-clause-told g c = c.in-Ok.ensures.decided.told
 
 pub returns-in-Ok-clause-fails : goal.returns-in-Ok-clause-fails
 returns-in-Ok-clause-fails g c =
-    let inside = c.self.inside in
-    let is : record { limits = inside.limits; is_failed = inside.is_failed; films = inside.films; callers = inside.callers; conn = inside.conn } ≡ c.args.self.now = c.self.view_is in
-    let fine : inside.is_failed ≡ false = ap (λ (x : Chained _). x.is_failed) is ∙ c.requires in
-    fine ∙ sym (decision_fine (seen_reply c.in-Ok.reply) c.in-Ok.ensures.decided.decided)
+    same_failed c.self.view_is ∙ c.requires ∙ sym (decision_fine (seen_reply c.in-Ok.reply) c.in-Ok.ensures.decided.decided)
 
 pub returns-in-Err-clause-told : goal.returns-in-Err-clause-told
 returns-in-Err-clause-told g c = inr (seen_refusal c.refusal.result, c.refused.ensures)
 
 pub returns-in-Err-clause-fails : goal.returns-in-Err-clause-fails
 returns-in-Err-clause-fails g c =
-    let inside = c.self.inside in
-    let is : record { limits = inside.limits; is_failed = inside.is_failed; films = inside.films; callers = inside.callers; conn = inside.conn } ≡ c.args.self.now = c.self.view_is in
-    let fine : inside.is_failed ≡ false = ap (λ (x : Chained _). x.is_failed) is ∙ c.requires in
+    let fine : c.self.inside.is_failed ≡ false = same_failed c.self.view_is ∙ c.requires in
     let tells = c.refused.ensures ∙ ap (λ r. problem_answer (seen_refusal r)) c.refusal.ensures.told in
-    ap (λ (x : Chained _). x.is_failed) c.refusal.ensures.failed ∙ fails_by inside.is_failed c.in-Err.fault (λ was. absurd (false≢true (sym fine ∙ was))) ∙ sym (ap is_store_failure tells)
+    same_failed c.refusal.ensures.failed ∙ fails_by c.self.inside.is_failed c.in-Err.fault (λ was. absurd (false≢true (sym fine ∙ was))) ∙ sym (ap is_store_failure tells)

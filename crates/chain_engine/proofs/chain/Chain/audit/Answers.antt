@@ -8,9 +8,7 @@ use Rattle.chain_engine.proofs.Failing.{is_live, leaves_no_more, stays_refused, 
 use Rattle.chain_engine.proofs.chain.Chain.audit.Goals as goal
 
 pub returns-in-Ok-clause-told : goal.returns-in-Ok-clause-told
-returns-in-Ok-clause-told g c clean =
-    let is : record { limits = c.self.inside.limits; is_failed = c.self.inside.is_failed; films = c.self.inside.films; callers = c.self.inside.callers; conn = c.self.inside.conn } ≡ c.args.self.now = c.self.view_is in
-    subst (λ (x : Chained _). AuditsState (state g.S.Store x.conn) c.in-Ok.audit) is (c.in-Ok.ensures.told clean)
+returns-in-Ok-clause-told g c clean = subst (λ (x : Chained _). AuditsState (state g.S.Store x.conn) c.in-Ok.audit) c.self.view_is (c.in-Ok.ensures.told clean)
 
 pub returns-in-Ok-clause-taken : goal.returns-in-Ok-clause-taken
 returns-in-Ok-clause-taken g c =
