@@ -151,8 +151,9 @@ pub(crate) fn besides(alloc: Global, act: &Act, name: &str) -> Result<String, Ti
             let amount = money(alloc, i64::from(amount.get())).map_err(|_| TillFault::Memory)?;
             Ok(format!(in alloc; ": {amount} from {name}")?)
         }
-        Act::Customer(person) => {
-            Ok(format!(in alloc; ": {} {}", person.first.as_str(), person.last.as_str())?)
+        Act::Customer(it) => {
+            let (first, last) = (it.person.first.as_str(), it.person.last.as_str());
+            Ok(format!(in alloc; ": {first} {last}")?)
         }
         _ => Ok(String::new(alloc)),
     }

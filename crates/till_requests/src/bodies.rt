@@ -96,7 +96,7 @@ fn put_rental(
 /// The members that say what a command does; an import has none.
 fn put_act(alloc: Global, members: &mut Members, act: &Act) -> Result<(), AllocError> {
     match act {
-        Act::Customer(person) => put_person(alloc, members, person),
+        Act::Customer(it) => put_person(alloc, members, &it.person),
         Act::Active { customer, active } => {
             put_number(alloc, members, "customer", customer.get())?;
             put(members, alloc, "active", Value::from(*active))

@@ -27,7 +27,7 @@ pub(crate) fn is_same_act(one: &Act, two: &Act) -> bool
     ensures { result ≡ true → seen_act one.now ≡ seen_act two.now }
 {
     match (one, two) {
-        (Act::Customer(one), Act::Customer(two)) => is_same_person(one, two),
+        (Act::Customer(one), Act::Customer(two)) => is_same_person(&one.person, &two.person),
         (
             Act::Active { customer, active },
             Act::Active {

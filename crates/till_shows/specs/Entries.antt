@@ -23,7 +23,7 @@ receipt_text source number missing =
     else codes "receive: branch " ++ (decimal source ++ (codes ", consignment " ++ (decimal number ++ (codes ", missing " ++ commas missing))))
 
 abbrev pub act_text : Act → Text
-act_text (AddCustomer person) = codes "customer: " ++ (person.first ++ (codes " " ++ person.last))
+act_text (AddCustomer it) = codes "customer: " ++ (it.person.first ++ (codes " " ++ it.person.last))
 act_text (SetActive customer active) = codes "active: customer " ++ (decimal customer ++ (codes " may " ++ (not_text active ++ codes "rent")))
 act_text (Rent customer copy) = codes "rent: customer " ++ (decimal customer ++ (codes ", copy " ++ decimal copy))
 act_text (TakeBack rental) = codes "return: rental " ++ decimal rental

@@ -58,7 +58,8 @@ fn act_line(alloc: Global, act: &Act) -> Result<String, AllocError>
     ensures { IfOk result (λ s. string_bytes s ≡ act_text (seen_act act.now)) }
 {
     match act {
-        Act::Customer(person) => {
+        Act::Customer(it) => {
+            let person = &it.person;
             let (first, last) = (person.first.as_str(), person.last.as_str());
             format!(in alloc; "customer: {first} {last}")
         }

@@ -161,7 +161,7 @@ abbrev pub counter_act_of : Text → List Row → Option TillAct
 counter_act_of name rows = if bytes_eq name (codes "rent") then option_map till.Do (rent_of rows)
     else (if bytes_eq name (codes "return") then return_of rows
     else (if bytes_eq name (codes "pay") then option_map till.Do (pay_of rows)
-    else (if bytes_eq name (codes "join") then option_map (λ person. till.Do (act.Customer person)) (person_of rows)
+    else (if bytes_eq name (codes "join") then option_map (λ person. till.Do (act.Customer (record { person = person }))) (person_of rows)
     else (if bytes_eq name (codes "bar") then option_map till.Do (active_of false rows)
     else (if bytes_eq name (codes "unbar") then option_map till.Do (active_of true rows)
     else stock_act_of name rows)))))

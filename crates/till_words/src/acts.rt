@@ -8,7 +8,9 @@ use crate::given::{NUMBER, PAYMENT, RETURN, TOKEN, WHOSE};
 use crate::words::{Beginning, TillAct, TillLook, WordList};
 use crate::{given, named};
 use clap::ArgMatches;
-use shop_types::{Act, CopyNo, L45, Person, RentalNo, RowNumber, StaffNo, T45, T128, Usage};
+use shop_types::{
+    Act, CopyNo, L45, NewCustomer, Person, RentalNo, RowNumber, StaffNo, T45, T128, Usage,
+};
 use std::alloc::Global;
 
 // ---- at the counter
@@ -292,7 +294,9 @@ fn counter_act(alloc: Global, name: &str, given: &ArgMatches<'_>) -> Result<Till
         "rent" => Ok(TillAct::Do(given::of_kind(alloc, rent(given), NUMBER)?)),
         "return" => given::of_kind(alloc, returned(given), RETURN),
         "pay" => Ok(TillAct::Do(given::of_kind(alloc, pay(given), PAYMENT)?)),
-        "join" => Ok(TillAct::Do(Act::Customer(person(alloc, given)?))),
+        "join" => Ok(TillAct::Do(Act::Customer(NewCustomer {
+            person: person(alloc, given)?,
+        }))),
         "bar" => Ok(TillAct::Do(given::of_kind(alloc, active(given, false), NUMBER)?)),
         "unbar" => Ok(TillAct::Do(given::of_kind(alloc, active(given, true), NUMBER)?)),
         _ => stock_act(alloc, name, given),
