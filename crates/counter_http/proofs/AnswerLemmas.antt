@@ -1,12 +1,13 @@
 -- What may be answered to a message.
 use Rattle.std.proofs.Common.{Result}
-use Rattle.shop_types.proofs.Common.{◌≡◌, inl, refl, sym, subst, ap, ◌∙◌, List, ℕ, true, false, None, Some, Option, Ok, Err, IfOk, Rules, NoCounter, Decision, StoreFailed, Request, Unread, Sorry, Answer, answer_of, problem_answer, Books, Caller, Counter, HeadOffice, Nobody, caller_of, reply_for, after_for, is_store_failure, known_same, seen_refusal}
+use Rattle.shop_types.proofs.Common.{◌≡◌, inl, refl, sym, subst, ap, ◌∙◌, List, ℕ, true, false, None, Some, Option, Ok, Err, IfOk, Rules, NoCounter, Decision, StoreFailed, Request, Unread, Sorry, Answer, answer_of, problem_answer, Books, Caller, Counter, HeadOffice, Nobody, caller_of, reply_for, after_for, known_same, seen_refusal}
 use Rattle.http_messages.specs.Message.{Message}
 use Rattle.shop_model.specs.Refusals.{Refusal, Memory}
 use Rattle.shop_model.specs.Office.{office_look}
 use Rattle.shop_types.specs.declared.refusal.Refusal.{Refusal as Told}
 use Rattle.counter_routes.specs.Words.{Meaning}
 use Rattle.counter_routes.specs.Readings.{Reads, reading_of}
+use Rattle.shop_types.specs.declared.refusal.Refusal.TheVariants as told
 use Rattle.counter_routes.specs.declared.asked.Reading.{Reading}
 use Rattle.counter_routes.specs.declared.asked.Reading.TheVariants.{Asked, Refused}
 use Rattle.chain_engine.specs.Holding.{Holding}
@@ -14,7 +15,7 @@ use Rattle.chain_engine.specs.Rules.{rules_of}
 use Rattle.chain_engine.specs.Chains.{Answers}
 use Rattle.chain_engine.specs.Decisions.{IsStoreRefusalAt}
 use Rattle.chain_engine.proofs.Failures.{decided_fine}
-use Rattle.chain_engine.proofs.Requests.{no_failure, never, lacks_memory, store_refuses, fails, failed_same}
+use Rattle.chain_engine.proofs.Requests.{never, store_refuses, fails, failed_same}
 use Rattle.counter_http.specs.Events.{known_token, sender_of, AnswersMessage, AnswersNobody}
 use Rattle.counter_http.specs.Reads.{IsDecided, AnswersRead}
 
@@ -42,7 +43,7 @@ refused_answers meaning message d old new e same fine =
     let known = known_same (known_token message.token) old.books.catalogue in record {
       limits = ap (λ (h : Holding). h.limits) same;
       failed = ap (λ (h : Holding). h.is_failed) same ∙ fine ∙ sym (decided_fine (Sorry d));
-      stays = no_failure old.is_failed (is_store_failure (problem_answer (Decision d))) fine;
+      stays = never old.is_failed fine;
       at_failure = never _ (decided_fine (Sorry d));
       step = inl (record {
         reply = ap answer_of (sym (unread_reply (rules_of old.limits) meaning message sender d old.books e))
@@ -56,7 +57,7 @@ refused_answers meaning message d old new e same fine =
 pub memory_answers : (meaning : Meaning) (message : Message) (answer : Answer) (old new : Holding)
     → answer ≡ problem_answer Memory → new ≡ old → old.is_failed ≡ false → AnswersMessage meaning message answer old new
 memory_answers meaning message answer old new is same fine =
-    rw is (lacks_memory (sender_of message old) (reading_of meaning message (sender_of message old)) old new same fine)
+    rw is (store_refuses (sender_of message old) (reading_of meaning message (sender_of message old)) told.Memory old new (inl (inl refl, same, fine)))
 
 pub store_answers : (meaning : Meaning) (message : Message) (refusal : Told) (answer : Answer) (old new : Holding)
     → IsStoreRefusalAt (sender_of message old) (reading_of meaning message (sender_of message old)) refusal old new
@@ -77,7 +78,7 @@ pub nobody_refused : (held : Holding) → held.is_failed ≡ false → AnswersNo
 nobody_refused held fine request = record {
   limits = refl;
   failed = fine ∙ sym (decided_fine (Sorry NoCounter));
-  stays = no_failure held.is_failed _ fine;
+  stays = never held.is_failed fine;
   at_failure = never _ (decided_fine (Sorry NoCounter));
   step = inl (record { reply = refl; books = refl });
 }
