@@ -1,7 +1,8 @@
 -- What is said of a list of edits once, whatever act makes it.
-use Rattle.shop_model.proofs.Common.{◌≡◌, inl, inr, ℕ, ◌+◌, ◌≤◌, List, [], ◌∷◌, length, filter, refl, sym, ap, ◌∙◌, ◌++◌, arith, append-nil, append_assoc, length-append, ⊤, ◌==◌, cases_Bool, Row, Owned, of, owned_by, is_of, is_row, next, put_all, set_row, set_rows, Text, Books, Consignment, Table, Customers, CopyRows, Rentals, TermRows, Payments, RowOf, RowsOf, rows_of, if_same, with_rows, Edit, Put, Set, PutLot, Append, Update, edited, all_edited, Catalogue, opening}
+use Rattle.shop_model.proofs.Common.{◌≡◌, map, inl, inr, ℕ, ◌+◌, ◌≤◌, List, [], ◌∷◌, length, filter, refl, sym, ap, ◌∙◌, ◌++◌, arith, append-nil, append_assoc, length-append, ⊤, ◌==◌, cases_Bool, Row, Owned, of, owned_by, is_of, is_row, next, put_all, set_row, set_rows, Text, Books, Consignment, Table, Customers, CopyRows, Rentals, TermRows, Payments, RowOf, RowsOf, rows_of, if_same, with_rows, Edit, Put, Set, PutLot, Append, Update, edited, all_edited, Catalogue, opening}
 use Rattle.shop_model.specs.Rows.{put}
 use Rattle.shop_model.proofs.RowLemmas.{same_test, more_yes, put_own, put_other, set_same, length_map}
+use Rattle.shop_model.specs.Books.{shop_of, unmarked}
 
 pub same_or : (F : Table → Type 0) (P : (t : Table) → F t → Type 0) (t u : Table) (x : F t) (y : F u) → P t x → P u y → P u (if_same F t u x y)
 same_or F P Customers Customers x y first second = first
@@ -24,6 +25,12 @@ by_table P t new books is old u = same_or RowsOf P t u new (rows_of books u) is 
 pub by_none : (P : (t : Table) → RowsOf t → Type 0) (catalogue : Catalogue) → ((t : Table) → P t []) → (t : Table) → P t (rows_of (opening catalogue) t)
 by_none P catalogue is Customers = is Customers
 by_none P catalogue is t = is t
+
+-- other rows in one table, of which the branch has the same
+pub tables_stay : (b : ℕ) (t : Table) (new : List (Row (RowOf t))) (books : Books) → of b new ≡ of b (rows_of books t) → shop_of b (with_rows t new books) ≡ shop_of b books
+tables_stay b t new books same =
+    let all = by_table (λ u its. of b its ≡ of b (rows_of books u)) t new books same (λ u. refl) in
+    λ i. record (shop_of b books) { customers = all Customers i; copies = map unmarked (all CopyRows i); rentals = all Rentals i; terms = all TermRows i; payments = all Payments i }
 
 -- ---- one edit after another
 

@@ -1,9 +1,8 @@
 -- Each command of head office keeps what holds of the catalogue.
-use Rattle.shop_model.proofs.Common.{◌≡◌, ℕ, ◌≤◌, [], ◌∷◌, ◌++◌, filter, length, true, false, not, None, Some, refl, ◌∙◌, arith, length-append, ◌==◌, ◌&&◌, nat_le, option_to_list, list_any, list_all, bytes_eq, or_parts, at, lacks, Text, City, Film, Cast, Branch, Staff, Customer, Copy, Rental, Payment, Arrival, OfficeAct, AddCountry, AddCity, AddLanguage, AddCategory, AddActor, AddFilm, PriceFilm, WithdrawFilm, AddCast, AddBranch, AddStaff, StaffLeaves, SetManager, OfficeCommand, Rules, Full, OfficeKept, Catalogue, Shop, Accepted, first, office_refusals, office_verdict, office_acted, office_done, office_text, has_row, are_different, is_staff_of, IsLinkedShop, NamesRowsOf, HasSharedSizes, HasNoDoubles, IsGoodCatalogue}
-use Rattle.shop_model.proofs.Isolation.{NoneHold, nothing_kept, none_hold}
+use Rattle.shop_model.proofs.Common.{◌≡◌, ℕ, ◌≤◌, [], ◌∷◌, ◌++◌, filter, length, true, false, not, None, Some, refl, ◌∙◌, arith, length-append, ◌==◌, ◌&&◌, nat_le, option_to_list, list_any, list_all, bytes_eq, or_parts, at, lacks, Text, City, Film, Cast, Branch, Staff, OfficeAct, AddCountry, AddCity, AddLanguage, AddCategory, AddActor, AddFilm, PriceFilm, WithdrawFilm, AddCast, AddBranch, AddStaff, StaffLeaves, SetManager, OfficeCommand, Rules, Full, OfficeKept, Catalogue, Accepted, first, office_refusals, office_verdict, office_acted, office_done, office_text, has_row, are_different, is_staff_of, NamesRowsOf, HasSharedSizes, HasNoDoubles, IsGoodCatalogue}
+use Rattle.shop_model.proofs.Accepted.{NoneHold, nothing_kept, none_hold}
 use Rattle.shop_model.proofs.GoodShops.{all_more, all_weaker, length_set, key_room}
-use Rattle.shop_model.proofs.LinkLemmas.{all_set, some_passes, has_more, has_set, any_at_more, any_at_set, all_at_more, all_at_set, different_more, different_set, none_left}
-use Rattle.shop_model.proofs.LinkedShops.{is_there}
+use Rattle.shop_model.proofs.LinkLemmas.{all_set, some_passes, has_more, has_set, any_at_more, any_at_set, all_at_more, all_at_set, different_more, different_set, none_left, is_there}
 
 -- what is there in the one is there in the other
 pub record Grows (old new : Catalogue) : Type 0 where
@@ -171,21 +170,3 @@ good_done rules sizes command it most good e =
       tokens = tokens.tokens;
       office_token = tokens.office_token;
     }
-
--- ---- a shop, when the catalogue has grown
-
-pub linked_grows : (b : ℕ) (old new : Catalogue) (shop : Shop) → Grows old new → IsLinkedShop b old shop → IsLinkedShop b new shop
-linked_grows b old new shop g h = record {
-  customer_cities = all_weaker (λ (x : Customer). has_row old.cities x.person.city) _ shop.customers (λ (x : Customer) is. g.cities x.person.city is) h.customer_cities;
-  copy_films = all_weaker (λ (x : Copy). has_row old.films x.film) _ shop.copies (λ (x : Copy) is. g.films x.film is) h.copy_films;
-  rental_copies = h.rental_copies;
-  rental_customers = h.rental_customers;
-  rental_staff = all_weaker (λ (x : Rental). is_staff_of b old.staff x.staff) _ shop.rentals (λ (x : Rental) is. g.staff b x.staff is) h.rental_staff;
-  payment_customers = h.payment_customers;
-  payment_staff = all_weaker (λ (x : Payment). is_staff_of b old.staff x.staff) _ shop.payments (λ (x : Payment) is. g.staff b x.staff is) h.payment_staff;
-  payment_rentals = h.payment_rentals;
-  arrival_films = all_weaker (λ (x : Arrival). list_all (has_row old.films) x.films) _ shop.arrivals (λ (x : Arrival) is. all_weaker (has_row old.films) (has_row new.films) x.films g.films is) h.arrival_films;
-  parcels = h.parcels;
-  lots = h.lots;
-  keys = h.keys;
-}

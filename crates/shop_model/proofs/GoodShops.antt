@@ -7,7 +7,7 @@ use Rattle.shop_model.proofs.RowLemmas.{same_test, more_yes, length_map, put_own
 use Rattle.shop_model.proofs.EditLemmas.{by_table, AskedOfEach, each_keeps, grown, new_lots, new_sends, rows_edited, lots_edited}
 use Rattle.shop_model.proofs.ShopLemmas.{incoming_come, last_own}
 use Rattle.shop_model.proofs.NumberLemmas.{sends_numbered, sends_edited}
-use Rattle.shop_model.proofs.Isolation.{NoneHold}
+use Rattle.shop_model.proofs.Accepted.{NoneHold}
 use Rattle.shop_model.proofs.LinkLemmas.{all_set, any_same, different_more, different_set}
 
 -- ---- lists

@@ -1,59 +1,15 @@
 -- What a branch is told depends on its own shop, the catalogue and its view alone.
-use Rattle.shop_model.proofs.Common.{◌≡◌, inl, inr, ℕ, List, [], ◌∷◌, ◌++◌, filter, Bool, false, refl, sym, ap, subst, ◌∙◌, append_assoc, ⊤, ◌==◌, bytes_eq, cases_Bool, true≢false, Moment, Act, AddCustomer, Dispatch, Command, OfficeAsk, Rules, Refusal, Kept, Shop, Catalogue, Verdict, Again, Refused, Accepted, first, resent, refusals, act_refusals, verdict, office_verdict, Reply, State, Request, Do, Office, Input, FromOffice, Own, done, office_done, if_accepted, moved, answers, replies, state_after, Books, Caller, Counter, HeadOffice, Nobody, shop_of, state_of, book_acted, book_done, branch_after, after_for, after, reply_for, reply_in, caller_in, is_counter, replies_to, run, parcel_seen, other_seen, office_seen, seen_of, view, HasNumbers, BranchesAreAlone, BranchesAreIsolated, Text, resent_by, KeyUsed}
-use Rattle.shop_model.proofs.RowLemmas.{same_if, same_test}
-use Rattle.shop_model.proofs.ShopLemmas.{done_own, done_other, with_arrivals}
+use Rattle.shop_model.proofs.Common.{◌≡◌, inl, inr, ℕ, List, [], ◌∷◌, ◌++◌, false, refl, sym, ap, ◌∙◌, append_assoc, ◌==◌, cases_Bool, Act, Dispatch, OfficeAsk, Rules, verdict, office_verdict, Reply, State, Request, Do, Office, Input, FromOffice, Own, done, office_done, if_accepted, moved, answers, replies, state_after, Books, Caller, Counter, HeadOffice, Nobody, shop_of, state_of, book_done, branch_after, after_for, after, reply_for, reply_in, caller_in, is_counter, replies_to, run, parcel_seen, other_seen, office_seen, seen_of, view, HasNumbers, BranchesAreAlone, BranchesAreIsolated}
+use Rattle.shop_model.proofs.RowLemmas.{same_if}
+use Rattle.shop_model.proofs.ShopLemmas.{done_other, with_arrivals}
+use Rattle.shop_model.proofs.ActLaws.{done_own}
 use Rattle.shop_model.proofs.NumberLemmas.{after_numbers}
 use Rattle.shop_model.proofs.SameStates.{by_cases, by_verdict, told_same}
+use Rattle.shop_model.proofs.Accepted.{act_holds, not_self, catalogue_stays}
 
 -- ---- verdicts
 
--- of an accepted command no refusal holds
-pub first_holds : (c : Refusal × Bool) (cs : List (Refusal × Bool)) → first (c ∷ cs) ≡ Accepted → (c.1 ≡ false) × (first cs ≡ Accepted)
-first_holds c cs e = elim (cases_Bool c.1) [
-  | inl is ↦ let no : Refused c.0 ≡ Accepted = rw is at e in cc
-  | inr isnt ↦ (isnt, rw isnt at e)
-]
-
--- and nothing was kept under its key
-pub nothing_kept : {A : Type 0} (same : A → Bool) (reply : A → Text) (kept : List A) (v : Verdict) → resent_by same reply kept v ≡ Accepted → (kept ≡ []) × (v ≡ Accepted)
-nothing_kept same reply [] v e = (refl, e)
-nothing_kept same reply (k ∷ kept) v e = elim (cases_Bool (same k)) [
-  | inl is ↦ let no : Again (reply k) ≡ Accepted = rw is at e in cc
-  | inr isnt ↦ let no : Refused KeyUsed ≡ Accepted = rw isnt at e in cc
-]
-
-pub none_kept : (command : Command) (kept : List Kept) (v : Verdict) → resent command kept v ≡ Accepted → (kept ≡ []) × (v ≡ Accepted)
-none_kept command kept v e = nothing_kept _ _ kept v e
-
-abbrev pub NoneHold : List (Refusal × Bool) → Type 0
-NoneHold [] = ⊤
-NoneHold (c ∷ cs) = (c.1 ≡ false) × NoneHold cs
-
-pub none_hold : (cs : List (Refusal × Bool)) → first cs ≡ Accepted → NoneHold cs
-none_hold [] e = tt
-none_hold (c ∷ cs) e = let h = first_holds c cs e in (h.0, none_hold cs h.1)
-
--- of an accepted command
-pub accepted_holds : (rules : Rules) (b : ℕ) (catalogue : Catalogue) (shop : Shop) (command : Command) → verdict rules b catalogue shop command ≡ Accepted
-    → NoneHold (refusals rules b catalogue shop command)
-accepted_holds rules b catalogue shop command e =
-    none_hold (refusals rules b catalogue shop command) (none_kept command (filter (λ (k : Kept). bytes_eq k.command.key command.key) shop.kept) (first (refusals rules b catalogue shop command)) e).1
-
-pub act_holds : (rules : Rules) (b : ℕ) (catalogue : Catalogue) (shop : Shop) (command : Command) → verdict rules b catalogue shop command ≡ Accepted
-    → NoneHold (act_refusals rules b catalogue shop command.moment command.act)
-act_holds rules b catalogue shop command e = (accepted_holds rules b catalogue shop command e).1.1.1
-
-pub not_self : (rules : Rules) (b : ℕ) (catalogue : Catalogue) (shop : Shop) (moment : Moment) (act : Act) → NoneHold (act_refusals rules b catalogue shop moment act) → (xs : List ℕ) → act ≡ Dispatch b xs → ⊥
-not_self rules b catalogue shop moment act none xs is =
-    let P : Act → Type 0 = λ a. NoneHold (act_refusals rules b catalogue shop moment a) in
-    let all : NoneHold (act_refusals rules b catalogue shop moment (Dispatch b xs)) = subst P is none in
-    true≢false (sym (same_test b) ∙ all.1.1.1.1.0)
-
 -- ---- one event
-
-pub catalogue_stays : (rules : Rules) (b : ℕ) (command : Command) (act : Act) (books : Books) → (book_acted rules b command act books).catalogue ≡ books.catalogue
-catalogue_stays rules b command (AddCustomer person) books = refl
-catalogue_stays rules b command act books = refl
 
 parcel_state : (rules : Rules) (b c : ℕ) (act : Act) (books : Books) → ◌≡◌ {A = State} (record { catalogue = books.catalogue; shop = with_arrivals b c act books }) (state_after rules b (parcel_seen b c act books) (state_of b books))
 parcel_state rules b c (Dispatch to xs) books = elim (cases_Bool (to == b)) [ inl is ↦ rw is | inr isnt ↦ rw isnt ]

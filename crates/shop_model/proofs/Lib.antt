@@ -6,14 +6,15 @@ pub mod ShopLemmas
 pub mod NumberLemmas
 pub mod Reordered
 pub mod SameStates
+pub mod Accepted
 pub mod Isolation
 pub mod CustodyLemmas
 pub mod GoodShops
 pub mod Origins
 pub mod LinkLemmas
-pub mod LinkedShops
-pub mod Allowed
+pub mod ActLaws
 pub mod GoodCatalogues
+pub mod LinkedShops
 pub mod Owners
 pub mod Soundness
 pub mod Migration

@@ -159,3 +159,6 @@ none_left {A = A} p (x ∷ xs) none = elim (cases_Bool (p x)) [
   | inl is ↦ let e : ◌≡◌ {A = List A} (x ∷ filter p xs) [] = rw is at none in cc
   | inr isnt ↦ rw isnt (none_left p xs (rw isnt at none))
 ]
+
+pub is_there : {A : Type 0} (rows : List A) (n : ℕ) → lacks rows n ≡ false → has_row rows n ≡ true
+is_there rows n e = rw e

@@ -1,17 +1,15 @@
 -- Each step keeps what the rows of a shop name.
-use Rattle.shop_model.proofs.Common.{◌≡◌, inl, inr, ℕ, ◌-◌, List, [], ◌∷◌, ◌++◌, filter, map, Bool, true, false, refl, sym, subst, ap, ◌∙◌, ⊤, ◌==◌, ◌&&◌, option_to_list, list_any, list_all, bytes_eq, cases_Bool, Row, Owned, of, owned_by, is_of, next, put_all, set_rows, AreNumbered, at, lacks, set_at, set_all, Text, Customer, Copy, Rental, Payment, Arrival, Act, Command, Rules, Kept, Shop, Catalogue, films_at, reply_text, Books, BookCopy, Line, Consignment, Table, Customers, CopyRows, Rentals, Payments, RowOf, rows_of, with_rows, Edit, Put, Set, PutLot, Append, Update, edited, edits_of, book_acted, book_done, shop_of, unmarked, as_arrival, as_parcel, has_row, are_different, is_staff_of, pays_for, is_parcel, IsLinkedShop, HasNumbers, AreRowsNumbered, Terms}
+use Rattle.shop_model.proofs.Common.{◌≡◌, opening, inl, inr, ℕ, ◌-◌, List, [], ◌∷◌, ◌++◌, filter, map, Bool, true, false, refl, sym, subst, ap, ◌∙◌, ⊤, ◌==◌, ◌&&◌, option_to_list, list_any, list_all, bytes_eq, cases_Bool, Row, Owned, of, owned_by, is_of, next, put_all, set_rows, AreNumbered, at, set_at, set_all, Text, Customer, Copy, Rental, Payment, Arrival, Act, Command, Rules, Kept, Shop, Catalogue, films_at, reply_text, Books, BookCopy, Line, Consignment, Table, Customers, CopyRows, Rentals, Payments, RowOf, rows_of, with_rows, Edit, Put, Set, PutLot, Append, Update, edited, edits_of, book_acted, book_done, shop_of, unmarked, as_arrival, as_parcel, has_row, are_different, is_staff_of, pays_for, is_parcel, IsLinkedShop, HasNumbers, AreRowsNumbered, Terms}
 use mathlib.Core.Path.{fun_ext}
 use Rattle.std.proofs.lemmas.List.Folds.{list_all-map}
 use Rattle.shop_model.proofs.RowLemmas.{same_test, more_yes, more_no, set_same, put_all_counted, set_rows_own, set_rows_counted}
 use Rattle.shop_model.proofs.ShopLemmas.{with_arrivals, arrived_or_same}
 use Rattle.shop_model.proofs.EditLemmas.{by_table, AskedOfEach, each_keeps, new_its, put_all_its}
-use Rattle.shop_model.proofs.Isolation.{catalogue_stays}
+use Rattle.shop_model.proofs.Accepted.{catalogue_stays}
 use Rattle.shop_model.proofs.GoodShops.{all_more, all_weaker}
 use Rattle.shop_model.proofs.Origins.{all_append}
 use Rattle.shop_model.proofs.LinkLemmas.{has_more, has_set_all, any_at_more, any_at_set, all_at, all_set_all, all_mapped, different_more}
-
-pub is_there : {A : Type 0} (rows : List A) (n : ℕ) → lacks rows n ≡ false → has_row rows n ≡ true
-is_there rows n e = rw e
+use Rattle.shop_model.proofs.GoodCatalogues.{Grows}
 
 -- ---- a branch's tables
 
@@ -241,3 +239,24 @@ pub linked_other : (b c : ℕ) (act : Act) (books : Books) → IsLinkedShop b bo
 linked_other b c act books h from =
     arrived_or_same (IsLinkedShop b books.catalogue) b c act books (λ xs. linked_same b books.catalogue (shop_of b books) _ _ h
     (all_more (λ (it : Arrival). list_all (has_row books.catalogue.films) it.films) (shop_of b books).arrivals _ h.arrival_films (outgoing_films books.catalogue xs (shop_of c books).copies from.copy_films))) h
+
+-- ---- when the catalogue has grown, and when there is nothing
+
+pub linked_grows : (b : ℕ) (old new : Catalogue) (shop : Shop) → Grows old new → IsLinkedShop b old shop → IsLinkedShop b new shop
+linked_grows b old new shop g h = record {
+  customer_cities = all_weaker (λ (x : Customer). has_row old.cities x.person.city) _ shop.customers (λ (x : Customer) is. g.cities x.person.city is) h.customer_cities;
+  copy_films = all_weaker (λ (x : Copy). has_row old.films x.film) _ shop.copies (λ (x : Copy) is. g.films x.film is) h.copy_films;
+  rental_copies = h.rental_copies;
+  rental_customers = h.rental_customers;
+  rental_staff = all_weaker (λ (x : Rental). is_staff_of b old.staff x.staff) _ shop.rentals (λ (x : Rental) is. g.staff b x.staff is) h.rental_staff;
+  payment_customers = h.payment_customers;
+  payment_staff = all_weaker (λ (x : Payment). is_staff_of b old.staff x.staff) _ shop.payments (λ (x : Payment) is. g.staff b x.staff is) h.payment_staff;
+  payment_rentals = h.payment_rentals;
+  arrival_films = all_weaker (λ (x : Arrival). list_all (has_row old.films) x.films) _ shop.arrivals (λ (x : Arrival) is. all_weaker (has_row old.films) (has_row new.films) x.films g.films is) h.arrival_films;
+  parcels = h.parcels;
+  lots = h.lots;
+  keys = h.keys;
+}
+
+pub linked_opening : (b : ℕ) (catalogue : Catalogue) → IsLinkedShop b catalogue (shop_of b (opening catalogue))
+linked_opening b catalogue = record { customer_cities = refl; copy_films = refl; rental_copies = refl; rental_customers = refl; rental_staff = refl; payment_customers = refl; payment_staff = refl; payment_rentals = refl; arrival_films = refl; parcels = refl; lots = refl; keys = refl }

@@ -2,7 +2,7 @@
 use Rattle.shop_model.proofs.Common.{◌≡◌, inl, inr, ℕ, ◌+◌, List, [], ◌∷◌, map, length, Bool, true, not, refl, subst, ap, ◌∙◌, arith, ◌==◌, list_any, list_all, cases_Bool, and_parts, false≢true, map_push, Row, Owned, at, next, put_all, set_row, set_rows, update_where, is_row, IsCounted, Moment, Text, Branch, Staff, Act, Dispatch, Receive, Command, Rules, Kept, Catalogue, act_refusals, staff_is, reply_text, Books, Consignment, Table, RowOf, RowsOf, rows_of, with_rows, Edit, Put, Set, PutLot, Append, Update, edited, edits_of, shop_of, book_acted, book_done, has_row, is_staff_of, HasOwners, AreRowsOwned}
 use Rattle.shop_model.specs.Rows.{put}
 use Rattle.shop_model.proofs.RowLemmas.{same_if, length_map, counted_more}
-use Rattle.shop_model.proofs.Isolation.{NoneHold}
+use Rattle.shop_model.proofs.Accepted.{NoneHold}
 use Rattle.shop_model.proofs.EditLemmas.{by_table, AskedOfSend, AskedOfSends, sends_keep}
 use Rattle.shop_model.proofs.GoodShops.{all_more, all_weaker}
 use Rattle.shop_model.proofs.Origins.{all_filter}

@@ -1,12 +1,13 @@
 -- In a run a command that comes again gets its first reply, and changes nothing.
 use Rattle.shop_model.proofs.Common.{◌≡◌, inl, inr, ℕ, zero, suc, ◌+◌, ◌-◌, ◌<◌, length, List, [], ◌∷◌, ◌++◌, filter, map, Bool, true, false, not, Some, None, Option, refl, sym, subst, ap, ◌∙◌, arith, append-nil, ◌==◌, nat_le, slice_get, ⊤, list_any, list_all, bytes_eq, cases_Bool, or_parts, and_parts, not-true, false≢true, Owned, set_at, owned_by, Text, Branch, Command, OfficeAct, AddBranch, SetManager, OfficeCommand, OfficeAsk, Rules, Refusal, TooLong, NoRoute, KeyUsed, Full, Kept, OfficeKept, Catalogue, Verdict, Again, Refused, resent, verdict, first, refusals, office_refusals, office_resent, office_verdict, Request, Do, Office, Reply, Sorry, Done, reply_text, office_text, reply_by, if_accepted, office_acted, office_done, catalogue_after, Answer, answer_of, Books, Event, Caller, Counter, HeadOffice, Nobody, shop_of, book_done, branch_with, caller_of, reply_for, after_for, after, caller_in, reply_in, run, is_decided, is_store_failure, fails_for_good, counted_in, are_new, marked_ones, books_next, books_at, FindsCounted, Asks, is_command, Keeps, IsRepeat, GetsKeptReply, is_nobody, KeepsCallers, RunsResend, KeptRowsAreKept, are_different, bytes_eq-Decides, filter-append, ◌≤◌, last_books, ResentIsAgain, OfficeResentIsAgain, resent_by, ◌⊎◌}
 use Rattle.shop_model.proofs.RowLemmas.{more_yes, more_no}
-use Rattle.shop_model.proofs.Resent.{bytes_same, command_same as branch_same, done_again as branch_again}
+use Rattle.shop_model.proofs.Resent.{done_again as branch_again}
+use Rattle.shop_model.proofs.ActLaws.{bytes_same, command_same as branch_same}
 use Rattle.shop_model.proofs.OfficeResent.{command_same as office_same, done_again as office_again}
 use Rattle.shop_model.proofs.Repeats as repeats
 use Rattle.shop_model.proofs.Histories.{decided_failure}
 use Rattle.shop_model.proofs.SameStates.{by_cases, by_verdict}
-use Rattle.shop_model.proofs.Isolation.{catalogue_stays}
+use Rattle.shop_model.proofs.Accepted.{catalogue_stays}
 
 -- ---- a token stays whose it is
 

@@ -1,39 +1,8 @@
 -- A command that was accepted and comes again gets its first reply, whatever has happened since.
-use Rattle.shop_model.proofs.Common.{◌≡◌, ℕ, List, [], ◌∷◌, ◌++◌, filter, Bool, true, false, None, Some, refl, ap, ◌∙◌, ◌==◌, bytes_eq, bytes_eq-Decides, Owned, Moment, same_moment, Text, Person, Act, AddCustomer, SetActive, Rent, TakeBack, Pay, Import, Dispatch, Receive, Scrap, Command, Rules, Kept, same_option, same_flag, same_person, same_act, same_command, Accepted, resent, verdict, first, refusals, reply_text, Books, shop_of, book_done, Again}
-use Rattle.std.specs.Prelude.{Option}
+use Rattle.shop_model.proofs.Common.{◌≡◌, ℕ, List, [], ◌∷◌, ◌++◌, filter, refl, ap, ◌∙◌, ◌==◌, bytes_eq, Owned, Text, Command, Rules, Kept, Accepted, resent, verdict, first, refusals, reply_text, Books, shop_of, book_done, Again}
 use Rattle.shop_model.proofs.RowLemmas.{same_test, one_more, more_yes}
-use Rattle.shop_model.proofs.Isolation.{none_kept}
-
-pub bytes_same : (x : Text) → bytes_eq x x ≡ true
-bytes_same x = (bytes_eq-Decides x x).1 refl
-
-pub option_same : (o : Option ℕ) → same_option o o ≡ true
-option_same None = refl
-option_same (Some n) = same_test n
-
-pub flag_same : (a : Bool) → same_flag a a ≡ true
-flag_same true = refl
-flag_same false = refl
-
-pub person_same : (p : Person) → same_person p p ≡ true
-person_same p = rw (bytes_same p.first, bytes_same p.last, bytes_same p.address, bytes_same p.postal, bytes_same p.phone, same_test p.city)
-
-act_same : (a : Act) → same_act a a ≡ true
-act_same (AddCustomer n) = person_same n.person
-act_same (SetActive c active) = rw (same_test c, flag_same active)
-act_same (Rent c x) = simp same_test
-act_same (TakeBack r) = same_test r
-act_same (Pay c r amount) = rw (same_test c, option_same r, same_test amount)
-act_same (Import lot file) = simp bytes_same
-act_same (Dispatch a xs) = rw (same_test a, bytes_same xs)
-act_same (Receive s n missing) = simp (same_test, bytes_same)
-act_same (Scrap x) = same_test x
-
-pub moment_same : (m : Moment) → same_moment m m ≡ true
-moment_same m = rw (same_test m.year, same_test m.month, same_test m.day, same_test m.hour, same_test m.minute, same_test m.second)
-
-pub command_same : (c : Command) → same_command c c ≡ true
-command_same c = rw (bytes_same c.key, same_test c.staff, moment_same c.moment, act_same c.act)
+use Rattle.shop_model.proofs.Accepted.{none_kept}
+use Rattle.shop_model.proofs.ActLaws.{bytes_same, command_same}
 
 -- ---- what is kept under a key
 

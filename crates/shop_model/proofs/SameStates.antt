@@ -1,9 +1,10 @@
 -- In states that are the same but for the order of maps and sets a branch is told the same, and each step leaves such states.
-use Rattle.shop_model.proofs.Common.{◌≡◌, inl, inr, ℕ, ◌+◌, List, [], ◌∷◌, ◌++◌, length, filter, find, Bool, true, false, Option, None, Some, refl, sym, ap, ap₂, subst, ◌∙◌, arith, length-append, ◌==◌, ◌&&◌, ◌||◌, nat_lt, nat_le, if◌then◌else◌, codes, option_or, bytes_eq, list_any, join_by, cases_Bool, find-append, list_any-append, at, is_empty, lacks, numbered, Moment, month_before, Text, Actor, Film, Cast, Act, AddCustomer, Import, Command, OfficeAct, AddCountry, AddCast, OfficeCommand, View, FilmList, ActorInfo, Ask, Rewards, OneView, Stock, Copies, BadLine, Rules, Refusal, KeyUsed, Full, MomentBack, NoStaff, NoFilm, FilmWithdrawn, LotIn, BadCsv, NoSharedRow, Already, BadThreshold, Kept, OfficeKept, Catalogue, Shop, same_command, same_office, rewarded_in, Verdict, Again, Refused, Accepted, first, staff_is, is_film_withdrawn, new_copies, is_full, import_refusals, act_refusals, is_before, refusals, verdict, office_refusals, office_verdict, object, acted, done, office_acted, office_told, office_done, Request, Do, Look, CustomersAre, FilmsListed, ActorsListed, Reply, Sorry, Shows, view_rows, look, reply_by, reply_to, if_accepted, State, Input, FromOffice, Arrive, Own, shop_after, catalogue_after, moved, answers, rest_of_shop, rest_of_catalogue, SameShop, SameCatalogue, SameState, IsToldTheSame, OrderTellsNothing, resent_by}
+use Rattle.shop_model.proofs.Common.{◌≡◌, inl, inr, ℕ, ◌+◌, List, [], ◌∷◌, ◌++◌, length, filter, find, Bool, true, false, Option, None, Some, refl, sym, ap, ap₂, subst, ◌∙◌, arith, length-append, ◌==◌, ◌&&◌, ◌||◌, nat_lt, nat_le, if◌then◌else◌, codes, option_or, bytes_eq, list_any, join_by, cases_Bool, find-append, list_any-append, at, is_empty, lacks, numbered, Moment, month_before, Text, Actor, Film, Cast, Act, AddCustomer, Import, Command, OfficeAct, AddCountry, AddCast, OfficeCommand, View, FilmList, ActorInfo, Ask, Rewards, OneView, Stock, Copies, BadLine, Rules, Refusal, KeyUsed, Full, MomentBack, NoStaff, NoFilm, FilmWithdrawn, LotIn, BadCsv, NoSharedRow, Already, BadThreshold, Kept, OfficeKept, Catalogue, Shop, same_command, same_office, rewarded_in, Verdict, Again, Refused, Accepted, first, staff_is, is_film_withdrawn, new_copies, is_full, import_refusals, act_refusals, is_before, refusals, verdict, office_refusals, office_verdict, object, acted, done, office_acted, office_told, office_done, Request, Do, Look, CustomersAre, Reply, Sorry, Shows, look, reply_by, reply_to, if_accepted, State, Input, FromOffice, Arrive, Own, shop_after, catalogue_after, moved, answers, rest_of_shop, rest_of_catalogue, SameShop, SameCatalogue, SameState, IsToldTheSame, OrderTellsNothing, resent_by}
 use mathlib.Core.Path.{fun_ext}
 use Rattle.std.specs.Prelude.{not, map}
-use Rattle.shop_model.specs.Views.{sorted_by, is_before_text, full_name, is_cast, FilmRow, film_row, film_list, categories_by_name, ActorRow, actor_row, actor_info}
-use Rattle.shop_model.specs.Machine.{told, Shown}
+use Rattle.shop_model.specs.Views.{sorted_by, is_before_text, full_name, is_cast, FilmRow, film_row, listed_film, film_list, categories_by_name, ActorRow, actor_row, listed_actor, actor_info, view_rows}
+use Rattle.shop_model.specs.Machine.{RowsAre}
+use Rattle.shop_model.specs.Acts.{told}
 use Rattle.shop_model.proofs.Reordered.{reordered_same}
 
 -- ---- maps and sets that grow
@@ -145,8 +146,8 @@ actor_info_same : (c d : Catalogue) → SameCatalogue c d → actor_info c ≡ a
 actor_info_same c d shared = ap₂ actors_by (cast_same c d shared) shared.rest
 
 views_same : (b : ℕ) (view : View) (c d : Catalogue) (s t : Shop) → SameCatalogue c d → SameShop s t → view_rows b c s view ≡ view_rows b d t view
-views_same b FilmList c d s t shared own = ap (λ (rows : List FilmRow). FilmsListed rows) (film_list_same c d shared)
-views_same b ActorInfo c d s t shared own = ap (λ (rows : List ActorRow). ActorsListed rows) (actor_info_same c d shared)
+views_same b FilmList c d s t shared own = ap (map listed_film) (film_list_same c d shared)
+views_same b ActorInfo c d s t shared own = ap (map listed_actor) (actor_info_same c d shared)
 views_same b view c d s t shared own = ap₂ (λ (q : Catalogue) (r : Shop). view_rows b q r view) shared.rest own.rest
 
 rewarded_same : (days : Option (ℕ × ℕ)) (purchases cents : ℕ) (s t : Shop) → rest_of_shop s ≡ rest_of_shop t → rewarded_in days s purchases cents ≡ rewarded_in days t purchases cents
@@ -154,7 +155,7 @@ rewarded_same None purchases cents s t e = refl
 rewarded_same (Some days) purchases cents s t e = ap (λ (r : Shop). rewarded_in (Some days) r purchases cents) e
 
 looks_same : (b : ℕ) (ask : Ask) (c d : Catalogue) (s t : Shop) → SameCatalogue c d → SameShop s t → look b c s ask ≡ look b d t ask
-looks_same b (OneView view) c d s t shared own = ap (λ (shown : Shown). Shows shown) (views_same b view c d s t shared own)
+looks_same b (OneView view) c d s t shared own = ap (λ (texts : List Text). Shows (RowsAre texts)) (views_same b view c d s t shared own)
 looks_same b (Rewards moment purchases cents) c d s t shared own =
     let told : List ℕ → Reply = λ customers. if nat_lt 0 purchases then (if nat_lt 0 cents then Shows (CustomersAre customers) else Sorry BadThreshold) else Sorry BadThreshold in
     ap told (rewarded_same (month_before moment) purchases cents s t own.rest)

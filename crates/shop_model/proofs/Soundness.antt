@@ -3,16 +3,16 @@ use Rattle.shop_model.proofs.Common.{◌≡◌, inl, inr, ℕ, ◌+◌, ◌-◌,
 use Rattle.std.proofs.Math.Bool.{and-false}
 use Rattle.std.proofs.lemmas.Map.Views.{any-filter_same}
 use Rattle.shop_model.proofs.RowLemmas.{same_if, same_test, differ_if, row_at, one_more, length_map, turned, equal_test}
-use Rattle.shop_model.proofs.ShopLemmas.{arrival_of, done_own, done_other, arrived_or_same}
+use Rattle.shop_model.proofs.ShopLemmas.{arrival_of, done_other, arrived_or_same}
+use Rattle.shop_model.proofs.ActLaws.{done_own, IsAllowed, edits_allowed}
 use Rattle.shop_model.proofs.NumberLemmas.{acted_numbers}
 use Rattle.shop_model.proofs.SameStates.{by_verdict}
-use Rattle.shop_model.proofs.Isolation.{none_kept, NoneHold, accepted_holds, act_holds, not_self, catalogue_stays}
+use Rattle.shop_model.proofs.Accepted.{none_kept, NoneHold, accepted_holds, act_holds, not_self, catalogue_stays}
 use Rattle.shop_model.proofs.GoodShops.{IsGoodEdit, all_weaker, good_shop_done, length_set, all_more}
 use Rattle.shop_model.proofs.LinkLemmas.{at_set_other, none_left, all_mapped, any_at_more, all_at, one_at, some_passes}
-use Rattle.shop_model.proofs.LinkedShops.{IsLinkedEdit, linked_done, linked_other}
-use Rattle.shop_model.proofs.Allowed.{IsAllowed, edits_allowed}
+use Rattle.shop_model.proofs.LinkedShops.{IsLinkedEdit, linked_opening, linked_done, linked_other, linked_grows}
 use Rattle.shop_model.proofs.EditLemmas.{by_none, each_weaker}
-use Rattle.shop_model.proofs.GoodCatalogues.{Grows, done_grows, good_done, linked_grows}
+use Rattle.shop_model.proofs.GoodCatalogues.{Grows, done_grows, good_done}
 use Rattle.shop_model.proofs.Owners.{staff_works, branch_there, owners_done, owners_grow, places_kept}
 use Rattle.shop_model.proofs.Origins.{all_append, origins_kept, lines_more as more_lines}
 use Rattle.shop_model.proofs.CustodyLemmas.{total-append, AreHere, AllHere, scrapped_total, sent_total, state_made, states_made, lines_sent, lines_unlost, import_total, unpacked_total, unpacked_made, UnderWayOld, under_way_old, made_old, made_once, AreOpen, come_old, received_total, settled_checked, settled_new, left_are}
@@ -436,7 +436,7 @@ opening_sound rules catalogue good = record {
   lasts = refl;
   held = λ b. record { one = λ x. omega arith; here = λ x out. absurd (true≢false out) };
   shops = λ b. record { apart = refl; created = refl; rented = refl; paid = refl; rentals_rise = refl; payments_rise = refl; keys = omega arith; copies = omega arith; customers_fit = omega arith; rentals_fit = omega arith; payments_fit = omega arith; lots_fit = omega arith; sent_fit = omega arith };
-  links = λ b. record { customer_cities = refl; copy_films = refl; rental_copies = refl; rental_customers = refl; rental_staff = refl; payment_customers = refl; payment_staff = refl; payment_rentals = refl; arrival_films = refl; parcels = refl; lots = refl; keys = refl };
+  links = λ b. linked_opening b catalogue;
   terms = λ b. refl;
 }
 

@@ -1,12 +1,11 @@
 -- What a caller is sent for a reply: a status and a body. A body is JSON, its members in the byte order of their names; the names are our own.
-use Rattle.std.specs.Prelude.{ℕ, ◌+◌, ◌==◌, Bool, if◌then◌else◌, List, [], ◌∷◌, ◌++◌, length, map, filter, codes, decimal}
+use Rattle.std.specs.Prelude.{ℕ, ◌+◌, ◌==◌, List, [], ◌∷◌, ◌++◌, length, map, filter, codes, decimal}
 use Rattle.std.specs.Fmt.{signed_decimal}
 use Rattle.shop_model.specs.Calendar.{moment_text}
 use Rattle.shop_model.specs.Values.{Text, Customer, Film, Arrival, Parcel}
 use Rattle.shop_model.specs.Refusals.{BadCsv, Problem, Decision, problem_name, problem_status}
 use Rattle.shop_model.specs.Json.{quoted, flag_text, number_or_null, array, numbers_text, object}
-use Rattle.shop_model.specs.Views.{OverdueRow, PersonRow, FilmRow, ActorRow, StoreRow}
-use Rattle.shop_model.specs.Machine.{Shown, CustomerIs, FilmIs, InStockIs, HolderIs, CopiesAre, BalanceIs, OverdueAre, CustomersAre, ArrivalsAre, SentAre, CustomersListed, StaffListed, FilmsListed, ActorsListed, StoresListed, CategoriesListed, HereAt, UnderWayTo, Gone, TransitIs, AuditIs, Reply, Sorry, Done, Shows}
+use Rattle.shop_model.specs.Machine.{Shown, CustomerIs, FilmIs, InStockIs, HolderIs, CopiesAre, BalanceIs, RowsAre, CustomersAre, ArrivalsAre, SentAre, HereAt, UnderWayTo, Gone, TransitIs, AuditIs, Reply, Sorry, Done, Shows}
 
 pub record Answer : Type 0 where
   pub status : ℕ
@@ -48,9 +47,6 @@ abbrev pub holder_text : List ℕ → Text
 holder_text [] = codes "null"
 holder_text (customer ∷ _) = decimal customer
 
-abbrev pub overdue_text : OverdueRow → Text
-overdue_text it = object ((codes "customer", quoted it.customer) ∷ (codes "phone", quoted it.phone) ∷ (codes "title", quoted it.title) ∷ [])
-
 -- ---- consignments, each with its number among those of its source, or of its addressee
 
 abbrev pub arrivals_text : List Arrival → List Arrival → List Text
@@ -77,45 +73,6 @@ sent_text earlier (it ∷ later) =
 abbrev pub transit_text : ℕ × ℕ × ℕ × List ℕ → Text
 transit_text it = object ((codes "films", numbers_text it.3) ∷ (codes "from", decimal it.0) ∷ (codes "number", decimal it.2) ∷ (codes "to", decimal it.1) ∷ [])
 
--- ---- views
-
--- the members of a person's row, with those that stand between name and phone
-abbrev pub person_text : List (Text × Text) → PersonRow → Text
-person_text note it = object (
-    (codes "address", quoted it.address)
-    ∷ (codes "branch", decimal it.branch)
-    ∷ (codes "city", quoted it.city)
-    ∷ (codes "country", quoted it.country)
-    ∷ (codes "id", decimal it.number)
-    ∷ (codes "name", quoted it.name)
-    ∷ (note ++ (codes "phone", quoted it.phone)
-    ∷ (codes "postal", quoted it.postal)
-    ∷ []))
-
-abbrev pub listed_customer : PersonRow × Bool → Text
-listed_customer it = person_text ((codes "note", quoted (if it.1 then codes "active" else [])) ∷ []) it.0
-
-abbrev pub listed_film : FilmRow → Text
-listed_film it = object (
-    (codes "actors", quoted it.actors)
-    ∷ (codes "category", quoted it.category)
-    ∷ (codes "description", quoted it.description)
-    ∷ (codes "film", decimal it.number)
-    ∷ (codes "length", number_or_null it.minutes)
-    ∷ (codes "price", decimal it.price)
-    ∷ (codes "rating", quoted it.rating)
-    ∷ (codes "title", quoted it.title)
-    ∷ [])
-
-abbrev pub listed_actor : ActorRow → Text
-listed_actor it = object ((codes "actor", decimal it.number) ∷ (codes "film_info", quoted it.films) ∷ (codes "first", quoted it.first) ∷ (codes "last", quoted it.last) ∷ [])
-
-abbrev pub listed_store : StoreRow → Text
-listed_store it = object ((codes "manager", quoted it.manager) ∷ (codes "store", quoted it.store) ∷ (codes "total", decimal it.total) ∷ [])
-
-abbrev pub listed_category : Text × ℕ → Text
-listed_category it = object ((codes "category", quoted it.0) ∷ (codes "total", decimal it.1) ∷ [])
-
 -- ---- bodies
 
 abbrev pub shown_text : Shown → Text
@@ -125,16 +82,10 @@ shown_text (InStockIs is) = object ((codes "in_stock", flag_text is) ∷ [])
 shown_text (HolderIs customers) = object ((codes "customer", holder_text customers) ∷ [])
 shown_text (CopiesAre numbers) = object ((codes "copies", numbers_text numbers) ∷ (codes "count", decimal (length numbers)) ∷ [])
 shown_text (BalanceIs cents) = object ((codes "balance", signed_decimal cents) ∷ [])
-shown_text (OverdueAre rows) = array (map overdue_text rows)
+shown_text (RowsAre texts) = array texts
 shown_text (CustomersAre numbers) = object ((codes "count", decimal (length numbers)) ∷ (codes "customers", numbers_text numbers) ∷ [])
 shown_text (ArrivalsAre arrivals) = array (arrivals_text [] arrivals)
 shown_text (SentAre parcels) = array (sent_text [] parcels)
-shown_text (CustomersListed rows) = array (map listed_customer rows)
-shown_text (StaffListed rows) = array (map (person_text []) rows)
-shown_text (FilmsListed rows) = array (map listed_film rows)
-shown_text (ActorsListed rows) = array (map listed_actor rows)
-shown_text (StoresListed rows) = array (map listed_store rows)
-shown_text (CategoriesListed rows) = array (map listed_category rows)
 shown_text (HereAt b x) = object ((codes "branch", decimal b) ∷ (codes "copy", decimal x) ∷ (codes "place", quoted (codes "here")) ∷ [])
 shown_text (UnderWayTo source addressee number) =
     object ((codes "from", decimal source) ∷ (codes "number", decimal number) ∷ (codes "place", quoted (codes "transit")) ∷ (codes "to", decimal addressee) ∷ [])

@@ -8,7 +8,8 @@ use Rattle.shop_model.specs.Refusals.{NoCounter, NoRoute}
 use Rattle.shop_model.specs.Shop.{Kept, Catalogue, Shop}
 use Rattle.shop_model.specs.Stock.{terms_now}
 use Rattle.shop_model.specs.Verdict.{verdict, office_verdict}
-use Rattle.shop_model.specs.Machine.{films_in, films_at, reply_text, office_text, Request, Unread, Do, Office, OfficeLook, Reply, Sorry, reply_by, reply_to, if_accepted, catalogue_after, Input, FromOffice, Arrive, Own, State}
+use Rattle.shop_model.specs.Machine.{reply_text, office_text, Request, Unread, Do, Office, OfficeLook, Reply, Sorry, reply_by, reply_to, if_accepted, catalogue_after, Input, FromOffice, Arrive, Own, State}
+use Rattle.shop_model.specs.Acts.{films_in, films_at}
 
 -- where a copy was imported, and its number there: it moves with the copy, and no reply to a branch depends on it
 pub record Mark : Type 0 where
@@ -66,6 +67,10 @@ as_parcel it = record { addressee = it.addressee; films = map (λ line. line.fil
 abbrev pub head : {A : Type 0} → List A → Option A
 head [] = None
 head (x ∷ _) = Some x
+
+-- the books of a chain in which no branch has asked anything
+abbrev pub opening : Catalogue → Books
+opening catalogue = record { catalogue = catalogue; customers = []; copies = []; rentals = []; terms = []; payments = []; lots = []; consignments = []; kept = []; lasts = [] }
 
 -- its rows by number, without branch columns, marks and places; consignments in the order of dispatch
 abbrev pub shop_of : ℕ → Books → Shop

@@ -3,12 +3,12 @@ use Rattle.std.specs.Prelude.{◌≡◌, ℕ, ◌≤◌, ◌++◌, Bool, List, [
 use Rattle.std.specs.List.{AllByRecursion}
 use Rattle.shop_model.specs.Values.{Text, OfficeAsk, OfficeCommand, Rules, Command}
 use Rattle.shop_model.specs.Refusals.{Refusal, Full, KeyUsed, refusal_number}
-use Rattle.shop_model.specs.Shop.{Shop}
-use Rattle.shop_model.specs.Verdict.{Verdict, verdict, office_verdict, Again, Refused, Accepted, first, refusals, office_refusals}
+use Rattle.shop_model.specs.Shop.{Shop, Catalogue}
+use Rattle.shop_model.specs.Verdict.{Verdict, verdict, office_verdict, Again, Refused, Accepted, first, refusals}
+use Rattle.shop_model.specs.OfficeActs.{office_refusals}
 use Rattle.shop_model.specs.Machine.{reply_text, office_text, office_done, Reply, Input, State, replies, state_after}
-use Rattle.shop_model.specs.Books.{book_done, Books, Mark, Event, shop_of, run, last_books, replies_to, view, state_of, caller_of, known_caller}
-use Rattle.shop_model.specs.Sound.{is_mark, HasNumbers, HasOrigins, HasOneHolder, IsInCustody, IsSound, opening, made, places}
-use Rattle.shop_model.specs.Shop.{Catalogue}
+use Rattle.shop_model.specs.Books.{book_done, Books, Mark, Event, shop_of, run, last_books, replies_to, view, state_of, caller_of, known_caller, opening}
+use Rattle.shop_model.specs.Sound.{is_mark, HasNumbers, HasOrigins, HasOneHolder, IsInCustody, IsSound, made, places}
 use Rattle.shop_model.specs.Repeats.{are_new, marked_ones}
 use Rattle.shop_model.specs.Stock.{keeps_out}
 use Rattle.shop_model.specs.Links.{IsGoodCatalogue}

@@ -4,6 +4,8 @@ pub mod Rows
 pub mod Shop
 pub mod Stock
 pub mod Views
+pub mod Acts
+pub mod OfficeActs
 pub mod Verdict
 pub mod Refusals
 pub mod Json

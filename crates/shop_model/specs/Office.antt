@@ -4,8 +4,8 @@ use Rattle.std.specs.List.{list_any}
 use Rattle.shop_model.specs.Rows.{Row, lacks, numbered}
 use Rattle.shop_model.specs.Values.{Here, Branch, OfficeAsk, Sales, Custody, Transit, Audit}
 use Rattle.shop_model.specs.Refusals.{NoCopy, NoBranch}
-use Rattle.shop_model.specs.Views.{sales_by_store, sorted_by}
-use Rattle.shop_model.specs.Machine.{Reply, Sorry, Shows, StoresListed, HereAt, UnderWayTo, Gone, TransitIs, AuditIs}
+use Rattle.shop_model.specs.Views.{listed_store, sales_by_store, sorted_by}
+use Rattle.shop_model.specs.Machine.{Reply, Sorry, Shows, RowsAre, HereAt, UnderWayTo, Gone, TransitIs, AuditIs}
 use Rattle.shop_model.specs.Books.{Books, BookCopy, Mark, Line, UnderWay, Consignment, shop_of}
 use Rattle.shop_model.specs.Sound.{copy_is, line_is, is_mark, made, here, transit, gone}
 
@@ -28,7 +28,7 @@ goes_before a b = nat_lt a.source b.source || a.source == b.source && (nat_lt a.
 -- and says without a look at them that they are. Of other books that would be wrong; its premise is that there are none to be read: the books with which
 -- a chain begins are sound (`OpeningBooksAreSound`, `EmptyIsSound`), a chain has others only if they are, and no request leaves sound books for others (`StaySound`).
 abbrev pub office_look : OfficeAsk → Books → Reply
-office_look Sales books = Shows (StoresListed (flat_map (λ (it : ℕ × Branch). sales_by_store it.0 books.catalogue (shop_of it.0 books)) (numbered books.catalogue.branches)))
+office_look Sales books = Shows (RowsAre (map listed_store (flat_map (λ (it : ℕ × Branch). sales_by_store it.0 books.catalogue (shop_of it.0 books)) (numbered books.catalogue.branches))))
 office_look (Custody b x) books =
     let mark : Mark = record { branch = b; copy = x } in
     if lacks books.catalogue.branches b then Sorry NoBranch

@@ -3,8 +3,7 @@
 use Rattle.std.specs.Prelude.{ℕ, ◌+◌, false, [], ◌∷◌, codes, replicate, Option, Some, None}
 use Rattle.shop_model.specs.Values.{Text, Film, Branch, Staff, ByCode}
 use Rattle.shop_model.specs.Shop.{Catalogue}
-use Rattle.shop_model.specs.Books.{Books}
-use Rattle.shop_model.specs.Sound.{opening}
+use Rattle.shop_model.specs.Books.{Books, opening}
 
 -- 32 times the digit
 abbrev pub token_of : ℕ → Text

@@ -1,10 +1,10 @@
 -- What holds of the books of a chain.
-use Rattle.std.specs.Prelude.{◌≡◌, ℕ, map, ◌+◌, ◌≤◌, ◌==◌, ◌&&◌, ◌||◌, nat_lt, Bool, true, false, not, if◌then◌else◌, List, [], ◌++◌, flat_map, length, filter}
+use Rattle.std.specs.Prelude.{◌≡◌, ℕ, map, ◌+◌, ◌≤◌, ◌==◌, ◌&&◌, ◌||◌, nat_lt, Bool, true, false, not, if◌then◌else◌, List, ◌++◌, flat_map, length, filter}
 use Rattle.std.specs.List.{list_any, list_all}
 use Rattle.shop_model.specs.Rows.{Row, Owned, at, is_of, IsCounted, AreNumbered, total}
 use Rattle.shop_model.specs.Calendar.{Moment}
 use Rattle.shop_model.specs.Values.{Text, Branch, CopyState, Here, Sent, Scrapped, Rules}
-use Rattle.shop_model.specs.Shop.{Kept, Shop, Catalogue}
+use Rattle.shop_model.specs.Shop.{Kept, Shop}
 use Rattle.shop_model.specs.Stock.{is_here, in_stock, keeps_out}
 use Rattle.shop_model.specs.GoodShop.{IsGoodShop}
 use Rattle.shop_model.specs.Links.{has_row, are_different, IsLinkedShop, IsGoodCatalogue}
@@ -157,7 +157,3 @@ IsSound = IsSoundBy HasTerms
 -- the greatest limits that a chain may have: by these an audit goes, whatever limits the chain was opened with
 abbrev pub widest : Rules → Rules
 widest rules = record rules { commands = 1000000; copies = 1000000 }
-
--- the books of a chain in which no branch has asked anything
-abbrev pub opening : Catalogue → Books
-opening catalogue = record { catalogue = catalogue; customers = []; copies = []; rentals = []; terms = []; payments = []; lots = []; consignments = []; kept = []; lasts = [] }

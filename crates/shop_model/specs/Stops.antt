@@ -3,7 +3,9 @@ use Rattle.std.specs.Prelude.{◌≡◌, ℕ, Bool, true, false, if◌then◌els
 use Rattle.std.specs.Option.{option_to_list}
 use Rattle.std.specs.Str.{bytes_eq}
 use Rattle.shop_model.specs.Values.{Text, OfficeAsk, Rules}
-use Rattle.shop_model.specs.Shop.{Kept, OfficeKept, same_command, same_office}
+use Rattle.shop_model.specs.Shop.{Kept, OfficeKept}
+use Rattle.shop_model.specs.OfficeActs.{same_office}
+use Rattle.shop_model.specs.Acts.{same_command}
 use Rattle.shop_model.specs.Machine.{Request, Do, Office, Reply, Done}
 use Rattle.shop_model.specs.Answers.{Answer, answer_of}
 use Rattle.shop_model.specs.Books.{Books, Event, Caller, Counter, HeadOffice, shop_of, reply_in, after, run, last_books}

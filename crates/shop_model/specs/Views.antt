@@ -1,13 +1,15 @@
--- The manual's views over the catalogue and one shop, as typed rows. Their order is that of numbers where nothing else is said (our own, since a
--- view has none), and texts are ordered by their bytes (our own).
-use Rattle.std.specs.Prelude.{ℕ, ◌==◌, ◌&&◌, ◌||◌, nat_lt, Bool, not, if◌then◌else◌, List, [], ◌∷◌, ◌++◌, codes, map, filter, flat_map, Option}
+-- The manual's views over the catalogue and one shop, as typed rows, and the text of each row. Their order is that of numbers where nothing else is said (our
+-- own, since a view has none), and texts are ordered by their bytes (our own). The members of a row's text stand in the byte order of their names, which are
+-- our own.
+use Rattle.std.specs.Prelude.{ℕ, ◌==◌, ◌&&◌, ◌||◌, nat_lt, Bool, not, if◌then◌else◌, List, [], ◌∷◌, ◌++◌, codes, decimal, map, filter, flat_map, Option}
 use Rattle.std.specs.Option.{option_to_list}
 use Rattle.std.specs.Ordering.{is_le, nat_cmp}
 use Rattle.std.specs.Cmp.Lexicographic.{slice_cmp}
 use Rattle.std.specs.List.{list_any, join_by}
 use Rattle.shop_model.specs.Rows.{at, is_empty, numbered, total}
 use Rattle.shop_model.specs.Calendar.{Moment}
-use Rattle.shop_model.specs.Values.{Text, Person, City, Actor, Film, Cast, Branch, Staff, Customer, Rental, Payment}
+use Rattle.shop_model.specs.Values.{Text, Person, City, Actor, Film, Cast, Branch, Staff, Customer, Rental, Payment, View, CustomerList, StaffList, FilmList, ActorInfo, SalesByStore, SalesByCategory}
+use Rattle.shop_model.specs.Json.{quoted, number_or_null, object}
 use Rattle.shop_model.specs.Shop.{Catalogue, Shop}
 use Rattle.shop_model.specs.Stock.{film_of, overdue}
 
@@ -62,6 +64,22 @@ person_row catalogue b number person = record {
   country = country_name catalogue person.city;
 }
 
+-- the members of a person's row, with those that stand between name and phone
+abbrev pub person_text : List (Text × Text) → PersonRow → Text
+person_text note it = object (
+    (codes "address", quoted it.address)
+    ∷ (codes "branch", decimal it.branch)
+    ∷ (codes "city", quoted it.city)
+    ∷ (codes "country", quoted it.country)
+    ∷ (codes "id", decimal it.number)
+    ∷ (codes "name", quoted it.name)
+    ∷ (note ++ (codes "phone", quoted it.phone)
+    ∷ (codes "postal", quoted it.postal)
+    ∷ []))
+
+abbrev pub listed_customer : PersonRow × Bool → Text
+listed_customer it = person_text ((codes "note", quoted (if it.1 then codes "active" else [])) ∷ []) it.0
+
 -- `customer_list` of the manual: all customers of the branch; a row, and whether the note is `active`
 abbrev pub customer_list : ℕ → Catalogue → Shop → List (PersonRow × Bool)
 customer_list b catalogue shop = map (λ (it : ℕ × Customer). (person_row catalogue b it.0 it.1.person, it.1.active)) (numbered shop.customers)
@@ -88,6 +106,9 @@ overdue_row catalogue shop rental = record {
 -- the manual's example of overdue rentals, with the members that it shows
 abbrev pub overdue_list : Catalogue → Shop → Moment → List OverdueRow
 overdue_list catalogue shop moment = map (overdue_row catalogue shop) (overdue shop moment)
+
+abbrev pub overdue_text : OverdueRow → Text
+overdue_text it = object ((codes "customer", quoted it.customer) ∷ (codes "phone", quoted it.phone) ∷ (codes "title", quoted it.title) ∷ [])
 
 -- ---- films
 
@@ -125,6 +146,18 @@ film_row catalogue it = record {
 abbrev pub film_list : Catalogue → List FilmRow
 film_list catalogue = map (film_row catalogue) (numbered catalogue.films)
 
+abbrev pub listed_film : FilmRow → Text
+listed_film it = object (
+    (codes "actors", quoted it.actors)
+    ∷ (codes "category", quoted it.category)
+    ∷ (codes "description", quoted it.description)
+    ∷ (codes "film", decimal it.number)
+    ∷ (codes "length", number_or_null it.minutes)
+    ∷ (codes "price", decimal it.price)
+    ∷ (codes "rating", quoted it.rating)
+    ∷ (codes "title", quoted it.title)
+    ∷ [])
+
 -- the categories by name
 abbrev pub categories_by_name : Catalogue → List (ℕ × Text)
 categories_by_name catalogue = sorted_by (λ (a b : ℕ × Text). is_before_text a.1 b.1) (numbered catalogue.categories)
@@ -158,6 +191,9 @@ actor_row catalogue it = record {
 abbrev pub actor_info : Catalogue → List ActorRow
 actor_info catalogue = map (actor_row catalogue) (numbered catalogue.actors)
 
+abbrev pub listed_actor : ActorRow → Text
+listed_actor it = object ((codes "actor", decimal it.number) ∷ (codes "film_info", quoted it.films) ∷ (codes "first", quoted it.first) ∷ (codes "last", quoted it.last) ∷ [])
+
 -- ---- sales
 
 -- each payment that names a rental, with that rental: a payment without one counts in no sales (the manual's join)
@@ -187,6 +223,9 @@ store_row catalogue shop branch = record {
 abbrev pub sales_by_store : ℕ → Catalogue → Shop → List StoreRow
 sales_by_store b catalogue shop = if is_empty (paid_rentals shop) then [] else map (store_row catalogue shop) (at b catalogue.branches)
 
+abbrev pub listed_store : StoreRow → Text
+listed_store it = object ((codes "manager", quoted it.manager) ∷ (codes "store", quoted it.store) ∷ (codes "total", decimal it.total) ∷ [])
+
 abbrev pub sales_of : Catalogue → Shop → ℕ → List (Payment × Rental)
 sales_of catalogue shop category = filter (λ (it : Payment × Rental). list_any (λ (f : Film). f.category == category) (film_of catalogue shop it.1)) (paid_rentals shop)
 
@@ -199,3 +238,17 @@ abbrev pub sales_by_category : Catalogue → Shop → List (Text × ℕ)
 sales_by_category catalogue shop =
     sorted_by sells_more (map (λ (c : ℕ × Text). (c.1, takings (sales_of catalogue shop c.0)))
     (filter (λ (c : ℕ × Text). not (is_empty (sales_of catalogue shop c.0))) (numbered catalogue.categories)))
+
+abbrev pub listed_category : Text × ℕ → Text
+listed_category it = object ((codes "category", quoted it.0) ∷ (codes "total", decimal it.1) ∷ [])
+
+-- ---- any of them
+
+-- its rows, by their texts
+abbrev pub view_rows : ℕ → Catalogue → Shop → View → List Text
+view_rows b catalogue shop CustomerList = map listed_customer (customer_list b catalogue shop)
+view_rows b catalogue shop StaffList = map (person_text []) (staff_list b catalogue)
+view_rows b catalogue shop FilmList = map listed_film (film_list catalogue)
+view_rows b catalogue shop ActorInfo = map listed_actor (actor_info catalogue)
+view_rows b catalogue shop SalesByStore = map listed_store (sales_by_store b catalogue shop)
+view_rows b catalogue shop SalesByCategory = map listed_category (sales_by_category catalogue shop)

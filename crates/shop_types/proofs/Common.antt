@@ -42,21 +42,23 @@ pub use Rattle.shop_model.proofs.Histories.{failed_failure, memory_failure}
 pub use Rattle.shop_model.proofs.LinkLemmas.{any_at_more, any_at_set, at_set_other}
 pub use Rattle.shop_model.proofs.RowLemmas.{at_zero, differ_test, equal_test, length_map, map_at, map_map, numbered_push, put_own, row_at, same_if, same_test}
 pub use Rattle.shop_model.proofs.ShopLemmas.{arrival_of, arrived_map}
-pub use Rattle.shop_model.specs.Answers.{Answer, accepted_answer, answer_of, film_text, listed_actor, listed_category, listed_customer, listed_film, listed_store, overdue_text, person_text, problem_answer, problem_text, shown_text}
+pub use Rattle.shop_model.specs.Answers.{Answer, accepted_answer, answer_of, film_text, problem_answer, problem_text, shown_text}
 pub use Rattle.shop_model.specs.Books.{Arrived, BookCopy, Books, Caller, Consignment, CopyRows, Counter, Customers, HeadOffice, Line, LineState, Mark, Missing, Nobody, Payments, Rentals, RowOf, Table, TermRows, UnderWay, after_for, as_arrival, as_parcel, between, book_acted, book_done, branch_after, caller_of, checked, head, is_consignment, known_caller, put_state, reply_for, rows_at, rows_of, shop_of, state_of, under_way, unmarked, unpacked}
 pub use Rattle.shop_model.specs.Calendar.{IsMoment, Moment, days_in_month, digit, is_by, moment_text, month_days, same_moment}
 pub use Rattle.shop_model.specs.GoodShop.{IsGoodShop, are_apart, is_within, rental_by, rises, same_rental}
 pub use Rattle.shop_model.specs.Histories.{has_failed, is_store_failure}
 pub use Rattle.shop_model.specs.Json.{array, flag_text, items_text, numbers_text, object, quoted}
 pub use Rattle.shop_model.specs.Links.{IsGoodCatalogue, IsLinkedShop, are_different, has_row, is_parcel, is_staff_of, pays_for}
-pub use Rattle.shop_model.specs.Machine.{ActorsListed, ArrivalsAre, Arrive, AuditIs, BalanceIs, CategoriesListed, CopiesAre, CustomerIs, CustomersAre, CustomersListed, Do, FilmIs, FilmsListed, FromOffice, Gone, HereAt, HolderIs, InStockIs, Input, Look, Office, OfficeLook, OverdueAre, Own, Request, SentAre, Sorry, StaffListed, State, StoresListed, TransitIs, UnderWayTo, Unread, acted, done, if_accepted, incoming, moved, numbers_from, office_acted, office_done, replies, rule_name, state_after}
+pub use Rattle.shop_model.specs.Machine.{ArrivalsAre, Arrive, AuditIs, BalanceIs, CopiesAre, CustomerIs, CustomersAre, Do, FilmIs, FromOffice, Gone, HereAt, HolderIs, InStockIs, Input, Look, Office, OfficeLook, Own, Request, SentAre, Sorry, State, TransitIs, UnderWayTo, Unread, done, if_accepted, moved, office_done, replies, state_after}
 pub use Rattle.shop_model.specs.Refusals.{Already, BadBody, BadLines, Decision, NoBranch, NoCounter, NoRoute, Problem, StoreFailed, TooLong, problem_name, problem_number}
 pub use Rattle.shop_model.specs.Rows.{AreNumbered, IsCounted, Owned, Row, arrived, at, has_double, is_empty, is_of, is_row, lacks, mem, next, numbered, numbered_from, of, owned_by, put_all, set_at, set_rows, total, update_where}
 pub use Rattle.shop_model.specs.Shop.{Catalogue, Kept, OfficeKept, Shop, same_flag, same_option}
 pub use Rattle.shop_model.specs.Sound.{AreRowsNumbered, AreRowsOwned, HasNumbers, HasOneHolder, HasOwners, HasTerms, IsInCustody, IsSound, all_lines, copy_is, is_made_as, is_mark, is_origin, is_settled, line_is, lines_in, one, rows_in, rows_made, widest}
 pub use Rattle.shop_model.specs.Stock.{balance, fee_by, film_in_stock, film_not_in_stock, held_by, in_stock, is_here, keeps_out, paid_within, termed}
 pub use Rattle.shop_model.specs.Values.{Act, AddCustomer, AddFilm, Arrival, Branch, ByCode, ByComment, Cast, City, Command, Copy, CopyState, Customer, Dispatch, Film, Here, Import, OfficeAct, OfficeCommand, Parcel, Pay, Payment, Person, PriceFilm, Receive, Rent, Rental, Rule, Rules, Scrap, Scrapped, Sent, SetActive, SetManager, Staff, StaffLeaves, TakeBack, Terms, Text, WithdrawFilm}
-pub use Rattle.shop_model.specs.Verdict.{Accepted, Again, Refused, Verdict, act_refusals, are_lines, arrival, first, is_away, is_before, is_film_withdrawn, new_copies, office_refusals, office_resent, office_verdict, refusals, resent, staff_is, verdict}
+pub use Rattle.shop_model.specs.Verdict.{Accepted, Again, Refused, Verdict, first, is_before, office_resent, office_verdict, refusals, resent, staff_is, verdict}
+pub use Rattle.shop_model.specs.OfficeActs.{office_refusals, office_acted, rule_name}
+pub use Rattle.shop_model.specs.Acts.{act_refusals, are_lines, arrival, is_away, is_film_withdrawn, new_copies, acted, incoming, numbers_from}
 pub use Rattle.shop_values.proofs.CalendarLemmas.{days_from_civil-day_of}
 pub use Rattle.shop_values.proofs.MomentLemmas.{moment_text-utf8}
 pub use Rattle.shop_values.specs.Moments.{IsDigits, IsTextOf}
