@@ -2,7 +2,7 @@
 use Rattle.shop_types.proofs.Common.{◌≡◌, ◌∙◌, refl, sym, ap, ℕ, ◌+◌, Bool, false, List, [], ◌∷◌, ◌++◌, map, filter, length, Some, codes, append-nil, map-append, numbers_text, object, Row, arrived, at, is_row, next, of, put_all, set_rows, update_where, Rules, Command, Arrival, Parcel, Here, Sent, arrival, numbers_from, incoming, HasNumbers, Books, BookCopy, Mark, Line, UnderWay, Consignment, as_arrival, as_parcel, between, book_acted, checked, is_consignment, put_state, rows_at, shop_of, under_way, unmarked, unpacked, map_at, map_map, length_map, row_at, arrival_of, arrived_map, seen_parcel_line, CopyRows, arith}
 use Rattle.shop_types.specs.declared.parcel.ParcelLine.{ParcelLine}
 use Rattle.std.specs.Prelude.{◌==◌, flat_map}
-use Rattle.shop_model.specs.Machine.{told}
+use Rattle.shop_model.specs.Acts.{told}
 use Rattle.branch_core.specs.declared.found.ArrivalFound.{ArrivalFound}
 use Rattle.branch_core.specs.Marked.{copy_parts, line_parts, parts_at, arrival_parts, consignment_parts, IsArrival}
 use Rattle.branch_core.specs.Consigned.{sent_line, with_dispatch, dispatch_text, come_copy, with_receipt, receipt_text}

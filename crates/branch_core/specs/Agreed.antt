@@ -1,14 +1,13 @@
 -- When what was found is what a catalogue and a shop have of the rows that a command names.
-use Rattle.std.specs.Prelude.{◌≡◌, ℕ, ◌==◌, ◌&&◌, ◌≤◌, Bool, false, Option, is_some, not, List, [], ◌∷◌, map, filter, length, option_map, IfSome, Result, Ok, Err, IfOk}
+use Rattle.std.specs.Prelude.{◌≡◌, ℕ, ◌==◌, ◌&&◌, ◌≤◌, Bool, false, Option, is_some, not, List, [], ◌∷◌, map, filter, length, option_map, IfSome, Result, Ok, Err, IfOk, Some, None}
 use Rattle.std.specs.List.{All, list_any}
 use Rattle.std.specs.Str.{bytes_eq}
 use Rattle.shop_model.specs.Calendar.{Moment, same_moment}
 use Rattle.shop_model.specs.Rows.{at, lacks, numbered}
-use Rattle.shop_model.specs.Values as model
 use Rattle.shop_model.specs.Values.{Text, Customer, Copy, Arrival, Act, Command, Stock, Copies, BadLine, Rules}
 use Rattle.shop_model.specs.Stock.{is_here, in_stock, terms_now}
-use Rattle.shop_model.specs.Shop.{Kept, Catalogue, Shop, same_command, same_flag}
-use Rattle.shop_model.specs.Verdict.{is_film_withdrawn, is_away, arrival}
+use Rattle.shop_model.specs.Shop.{Kept, Catalogue, Shop, same_flag}
+use Rattle.shop_model.specs.Acts.{same_command, is_film_withdrawn, is_away, arrival}
 use Rattle.shop_model.specs.Books.{head}
 use Rattle.shop_types.specs.declared.refusal.BadCsv.{BadCsv}
 use Rattle.shop_types.specs.declared.parcel.ParcelLine.{ParcelLine}
@@ -21,8 +20,10 @@ use Rattle.branch_core.specs.declared.found.RentalFound.{RentalFound}
 use Rattle.branch_core.specs.declared.found.ListedFound.{ListedFound}
 use Rattle.branch_core.specs.declared.found.ArrivalFound.{ArrivalFound}
 use Rattle.branch_core.specs.declared.found.Found.{Found}
+use Rattle.branch_core.specs.declared.found.Named.{Named}
 use Rattle.branch_core.specs.declared.found.RowsFound.{RowsFound}
 use Rattle.branch_core.specs.StockLists.{films_of}
+use Rattle.shop_model.specs.Values as model
 
 -- ---- the kept row
 
@@ -93,10 +94,6 @@ pub record RentAgrees (catalogue : Catalogue) (shop : Shop) (moment : Moment) (c
   pub terms : HasTermsNow catalogue shop x it.copy
   pub same : it.has_same ≡ has_rental moment c x shop
 
-pub record PayAgrees (shop : Shop) (c : ℕ) (rental : Option ℕ) (it : RowsFound) : Type 0 where
-  pub customer : it.customer ≡ active_at c shop
-  pub rental_is : IfSome rental (λ r. option_map seen_rental it.rental ≡ rental_at shop r)
-
 pub record ImportAgrees (rules : Rules) (catalogue : Catalogue) (shop : Shop) (lot file : Text) (it : RowsFound) : Type 0 where
   pub count : it.copies ≡ length shop.copies
   pub lot_in : it.has_lot ≡ list_any (bytes_eq lot) shop.lots
@@ -111,17 +108,31 @@ pub record ReceiveAgrees (shop : Shop) (source number : ℕ) (it : RowsFound) : 
   pub count : it.copies ≡ length shop.copies
   pub arrival_is : option_map seen_arrival it.arrival ≡ arrival_at source number shop
 
+abbrev pub nothing : Named
+nothing = record { city = None; customer = None; copy = None; rental = None }
+
+-- the single rows that an act names, where it names no others
+abbrev pub named : Act → Named
+named (model.AddCustomer who) = record nothing { city = Some who.person.city }
+named (model.SetActive c active) = record nothing { customer = Some c }
+named (model.TakeBack r) = record nothing { rental = Some r }
+named (model.Pay c rental amount) = record nothing { customer = Some c; rental = rental }
+named (model.Scrap x) = record nothing { copy = Some x }
+named act = nothing
+
+pub record NamedAgree (catalogue : Catalogue) (shop : Shop) (names : Named) (it : RowsFound) : Type 0 where
+  pub city : IfSome names.city (λ n. it.has_city ≡ not (lacks catalogue.cities n))
+  pub customer : IfSome names.customer (λ c. it.customer ≡ active_at c shop)
+  pub copy : IfSome names.copy (λ x. option_map seen_copy it.copy ≡ copy_at catalogue shop x)
+  pub rental : IfSome names.rental (λ r. option_map seen_rental it.rental ≡ rental_at shop r)
+
 -- what was found of the kinds of rows that an act names is what the catalogue and the shop have
 abbrev pub ActAgrees : Rules → Catalogue → Shop → Moment → Act → RowsFound → Type 0
-ActAgrees rules catalogue shop moment (model.AddCustomer who) it = it.has_city ≡ not (lacks catalogue.cities who.person.city)
-ActAgrees rules catalogue shop moment (model.SetActive c active) it = it.customer ≡ active_at c shop
 ActAgrees rules catalogue shop moment (model.Rent c x) it = RentAgrees catalogue shop moment c x it
-ActAgrees rules catalogue shop moment (model.TakeBack r) it = option_map seen_rental it.rental ≡ rental_at shop r
-ActAgrees rules catalogue shop moment (model.Pay c rental amount) it = PayAgrees shop c rental it
 ActAgrees rules catalogue shop moment (model.Import lot file) it = ImportAgrees rules catalogue shop lot file it
 ActAgrees rules catalogue shop moment (model.Dispatch to xs) it = DispatchAgrees catalogue shop to xs it
 ActAgrees rules catalogue shop moment (model.Receive source number missing) it = ReceiveAgrees shop source number it
-ActAgrees rules catalogue shop moment (model.Scrap x) it = option_map seen_copy it.copy ≡ copy_at catalogue shop x
+ActAgrees rules catalogue shop moment act it = NamedAgree catalogue shop (named act) it
 
 -- ---- all that was found
 

@@ -3,7 +3,7 @@ use Rattle.std.specs.Prelude.{ℕ, ◌+◌, false, List, [], ◌∷◌, ◌++◌
 use Rattle.shop_model.specs.Json.{numbers_text, object}
 use Rattle.shop_model.specs.Rows.{Row, arrived, put_all, set_rows, update_where}
 use Rattle.shop_model.specs.Values.{Text, Here, Sent}
-use Rattle.shop_model.specs.Machine.{numbers_from}
+use Rattle.shop_model.specs.Acts.{numbers_from}
 use Rattle.shop_model.specs.Books.{Books, BookCopy, Line, UnderWay, between, checked, is_consignment, put_state}
 use Rattle.shop_types.specs.declared.parcel.ParcelLine.{ParcelLine}
 use Rattle.shop_types.specs.Seen.{seen_mark}

@@ -3,7 +3,8 @@ use Rattle.std.specs.Prelude.{◌≡◌, ℕ, Option, Some}
 use Rattle.shop_model.specs.Calendar.{Moment}
 use Rattle.shop_model.specs.Values.{Act, Rules}
 use Rattle.shop_model.specs.Shop.{Catalogue, Shop}
-use Rattle.shop_model.specs.Verdict.{first, act_refusals}
+use Rattle.shop_model.specs.Verdict.{first}
+use Rattle.shop_model.specs.Acts.{act_refusals}
 use Rattle.shop_types.specs.declared.refusal.Refusal.{Refusal}
 use Rattle.shop_types.specs.Verdicts.{verdict_by}
 use Rattle.branch_core.specs.declared.found.RowsFound.{RowsFound}

@@ -6,7 +6,7 @@ use Rattle.shop_model.specs.Rows.{at, lacks, of}
 use Rattle.shop_model.specs.Values.{Act}
 use Rattle.shop_model.specs.Values as model
 use Rattle.shop_model.specs.Stock.{in_stock}
-use Rattle.shop_model.specs.Verdict.{is_away}
+use Rattle.shop_model.specs.Acts.{is_away}
 use Rattle.shop_model.specs.Books.{Books, BookCopy, Mark, Line, Consignment, is_consignment, shop_of}
 use Rattle.shop_types.specs.Seen.{seen_parcel_line}
 use Rattle.branch_core.specs.declared.found.ArrivalFound.{ArrivalFound}

@@ -1,16 +1,79 @@
-//! The first refusal of a command by what it does, where its key is new, by what was found of the customer, the copy
-//! or the rental that it names.
+//! Which rows a command names by what it does, and its first refusal, where its key is new, by what was found of them.
 #![tactic(auto, using(shop_model::proofs::FoundLemmas::at_one))]
 
 ghost use Rattle.std.specs.Prelude.{◌≡◌, ℕ, true, Some};
 ghost use Rattle.shop_model.specs.Values as model;
+ghost use Rattle.shop_types.specs.Seen.{seen_act};
+ghost use Rattle.branch_core.specs.Agreed.{named};
 ghost use Rattle.branch_core.specs.Decided.{IsRefusal};
 
-use crate::RowsFound;
-use shop_types::{CustomerNo, Refusal, RentalNo};
+use crate::consignments::{dispatch_refusal, receive_refusal};
+use crate::stock::stock_refusal;
+use crate::{Named, RowsFound};
+use shop_types::{Act, BranchNo, CustomerNo, Refusal, RentalNo};
+
+/// The single rows that an act names. Some acts name others, and what is found of these is told otherwise.
+#[tactic(auto)]
+pub fn named(act: &Act) -> Named
+    ensures { result ≡ named (seen_act act.now) }
+{
+    let nothing = Named::nothing();
+    match act {
+        Act::Customer(it) => Named {
+            city: Some(it.person.city),
+            ..nothing
+        },
+        Act::Active { customer, .. } => Named {
+            customer: Some(*customer),
+            ..nothing
+        },
+        Act::TakeBack(rental) => Named {
+            rental: Some(*rental),
+            ..nothing
+        },
+        Act::Pay {
+            customer,
+            rental,
+            ..
+        } => Named {
+            customer: Some(*customer),
+            rental: *rental,
+            ..nothing
+        },
+        Act::Scrap(copy) => Named {
+            copy: Some(*copy),
+            ..nothing
+        },
+        Act::Rent { .. } | Act::Import { .. } | Act::Dispatch { .. } | Act::Receive { .. } => {
+            nothing
+        }
+    }
+}
+
+/// The first refusal that goes by what the command does. Each arm is the refusal of its own act.
+#[tactic(auto)]
+pub fn act_refusal(branch: BranchNo, act: &Act, rows: &RowsFound) -> Option<Refusal>
+    ensures { IsRefusal branch (seen_act act.now) rows.now result }
+{
+    match act {
+        Act::Customer(_) => city_refusal(rows),
+        Act::Active { active, .. } => active_refusal(*active, rows),
+        Act::Rent { .. } => rent_refusal(rows),
+        Act::TakeBack(_) => return_refusal(rows),
+        Act::Pay {
+            customer,
+            rental,
+            ..
+        } => payment_refusal(*customer, *rental, rows),
+        Act::Import { .. } => stock_refusal(&rows.stock, rows.has_lot),
+        Act::Dispatch { to, copies } => dispatch_refusal(branch, *to, copies.as_slice(), rows),
+        Act::Receive { missing, .. } => receive_refusal(missing.as_slice(), rows),
+        Act::Scrap(_) => scrap_refusal(rows),
+    }
+}
 
 /// Of a new customer in a city that may not be there.
-pub fn city_refusal(rows: &RowsFound) -> Option<Refusal>
+fn city_refusal(rows: &RowsFound) -> Option<Refusal>
     ensures { (b : ℕ) (it : model.NewCustomer) → IsRefusal b (model.AddCustomer it) rows.now result }
 {
     if rows.has_city {
@@ -21,7 +84,7 @@ pub fn city_refusal(rows: &RowsFound) -> Option<Refusal>
 }
 
 /// Of setting whether a customer may rent.
-pub fn active_refusal(active: bool, rows: &RowsFound) -> Option<Refusal>
+fn active_refusal(active: bool, rows: &RowsFound) -> Option<Refusal>
     ensures { (b c : ℕ) → IsRefusal b (model.SetActive c active) rows.now result }
 {
     match rows.customer {
@@ -37,7 +100,7 @@ pub fn active_refusal(active: bool, rows: &RowsFound) -> Option<Refusal>
 }
 
 /// Of a rental of a copy to a customer.
-pub fn rent_refusal(rows: &RowsFound) -> Option<Refusal>
+fn rent_refusal(rows: &RowsFound) -> Option<Refusal>
     ensures { (b c x : ℕ) → IsRefusal b (model.Rent c x) rows.now result }
 {
     match rows.customer {
@@ -68,7 +131,7 @@ fn copy_refusal(rows: &RowsFound) -> Option<Refusal>
 }
 
 /// Of taking a rental's copy back.
-pub fn return_refusal(rows: &RowsFound) -> Option<Refusal>
+fn return_refusal(rows: &RowsFound) -> Option<Refusal>
     ensures { (b r : ℕ) → IsRefusal b (model.TakeBack r) rows.now result }
 {
     match rows.rental {
@@ -84,7 +147,7 @@ pub fn return_refusal(rows: &RowsFound) -> Option<Refusal>
 }
 
 /// Of the customer's payment, of the rental where one is named.
-pub fn payment_refusal(
+fn payment_refusal(
     customer: CustomerNo,
     named: Option<RentalNo>,
     rows: &RowsFound,
@@ -110,7 +173,7 @@ pub fn payment_refusal(
 }
 
 /// Of scrapping a copy.
-pub fn scrap_refusal(rows: &RowsFound) -> Option<Refusal>
+fn scrap_refusal(rows: &RowsFound) -> Option<Refusal>
     ensures { (b x : ℕ) → IsRefusal b (model.Scrap x) rows.now result }
 {
     let Some(copy) = rows.copy else {

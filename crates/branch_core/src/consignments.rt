@@ -6,7 +6,7 @@ ghost use Rattle.std.specs.List.{list_any};
 ghost use Rattle.shop_model.specs.Rows.{lacks, is_empty, has_double, total};
 ghost use Rattle.shop_model.specs.Values as model;
 ghost use Rattle.shop_model.specs.Shop.{Shop};
-ghost use Rattle.shop_model.specs.Verdict.{arrival, are_lines, new_from};
+ghost use Rattle.shop_model.specs.Acts.{arrival, are_lines, new_from};
 ghost use Rattle.branch_core.specs.Agreed.{seen_arrival, arrival_at};
 ghost use Rattle.branch_core.specs.Decided.{IsRefusal};
 

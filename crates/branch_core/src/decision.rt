@@ -6,20 +6,17 @@ ghost use Rattle.shop_model.specs.Calendar as calendar;
 ghost use Rattle.shop_model.specs.Rows.{at};
 ghost use Rattle.shop_model.specs.Values as model;
 ghost use Rattle.shop_model.specs.Shop.{Catalogue, Shop};
-ghost use Rattle.shop_model.specs.Verdict.{first, verdict, refusals, is_before, is_full, new_copies, staff_is};
+ghost use Rattle.shop_model.specs.Verdict.{first, verdict, refusals, is_before, is_full, staff_is};
+ghost use Rattle.shop_model.specs.Acts.{new_copies};
 ghost use Rattle.shop_model.specs.Books.{head};
 ghost use Rattle.shop_types.specs.Seen.{seen_act, seen_command};
 ghost use Rattle.shop_types.specs.Verdicts.{seen_post, post_of, verdict_by};
 ghost use Rattle.shop_types.specs.Decisions.{IsVerdict};
 ghost use Rattle.branch_core.specs.Agreed.{Agrees, ActAgrees};
-ghost use Rattle.branch_core.specs.Decided.{IsRefusal};
 
-use crate::acts::{
-    active_refusal, city_refusal, payment_refusal, rent_refusal, return_refusal, scrap_refusal,
-};
-use crate::consignments::{dispatch_refusal, new_from, receive_refusal};
-use crate::stock::{self, stock_refusal};
-use crate::{Found, RowsFound};
+use crate::acts::act_refusal;
+use crate::consignments::new_from;
+use crate::{Found, RowsFound, stock};
 use shop_types::{Act, BranchNo, Change, Command, Limits, Moment, Refusal, StaffFound};
 
 /// Whether a branch's command is accepted, or the first refusal that holds of it. It takes no memory.
@@ -122,26 +119,5 @@ fn works_at(staff: Option<StaffFound>, branch: BranchNo) -> bool
     match staff {
         Some(staff) => staff.branch == branch && !staff.gone,
         None => false,
-    }
-}
-
-/// The first refusal that goes by what the command does.
-fn act_refusal(branch: BranchNo, act: &Act, rows: &RowsFound) -> Option<Refusal>
-    ensures { IsRefusal branch (seen_act act.now) rows.now result }
-{
-    match act {
-        Act::Customer(_) => city_refusal(rows),
-        Act::Active { active, .. } => active_refusal(*active, rows),
-        Act::Rent { .. } => rent_refusal(rows),
-        Act::TakeBack(_) => return_refusal(rows),
-        Act::Pay {
-            customer,
-            rental,
-            ..
-        } => payment_refusal(*customer, *rental, rows),
-        Act::Import { .. } => stock_refusal(&rows.stock, rows.has_lot),
-        Act::Dispatch { to, copies } => dispatch_refusal(branch, *to, copies.as_slice(), rows),
-        Act::Receive { missing, .. } => receive_refusal(missing.as_slice(), rows),
-        Act::Scrap(_) => scrap_refusal(rows),
     }
 }

@@ -1,10 +1,12 @@
 //! What was found of the rows that a command names.
 
 ghost use Rattle.std.specs.Prelude.{◌≡◌, false, None};
+ghost use Rattle.branch_core.specs.Agreed.{nothing};
 
 use crate::StockRows;
 use shop_types::{
-    BadCsv, CopyNo, CustomerNo, FilmNo, KeptFound, Moment, ParcelLines, RentalNo, StaffFound, Terms,
+    BadCsv, CityNo, CopyNo, CustomerNo, FilmNo, KeptFound, Moment, ParcelLines, RentalNo,
+    StaffFound, Terms,
 };
 use std::alloc::Global;
 
@@ -77,6 +79,15 @@ pub struct Found<'a> {
     pub rows: RowsFound,
 }
 
+/// The single rows that an act names, by their numbers, one field a kind.
+#[derive(Clone, Copy)]
+pub struct Named {
+    pub city: Option<CityNo>,
+    pub customer: Option<CustomerNo>,
+    pub copy: Option<CopyNo>,
+    pub rental: Option<RentalNo>,
+}
+
 /// The rows that a command's act names, one field a kind. What is said of a kind that it doesn't name is never looked
 /// at.
 #[derive(Drop)]
@@ -103,6 +114,19 @@ pub struct RowsFound {
     pub listed: ListedFound,
     /// The consignment that is to be received, where there is one.
     pub arrival: Option<ArrivalFound>,
+}
+
+impl Named {
+    pub fn nothing() -> Named
+        ensures { result ≡ nothing }
+    {
+        Named {
+            city: None,
+            customer: None,
+            copy: None,
+            rental: None,
+        }
+    }
 }
 
 impl ListedFound {

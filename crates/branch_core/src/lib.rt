@@ -11,10 +11,13 @@ mod found;
 mod rentals;
 mod stock;
 
+pub use acts::named;
 pub use arrived::arrived_lines;
 pub use consignments::has_unknown_copy;
 pub use decision::decide;
 pub use film_copies::{FilmCopy, film_in_stock, film_not_in_stock};
-pub use found::{ArrivalFound, CopyFound, Found, ListedFound, RentalFound, RowsFound, StockFound};
+pub use found::{
+    ArrivalFound, CopyFound, Found, ListedFound, Named, RentalFound, RowsFound, StockFound,
+};
 pub use rentals::{held_by, in_stock};
 pub use stock::{StockRows, copies_in, rows_in};

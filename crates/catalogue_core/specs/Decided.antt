@@ -3,7 +3,7 @@ use Rattle.std.specs.Prelude.{Bool, nat_le, List, ◌∷◌, length}
 use Rattle.shop_model.specs.Values.{OfficeCommand, Rules}
 use Rattle.shop_model.specs.Refusals.{Refusal, Full}
 use Rattle.shop_model.specs.Shop.{Catalogue}
-use Rattle.shop_model.specs.Verdict.{office_refusals}
+use Rattle.shop_model.specs.OfficeActs.{office_refusals}
 
 -- under a new key
 abbrev pub fresh_refusals : Rules → Catalogue → OfficeCommand → List (Refusal × Bool)

@@ -6,7 +6,8 @@ ghost use Rattle.shop_model.specs.Rows.{lacks};
 ghost use Rattle.shop_model.specs.Refusals.{Already, NoSharedRow};
 ghost use Rattle.shop_model.specs.Values.{Cast, Branch, Staff, PriceFilm, WithdrawFilm, AddCast, AddBranch, AddStaff, StaffLeaves, SetManager};
 ghost use Rattle.shop_model.specs.Shop.{Catalogue, same_option};
-ghost use Rattle.shop_model.specs.Verdict.{first, office_refusals};
+ghost use Rattle.shop_model.specs.Verdict.{first};
+ghost use Rattle.shop_model.specs.OfficeActs.{office_refusals};
 ghost use Rattle.shop_types.specs.Verdicts.{verdict_by, seen_post};
 ghost use Rattle.catalogue_core.specs.Shares.{film_at, branch_at, staff_at, is_token, is_cast, seen_branch_found};
 

@@ -3,7 +3,8 @@
 ghost use Rattle.std.specs.Prelude.{◌≡◌, Some};
 ghost use Rattle.shop_model.specs.Values as model;
 ghost use Rattle.shop_model.specs.Shop.{Catalogue};
-ghost use Rattle.shop_model.specs.Verdict.{first, office_refusals, office_verdict};
+ghost use Rattle.shop_model.specs.Verdict.{first, office_verdict};
+ghost use Rattle.shop_model.specs.OfficeActs.{office_refusals};
 ghost use Rattle.shop_types.specs.Seen.{seen_office, seen_office_act};
 ghost use Rattle.shop_types.specs.Verdicts.{verdict_by};
 ghost use Rattle.shop_types.specs.Decisions.{IsVerdict};

@@ -1,7 +1,7 @@
 -- KnownFilms that are their films' rows are so after a request.
 use Rattle.shop_types.proofs.Common.{◌≡◌, ℕ, ◌-◌, List, [], ◌∷◌, ◌++◌, map, Some, inl, inr, sym, subst, refl, cases_Bool, at, lacks, Film, OfficeCommand, Rules, Catalogue, Verdict, Again, Refused, Accepted, verdict, office_verdict, Request, Unread, Do, Look, Office, OfficeLook, office_acted, office_done, if_accepted, Books, Counter, HeadOffice, head, shop_of, book_done, branch_after, known_caller, after_for}
 use Rattle.std.specs.Prelude.{◌==◌}
-use Rattle.shop_model.proofs.Isolation.{catalogue_stays}
+use Rattle.shop_model.proofs.Accepted.{catalogue_stays}
 use Rattle.chain_caches.specs.Films.{AreRows, KnownFilms, known_of, seen_known}
 
 -- a row that is there stays where another goes last

@@ -6,7 +6,7 @@ ghost use Rattle.shop_model.specs.Rows.{at, set_at};
 ghost use Rattle.shop_model.specs.Values as model;
 ghost use Rattle.shop_model.specs.Books.{head};
 ghost use Rattle.shop_model.specs.Shop.{Catalogue};
-ghost use Rattle.shop_model.specs.Machine.{office_acted};
+ghost use Rattle.shop_model.specs.OfficeActs.{office_acted};
 ghost use Rattle.shop_types.specs.Seen.{seen_office_act};
 ghost use Rattle.chain_caches.specs.Films.{AreRows, IsRow, film_changed, known_of, seen_known};
 

@@ -1,6 +1,6 @@
 use Rattle.std.proofs.Common.{◌∙◌, sym, ap, List, Result}
 use Rattle.shop_types.specs.declared.refusal.BadCsv.{BadCsv}
-use Rattle.shop_model.specs.Verdict.{new_in}
+use Rattle.shop_model.specs.Acts.{new_in}
 use Rattle.branch_core.specs.declared.found.StockFound.{StockFound}
 use Rattle.branch_core.specs.Agreed.{seen_stock}
 use Rattle.branch_core.specs.StockLists.{copies_of}
