@@ -1,4 +1,4 @@
--- What the body of a command must be: a JSON object with the command's members and no others, in any order.
+-- Bodies in JSON, and what their members hold.
 use Rattle.std.specs.Prelude.{ℕ, ◌==◌, nat_le, suc, Bool, false, List, [], ◌∷◌, Option, Some, None, is_some, option_map, option_and_then, unwrap_or, codes, if◌then◌else◌}
 use Rattle.std.specs.Str.{is_utf8}
 use Rattle.serde_json.specs.Data.{Data, Items, no_items, item, Members, no_members, member}
@@ -7,10 +7,7 @@ use Rattle.serde_json.specs.Read.{read}
 use Rattle.shop_values.specs.Texts.{is_text, is_key}
 use Rattle.shop_values.specs.Numbers.{is_row_number}
 use Rattle.shop_model.specs.Calendar.{Moment}
-use Rattle.shop_model.specs.Values.{Text, Person, Act, Command}
-use Rattle.shop_model.specs.Values as model
-use Rattle.counter_routes.specs.declared.bodies.CommandForm.{CommandForm}
-use Rattle.counter_routes.specs.declared.bodies.CommandForm.TheVariants as form
+use Rattle.shop_model.specs.Values.{Text, Person}
 use Rattle.counter_routes.specs.Moments.{moment_of}
 
 infixl 10 ◌>>=◌
@@ -105,62 +102,6 @@ person_at d = do
   names ← names_at d
   contact ← contact_at d
   Some (record { first = names.0; last = names.1; address = contact.0; postal = contact.1; phone = contact.2; city = city })
-
--- how many members the body of a command has
-abbrev pub member_count : CommandForm → ℕ
-member_count form.NewCustomer = 9
-member_count form.Active = 5
-member_count form.Rent = 5
-member_count form.Return = 4
-member_count form.Pay = 6
-member_count form.Dispatch = 5
-member_count form.Receive = 6
-member_count form.Scrap = 4
-
--- what a command does, by the members that say it
-abbrev pub act_at : CommandForm → Data → Option Act
-act_at form.NewCustomer d = do
-  person ← person_at d
-  Some (model.AddCustomer (record { person = person }))
-act_at form.Active d = do
-  customer ← number_at (codes "customer") d
-  active ← bool_at (codes "active") d
-  Some (model.SetActive customer active)
-act_at form.Rent d = do
-  customer ← number_at (codes "customer") d
-  copy ← number_at (codes "copy") d
-  Some (model.Rent customer copy)
-act_at form.Return d = option_map model.TakeBack (number_at (codes "rental") d)
-act_at form.Pay d = do
-  customer ← number_at (codes "customer") d
-  rental ← rental_at d
-  amount ← amount_at d
-  Some (model.Pay customer rental amount)
-act_at form.Dispatch d = do
-  to ← number_at (codes "to") d
-  copies ← numbers_at (codes "copies") d
-  Some (model.Dispatch to copies)
-act_at form.Receive d = do
-  from ← number_at (codes "from") d
-  number ← number_at (codes "number") d
-  missing ← numbers_at (codes "missing") d
-  Some (model.Receive from number missing)
-act_at form.Scrap d = option_map model.Scrap (number_at (codes "copy") d)
-
--- the staff who gives the command and the moment, where the body has so many members and no others
-abbrev pub giver_at : ℕ → Data → Option (ℕ × Moment)
-giver_at n d = if has_members n d then (do
-  staff ← number_at (codes "staff") d
-  moment ← moment_at d
-  Some (staff, moment)) else None
-
--- the command of that form: what it does, with the key, the staff and the moment that three more of the members are
-unfoldable pub command_in : CommandForm → Data → Option Command
-command_in form d = do
-  giver ← giver_at (member_count form) d
-  key ← key_at d
-  act ← act_at form d
-  Some (record { key = key; staff = giver.0; moment = giver.1; act = act })
 
 -- the value that a body's bytes write (RFC 8259), where they are UTF-8 and nest at most 127 deep
 abbrev pub body_of : List ℕ → Option Data

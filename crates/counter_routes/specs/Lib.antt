@@ -2,6 +2,7 @@ pub mod Moments
 pub mod Routes
 pub mod Sizes
 pub mod Bodies
+pub mod Commands
 pub mod Imports
 pub mod Looks
 pub mod Words

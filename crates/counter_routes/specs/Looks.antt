@@ -1,5 +1,5 @@
--- What a look is: its path's parts say all of it.
-use Rattle.std.specs.Prelude.{ℕ, List, slice_get, Option, Some, None, option_map, option_and_then, codes, if◌then◌else◌}
+-- The looks of a counter: of each its route, and what the parts of its path say, which is all of it.
+use Rattle.std.specs.Prelude.{ℕ, List, [], ◌∷◌, slice_get, Option, Some, None, option_map, option_and_then, codes, if◌then◌else◌}
 use Rattle.std.specs.Str.{bytes_eq}
 use Rattle.http_messages.specs.Items.{parts}
 use Rattle.shop_values.specs.Numbers.{row_number_of}
@@ -7,8 +7,27 @@ use Rattle.shop_model.specs.Values.{Ask, OneCustomer, OneFilm, InStock, HeldBy, 
 use Rattle.shop_model.specs.Values.{View, CustomerList, StaffList, FilmList, ActorInfo, SalesByStore, SalesByCategory}
 use Rattle.counter_routes.specs.declared.looks.LookForm.{LookForm}
 use Rattle.counter_routes.specs.declared.looks.LookForm.TheVariants as look
+use Rattle.counter_routes.specs.declared.paths.Route.{Route}
+use Rattle.counter_routes.specs.declared.paths.Route.TheVariants as route
 use Rattle.counter_routes.specs.Bodies.{◌>>=◌}
 use Rattle.counter_routes.specs.Imports.{moment_in}
+
+-- the routes of GET requests
+unfoldable pub get_entries : List (List ℕ × Route)
+get_entries =
+    (codes "/customer/{n}", route.Look look.Customer)
+    ∷ (codes "/film/{n}", route.Look look.Film)
+    ∷ (codes "/in-stock/{copy}", route.Look look.InStock)
+    ∷ (codes "/held-by/{copy}", route.Look look.HeldBy)
+    ∷ (codes "/film-in-stock/{film}", route.Look look.FilmInStock)
+    ∷ (codes "/film-not-in-stock/{film}", route.Look look.FilmNotInStock)
+    ∷ (codes "/balance/{customer}/{at}", route.Look look.Balance)
+    ∷ (codes "/overdue/{at}", route.Look look.Overdue)
+    ∷ (codes "/rewards/{at}/{purchases}/{cents}", route.Look look.Rewards)
+    ∷ (codes "/arrivals", route.Look look.Arrivals)
+    ∷ (codes "/sent", route.Look look.Sent)
+    ∷ (codes "/views/{name}", route.View)
+    ∷ []
 
 -- the number of a row that the path's part behind its second slash is
 abbrev pub number_in : List ℕ → Option ℕ

@@ -14,7 +14,8 @@ use Rattle.counter_routes.specs.declared.paths.Route.TheVariants as route
 use Rattle.counter_routes.specs.declared.asked.Reading.{Reading}
 use Rattle.counter_routes.specs.declared.asked.Reading.TheVariants.{Asked, Refused}
 use Rattle.counter_routes.specs.Routes.{route_of}
-use Rattle.counter_routes.specs.Bodies.{body_of, command_in}
+use Rattle.counter_routes.specs.Bodies.{body_of}
+use Rattle.counter_routes.specs.Commands.{command_in}
 use Rattle.counter_routes.specs.Imports.{import_in}
 use Rattle.counter_routes.specs.Looks.{look_in, view_in}
 use Rattle.counter_routes.specs.Words.{Meaning, texts_of, request_of_words, is_to_office}

@@ -1,5 +1,5 @@
 -- The routes of a counter's requests, and the one that a target has.
-use Rattle.std.specs.Prelude.{ℕ, Bool, true, false, ◌&&◌, ◌==◌, not, List, [], ◌∷◌, Option, None, Result, Ok, Err, option_map, map, is_none, codes, if◌then◌else◌}
+use Rattle.std.specs.Prelude.{ℕ, Bool, true, false, ◌&&◌, ◌==◌, not, List, [], ◌∷◌, Option, None, Result, Ok, Err, option_map, map, is_none, if◌then◌else◌}
 use Rattle.std.specs.List.{list_any}
 use Rattle.std.specs.Str.{is_utf8}
 use Rattle.matchit.specs.Rows.{RowsOf}
@@ -9,10 +9,9 @@ use Rattle.matchit.specs.Route.{Scan, parse_route}
 use Rattle.matchit.specs.Router.{RouteOf, route_from, nearest}
 use Rattle.matchit.specs.declared.error.InsertError.{InsertError}
 use Rattle.counter_routes.specs.declared.paths.Route.{Route}
-use Rattle.counter_routes.specs.declared.paths.Route.TheVariants.{Command, Import, Look, View}
-use Rattle.counter_routes.specs.declared.bodies.CommandForm.TheVariants as command
-use Rattle.counter_routes.specs.declared.looks.LookForm.TheVariants as look
 use Rattle.counter_routes.specs.declared.paths.Pattern.{Pattern}
+use Rattle.counter_routes.specs.Commands.{post_entries}
+use Rattle.counter_routes.specs.Looks.{get_entries}
 
 -- the rows of a router
 abbrev pub Rows : Type 0
@@ -55,41 +54,10 @@ route_in ps path = option_map (λ r. r.value) (first (table ps) path)
 
 -- what a pattern of the code says
 abbrev pub entry_of : Pattern → Entry
-entry_of p = (p.text.now, p.route)
+entry_of p = (p.0.now, p.1)
 
 abbrev pub entries : List Pattern → List Entry
 entries ps = map entry_of ps
-
--- the routes of POST requests
-unfoldable pub post_entries : List Entry
-post_entries =
-    (codes "/customer", Command command.NewCustomer)
-    ∷ (codes "/import/{key}/{staff}/{at}/{lot}", Import)
-    ∷ (codes "/customer-active", Command command.Active)
-    ∷ (codes "/rent", Command command.Rent)
-    ∷ (codes "/return", Command command.Return)
-    ∷ (codes "/pay", Command command.Pay)
-    ∷ (codes "/dispatch", Command command.Dispatch)
-    ∷ (codes "/receive", Command command.Receive)
-    ∷ (codes "/scrap", Command command.Scrap)
-    ∷ []
-
--- the routes of GET requests
-unfoldable pub get_entries : List Entry
-get_entries =
-    (codes "/customer/{n}", Look look.Customer)
-    ∷ (codes "/film/{n}", Look look.Film)
-    ∷ (codes "/in-stock/{copy}", Look look.InStock)
-    ∷ (codes "/held-by/{copy}", Look look.HeldBy)
-    ∷ (codes "/film-in-stock/{film}", Look look.FilmInStock)
-    ∷ (codes "/film-not-in-stock/{film}", Look look.FilmNotInStock)
-    ∷ (codes "/balance/{customer}/{at}", Look look.Balance)
-    ∷ (codes "/overdue/{at}", Look look.Overdue)
-    ∷ (codes "/rewards/{at}/{purchases}/{cents}", Look look.Rewards)
-    ∷ (codes "/arrivals", Look look.Arrivals)
-    ∷ (codes "/sent", Look look.Sent)
-    ∷ (codes "/views/{name}", View)
-    ∷ []
 
 -- the routes of one method
 abbrev pub entries_of : Bool → List Entry

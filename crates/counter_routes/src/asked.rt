@@ -8,7 +8,8 @@ ghost use Rattle.counter_routes.specs.Routes.{route_of};
 ghost use Rattle.counter_routes.specs.Readings.{Reads, command_or_bad, look_or_bad, view_or_no_route, request_at, reading_of, is_command, takes_memory};
 ghost use Rattle.counter_routes.specs.declared.bodies.Fault.TheVariants.{BadBody, NoMemory as OutOfMemory};
 
-use crate::bodies::{Fault, body_command};
+use crate::bodies::Fault;
+use crate::commands::body_command;
 use crate::imports::import_command;
 use crate::looks::{look_asked, view_asked};
 use crate::office::read_office;

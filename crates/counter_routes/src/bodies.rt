@@ -1,19 +1,14 @@
-//! Bodies of commands, from JSON.
+//! Bodies in JSON, and what their members hold.
 
 ghost use Rattle.std.specs.Prelude.{◌≡◌, ◌≤◌, length, IfOk, IfErr, Some, None, option_map};
 ghost use Rattle.serde_json.specs.View.{view};
-ghost use Rattle.shop_types.specs.Seen.{seen_person, seen_act, seen_command};
-ghost use Rattle.counter_routes.specs.Bodies.{string_at, text_at, key_at, moment_at, number_at, row_number_in, list_of_numbers, numbers_at, bool_at, rental_at, amount_at, has_members as is_object_of, names_at, contact_at, person_at, member_count, act_at, giver_at, command_in, body_of};
-ghost use Rattle.counter_routes.specs.Readings.{written_in};
+ghost use Rattle.shop_types.specs.Seen.{seen_person};
+ghost use Rattle.counter_routes.specs.Bodies.{string_at, text_at, key_at, moment_at, number_at, row_number_in, list_of_numbers, numbers_at, bool_at, rental_at, amount_at, has_members as is_object_of, names_at, contact_at, person_at, body_of};
 ghost use Rattle.counter_routes.specs.Sizes.{size};
 ghost use Rattle.counter_routes.specs.declared.bodies.Fault.TheVariants.{BadBody, NoMemory as OutOfMemory};
-ghost use Rattle.counter_routes.specs.declared.bodies.CommandForm.TheVariants as kind;
 
 use serde_json::Value;
-use shop_types::{
-    Act, Amount, Command, Key, L45, Moment, NewCustomer, Numbers, Person, RentalNo, RowNumber,
-    StaffNo, T45, T128, Text,
-};
+use shop_types::{Amount, Key, L45, Moment, Numbers, Person, RentalNo, RowNumber, T45, T128, Text};
 use std::alloc::{AllocError, Global};
 
 /// Why a body gives no command.
@@ -31,7 +26,7 @@ impl From<AllocError> for Fault {
     }
 }
 
-fn has_members(value: &Value, count: usize) -> bool
+pub(crate) fn has_members(value: &Value, count: usize) -> bool
     ensures { result ≡ is_object_of count (view value.now) }
 {
     match value.as_object() {
@@ -46,7 +41,7 @@ fn string<'v>(value: &'v Value, name: &str) -> Option<&'v str>
     value.get(name)?.as_str()
 }
 
-fn key(alloc: Global, value: &Value) -> Result<Key, Fault>
+pub(crate) fn key(alloc: Global, value: &Value) -> Result<Key, Fault>
     ensures ok { IfOk result (λ key. key_at (view value.now) ≡ Some key) }
     ensures bad { IfErr result (λ fault. fault ≡ BadBody → key_at (view value.now) ≡ None) }
 {
@@ -54,7 +49,7 @@ fn key(alloc: Global, value: &Value) -> Result<Key, Fault>
     Key::read(String::from_str(alloc, text)?).ok_or(Fault::BadBody)
 }
 
-fn moment(value: &Value) -> Option<Moment>
+pub(crate) fn moment(value: &Value) -> Option<Moment>
     ensures { result ≡ moment_at (view value.now) }
 {
     Moment::read(string(value, "at")?)
@@ -70,10 +65,13 @@ fn row_number<const KIND: u8>(value: &Value) -> Option<RowNumber<KIND>>
     }
 }
 
-fn number<const KIND: u8>(value: &Value, name: &str) -> Option<RowNumber<KIND>>
-    ensures { result ≡ number_at name.now (view value.now) }
+/// The number of a row that the member of that name is.
+pub(crate) fn number<const KIND: u8>(value: &Value, name: &str) -> Result<RowNumber<KIND>, Fault>
+    ensures ok { IfOk result (λ number. number_at name.now (view value.now) ≡ Some number) }
+    ensures bad { IfErr result (λ fault. fault ≡ BadBody → number_at name.now (view value.now) ≡ None) }
 {
-    row_number(value.get(name)?)
+    let number = value.get(name).ok_or(Fault::BadBody)?;
+    row_number(number).ok_or(Fault::BadBody)
 }
 
 /// The numbers of rows that the value lists.
@@ -91,7 +89,11 @@ fn listed<const KIND: u8>(alloc: Global, value: &Value) -> Result<Vec<RowNumber<
 }
 
 /// The list of numbers of rows that the member of that name is.
-fn numbers<const KIND: u8>(alloc: Global, value: &Value, name: &str) -> Result<Numbers<KIND>, Fault>
+pub(crate) fn numbers<const KIND: u8>(
+    alloc: Global,
+    value: &Value,
+    name: &str,
+) -> Result<Numbers<KIND>, Fault>
     requires { size (view value.now) ≤ 65_537 }
     ensures ok { IfOk result (λ numbers. numbers_at name.now (view value.now) ≡ Some numbers) }
     ensures bad { IfErr result (λ fault. fault ≡ BadBody → numbers_at name.now (view value.now) ≡ None) }
@@ -104,23 +106,27 @@ fn numbers<const KIND: u8>(alloc: Global, value: &Value, name: &str) -> Result<N
     }
 }
 
-fn flag(value: &Value, name: &str) -> Option<bool>
-    ensures { result ≡ bool_at name.now (view value.now) }
+pub(crate) fn flag(value: &Value, name: &str) -> Result<bool, Fault>
+    ensures ok { IfOk result (λ flag. bool_at name.now (view value.now) ≡ Some flag) }
+    ensures bad { IfErr result (λ fault. fault ≡ BadBody → bool_at name.now (view value.now) ≡ None) }
 {
-    value.get(name)?.as_bool()
+    let flag = value.get(name).ok_or(Fault::BadBody)?;
+    flag.as_bool().ok_or(Fault::BadBody)
 }
 
 /// The rental that a payment is of, or that it is of none, as a null says.
-fn rental_or_none(value: &Value) -> Option<Option<RentalNo>>
-    ensures { result ≡ rental_at (view value.now) }
+pub(crate) fn rental_or_none(value: &Value) -> Result<Option<RentalNo>, Fault>
+    ensures ok { IfOk result (λ rental. rental_at (view value.now) ≡ Some rental) }
+    ensures bad { IfErr result (λ fault. fault ≡ BadBody → rental_at (view value.now) ≡ None) }
 {
-    if value.get("rental")?.is_null() {
-        return Some(None);
+    let rental = value.get("rental").ok_or(Fault::BadBody)?;
+    if rental.is_null() {
+        return Ok(None);
     }
-    Some(Some(number(value, "rental")?))
+    Ok(Some(number(value, "rental")?))
 }
 
-fn amount(value: &Value) -> Option<Amount>
+fn cents(value: &Value) -> Option<Amount>
     ensures { result ≡ amount_at (view value.now) }
 {
     match value.get("amount")?.as_u64()? {
@@ -129,7 +135,15 @@ fn amount(value: &Value) -> Option<Amount>
     }
 }
 
-fn text<const LOW: usize, const HIGH: usize>(
+/// What a payment is of.
+pub(crate) fn amount(value: &Value) -> Result<Amount, Fault>
+    ensures ok { IfOk result (λ amount. amount_at (view value.now) ≡ Some amount) }
+    ensures bad { IfErr result (λ fault. fault ≡ BadBody → amount_at (view value.now) ≡ None) }
+{
+    cents(value).ok_or(Fault::BadBody)
+}
+
+pub(crate) fn text<const LOW: usize, const HIGH: usize>(
     alloc: Global,
     value: &Value,
     name: &str,
@@ -161,11 +175,11 @@ fn contact(alloc: Global, value: &Value) -> Result<(T128, L45, L45), Fault>
     ))
 }
 
-fn person(alloc: Global, value: &Value) -> Result<Person, Fault>
+pub(crate) fn person(alloc: Global, value: &Value) -> Result<Person, Fault>
     ensures ok { IfOk result (λ person. person_at (view value.now) ≡ Some (seen_person person)) }
     ensures bad { IfErr result (λ fault. fault ≡ BadBody → person_at (view value.now) ≡ None) }
 {
-    let city = number(value, "city").ok_or(Fault::BadBody)?;
+    let city = number(value, "city")?;
     let (first, last) = names(alloc, value)?;
     let (address, postal, phone) = contact(alloc, value)?;
     Ok(Person {
@@ -175,127 +189,6 @@ fn person(alloc: Global, value: &Value) -> Result<Person, Fault>
         postal,
         phone,
         city,
-    })
-}
-
-/// What a command's body says, beside who gives the command and when.
-#[derive(Clone, Copy)]
-pub(crate) enum CommandForm {
-    NewCustomer,
-    Active,
-    Rent,
-    Return,
-    Pay,
-    Dispatch,
-    Receive,
-    Scrap,
-}
-
-/// How many members a body of the form has.
-fn member_count(form: CommandForm) -> usize
-    ensures { result ≡ member_count form }
-{
-    match form {
-        CommandForm::NewCustomer => 9,
-        CommandForm::Pay | CommandForm::Receive => 6,
-        CommandForm::Active | CommandForm::Rent | CommandForm::Dispatch => 5,
-        CommandForm::Return | CommandForm::Scrap => 4,
-    }
-}
-
-/// What a command does whose parts are numbers and flags, one of each: it adds no customer, and lists nothing.
-fn plain_act(form: CommandForm, value: &Value) -> Option<Act>
-    ensures { ¬ (form ≡ kind.NewCustomer) → ¬ (form ≡ kind.Dispatch) → ¬ (form ≡ kind.Receive)
-        → option_map seen_act result ≡ act_at form (view value.now) }
-{
-    match form {
-        CommandForm::NewCustomer | CommandForm::Dispatch | CommandForm::Receive => None,
-        CommandForm::Active => Some(Act::Active {
-            customer: number(value, "customer")?,
-            active: flag(value, "active")?,
-        }),
-        CommandForm::Rent => Some(Act::Rent {
-            customer: number(value, "customer")?,
-            copy: number(value, "copy")?,
-        }),
-        CommandForm::Return => Some(Act::TakeBack(number(value, "rental")?)),
-        CommandForm::Pay => Some(Act::Pay {
-            customer: number(value, "customer")?,
-            rental: rental_or_none(value)?,
-            amount: amount(value)?,
-        }),
-        CommandForm::Scrap => Some(Act::Scrap(number(value, "copy")?)),
-    }
-}
-
-fn dispatch(alloc: Global, value: &Value) -> Result<Act, Fault>
-    requires { size (view value.now) ≤ 65_537 }
-    ensures ok { IfOk result (λ act. act_at kind.Dispatch (view value.now) ≡ Some (seen_act act)) }
-    ensures bad { IfErr result (λ fault. fault ≡ BadBody → act_at kind.Dispatch (view value.now) ≡ None) }
-{
-    let to = number(value, "to").ok_or(Fault::BadBody)?;
-    let copies = numbers(alloc, value, "copies")?;
-    Ok(Act::Dispatch { to, copies })
-}
-
-fn receipt(alloc: Global, value: &Value) -> Result<Act, Fault>
-    requires { size (view value.now) ≤ 65_537 }
-    ensures ok { IfOk result (λ act. act_at kind.Receive (view value.now) ≡ Some (seen_act act)) }
-    ensures bad { IfErr result (λ fault. fault ≡ BadBody → act_at kind.Receive (view value.now) ≡ None) }
-{
-    let from = number(value, "from").ok_or(Fault::BadBody)?;
-    let number = number(value, "number").ok_or(Fault::BadBody)?;
-    let missing = numbers(alloc, value, "missing")?;
-    Ok(Act::Receive {
-        from,
-        number,
-        missing,
-    })
-}
-
-/// What a command of the form does.
-fn act(alloc: Global, form: CommandForm, value: &Value) -> Result<Act, Fault>
-    requires { size (view value.now) ≤ 65_537 }
-    ensures ok { IfOk result (λ act. act_at form (view value.now) ≡ Some (seen_act act)) }
-    ensures bad { IfErr result (λ fault. fault ≡ BadBody → act_at form (view value.now) ≡ None) }
-{
-    match form {
-        CommandForm::NewCustomer => Ok(Act::Customer(NewCustomer {
-            person: person(alloc, value)?,
-        })),
-        CommandForm::Dispatch => dispatch(alloc, value),
-        CommandForm::Receive => receipt(alloc, value),
-        _ => plain_act(form, value).ok_or(Fault::BadBody),
-    }
-}
-
-/// Who gives the command and when, where the body has so many members.
-fn giver(value: &Value, count: usize) -> Option<(StaffNo, Moment)>
-    ensures { result ≡ giver_at count (view value.now) }
-{
-    if !has_members(value, count) {
-        return None;
-    }
-    Some((number(value, "staff")?, moment(value)?))
-}
-
-/// The command of the form that a value writes.
-#[tactic(auto, unfolding(crate::specs::Bodies::command_in))]
-fn command(alloc: Global, form: CommandForm, value: &Value) -> Result<Command, Fault>
-    requires { size (view value.now) ≤ 65_537 }
-    ensures ok { IfOk result (λ command. command_in form (view value.now) ≡ Some (seen_command command)) }
-    ensures bad { IfErr result (λ fault. fault ≡ BadBody → command_in form (view value.now) ≡ None) }
-{
-    let Some((staff, at)) = giver(value, member_count(form)) else {
-        return Err(Fault::BadBody);
-    };
-    let key = key(alloc, value)?;
-    let act = act(alloc, form, value)?;
-    Ok(Command {
-        key,
-        staff,
-        at,
-        act,
     })
 }
 
@@ -310,13 +203,4 @@ pub(crate) fn value_of(alloc: Global, body: &[u8]) -> Result<Value, Fault>
         Err(e) if e.is_memory() => Err(Fault::NoMemory),
         Err(_) => Err(Fault::BadBody),
     }
-}
-
-/// The command of the form that a body writes.
-pub(crate) fn body_command(alloc: Global, form: CommandForm, body: &[u8]) -> Result<Command, Fault>
-    requires { length body.now ≤ 65_536 }
-    ensures ok { IfOk result (λ command. written_in (command_in form) body.now ≡ Some (seen_command command)) }
-    ensures bad { IfErr result (λ fault. fault ≡ BadBody → written_in (command_in form) body.now ≡ None) }
-{
-    command(alloc, form, &value_of(alloc, body)?)
 }

@@ -3,6 +3,7 @@
 
 mod asked;
 mod bodies;
+mod commands;
 mod imports;
 mod looks;
 mod office;

@@ -1,10 +1,11 @@
-//! Looks, whose parts stand in the path.
+//! Looks of a counter: of each its route, and the parts of its path, which say all of it.
 
 ghost use Rattle.std.specs.Prelude.{◌≡◌, option_map};
 ghost use Rattle.shop_types.specs.Seen.{seen_ask, seen_view};
 ghost use Rattle.counter_routes.specs.Looks.{number_in, threshold_of, threshold_in, balance_in, overdue_in, rewards_in, look_in, view_of, view_in};
 
 use crate::imports::moment;
+use crate::paths::{Pattern, Route};
 use http_messages::part;
 use shop_types::{Ask, RowNumber, View};
 
@@ -82,6 +83,28 @@ pub(crate) enum LookForm {
     Arrivals,
     Sent,
 }
+
+/// The routes of looks. All views have one route, and stand there by their names.
+pub(crate) const GET_ROUTES: [Pattern; 12] = [
+    Pattern("/customer/{n}", Route::Look(LookForm::Customer)),
+    Pattern("/film/{n}", Route::Look(LookForm::Film)),
+    Pattern("/in-stock/{copy}", Route::Look(LookForm::InStock)),
+    Pattern("/held-by/{copy}", Route::Look(LookForm::HeldBy)),
+    Pattern("/film-in-stock/{film}", Route::Look(LookForm::FilmInStock)),
+    Pattern(
+        "/film-not-in-stock/{film}",
+        Route::Look(LookForm::FilmNotInStock),
+    ),
+    Pattern("/balance/{customer}/{at}", Route::Look(LookForm::Balance)),
+    Pattern("/overdue/{at}", Route::Look(LookForm::Overdue)),
+    Pattern(
+        "/rewards/{at}/{purchases}/{cents}",
+        Route::Look(LookForm::Rewards),
+    ),
+    Pattern("/arrivals", Route::Look(LookForm::Arrivals)),
+    Pattern("/sent", Route::Look(LookForm::Sent)),
+    Pattern("/views/{name}", Route::View),
+];
 
 /// The look of the form that a path writes.
 pub(crate) fn look_asked(form: LookForm, target: &[u8]) -> Option<Ask>

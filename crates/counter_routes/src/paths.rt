@@ -1,10 +1,12 @@
 //! The routes of a counter's requests.
 
 ghost use Rattle.std.specs.Prelude.{◌≡◌, IfOk, true};
-ghost use Rattle.counter_routes.specs.Routes.{table, is_table, entries, entries_of, post_entries, get_entries, begins_with_slash, has_question_mark, route_of};
+ghost use Rattle.counter_routes.specs.Commands.{post_entries};
+ghost use Rattle.counter_routes.specs.Looks.{get_entries};
+ghost use Rattle.counter_routes.specs.Routes.{table, is_table, entries, entries_of, begins_with_slash, has_question_mark, route_of};
 
-use crate::bodies::CommandForm;
-use crate::looks::LookForm;
+use crate::commands::{CommandForm, POST_ROUTES};
+use crate::looks::{GET_ROUTES, LookForm};
 use matchit::{InsertError, Router};
 use shop_types::NoMemory;
 use std::alloc::{AllocError, Global};
@@ -20,102 +22,9 @@ pub(crate) enum Route {
     View,
 }
 
-/// A route, and the paths that it takes.
+/// The paths that a route takes, and the route.
 #[derive(Clone, Copy)]
-pub(crate) struct Pattern {
-    text: &'static str,
-    route: Route,
-}
-
-const POST_ROUTES: [Pattern; 9] = [
-    Pattern {
-        text: "/customer",
-        route: Route::Command(CommandForm::NewCustomer),
-    },
-    Pattern {
-        text: "/import/{key}/{staff}/{at}/{lot}",
-        route: Route::Import,
-    },
-    Pattern {
-        text: "/customer-active",
-        route: Route::Command(CommandForm::Active),
-    },
-    Pattern {
-        text: "/rent",
-        route: Route::Command(CommandForm::Rent),
-    },
-    Pattern {
-        text: "/return",
-        route: Route::Command(CommandForm::Return),
-    },
-    Pattern {
-        text: "/pay",
-        route: Route::Command(CommandForm::Pay),
-    },
-    Pattern {
-        text: "/dispatch",
-        route: Route::Command(CommandForm::Dispatch),
-    },
-    Pattern {
-        text: "/receive",
-        route: Route::Command(CommandForm::Receive),
-    },
-    Pattern {
-        text: "/scrap",
-        route: Route::Command(CommandForm::Scrap),
-    },
-];
-
-const GET_ROUTES: [Pattern; 12] = [
-    Pattern {
-        text: "/customer/{n}",
-        route: Route::Look(LookForm::Customer),
-    },
-    Pattern {
-        text: "/film/{n}",
-        route: Route::Look(LookForm::Film),
-    },
-    Pattern {
-        text: "/in-stock/{copy}",
-        route: Route::Look(LookForm::InStock),
-    },
-    Pattern {
-        text: "/held-by/{copy}",
-        route: Route::Look(LookForm::HeldBy),
-    },
-    Pattern {
-        text: "/film-in-stock/{film}",
-        route: Route::Look(LookForm::FilmInStock),
-    },
-    Pattern {
-        text: "/film-not-in-stock/{film}",
-        route: Route::Look(LookForm::FilmNotInStock),
-    },
-    Pattern {
-        text: "/balance/{customer}/{at}",
-        route: Route::Look(LookForm::Balance),
-    },
-    Pattern {
-        text: "/overdue/{at}",
-        route: Route::Look(LookForm::Overdue),
-    },
-    Pattern {
-        text: "/rewards/{at}/{purchases}/{cents}",
-        route: Route::Look(LookForm::Rewards),
-    },
-    Pattern {
-        text: "/arrivals",
-        route: Route::Look(LookForm::Arrivals),
-    },
-    Pattern {
-        text: "/sent",
-        route: Route::Look(LookForm::Sent),
-    },
-    Pattern {
-        text: "/views/{name}",
-        route: Route::View,
-    },
-];
+pub(crate) struct Pattern(pub(crate) &'static str, pub(crate) Route);
 
 fn build(alloc: Global, patterns: &[Pattern]) -> Result<Router<Route>, AllocError>
     requires { is_table (entries patterns.now) ≡ true }
@@ -123,7 +32,7 @@ fn build(alloc: Global, patterns: &[Pattern]) -> Result<Router<Route>, AllocErro
 {
     let mut router = Router::new(alloc);
     for pattern in patterns {
-        if let Err(e) = router.insert(pattern.text, pattern.route) {
+        if let Err(e) = router.insert(pattern.0, pattern.1) {
             match e {
                 InsertError::OutOfMemory => return Err(AllocError),
                 _ => unreachable!(),

@@ -1,6 +1,7 @@
 use Rattle.std.proofs.Common.{refl}
 use Rattle.matchit.proofs.OnLiterals.{matchit_on_literals}
-use Rattle.counter_routes.specs.Routes.{is_table, get_entries}
+use Rattle.counter_routes.specs.Looks.{get_entries}
+use Rattle.counter_routes.specs.Routes.{is_table}
 use Rattle.counter_routes.proofs.paths.get_routes.Goals as goal
 
 pub build-requires : goal.build-requires
