@@ -63,4 +63,4 @@ module _ (old one two three new : Trees) where
           first_named first_version (λ _ its. (its.terms ≡ []) × (its.catalogue.rule ≡ ByCode)) (counts_of (without_terms books)) old (without_terms books)
           (one_changed 0 new old 0 first (first_rows this_version (counts_of books) books) chain_table (versioned_columns first_version books.catalogue.office_token ∷ []) refl refl others told
           (first_listed this_version TermedRows (counts_of books) new books s))
-          (refl, by_code books.catalogue.rule (same_row _ _ _ has_rule s.more.rule_is))
+          (refl, by_code books.catalogue.rule (same_row _ _ _ has_rule s.more.rows.1.0))

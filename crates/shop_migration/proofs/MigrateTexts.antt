@@ -1,6 +1,6 @@
 -- What the statements do by which the tables of version 1 become those of version 2.
 use Rattle.std.proofs.Common.{map-id}
-use Rattle.shop_schema.proofs.Common.{◌≡◌, ◌≢◌, ℕ, pos, List, [], ◌∷◌, ◌++◌, map, filter, length, drop, take, codes, true, Ok, refl, sym, ap, ap₂, subst, subst₂, ◌∙◌, arith, append-nil, inl, inr, IsPermutation, ⊤, ◌⊎◌, flat_map, AllByRecursion, IsPermutation-refl, IsPermutation-sym, IsPermutation-trans, IsPermutation-map, Null, Int, column, Binary, Trees, IsShaped, Term, lit, col, Join, left, inner, end, IsAnswer, Output, overlay, Values, Insert, Update, State, ExecutesInside, Table, Schema, map-append, map-map, flat_map-map, all-append, Changes, Means, HasRows, SameBut, number_value, all_typed, joined_query, are_equal, or_blank, shown_of, few_list, left_pair, joined_bag, plain_query, HasPut, has_put, sets_row, Row, at, is_row, Text, Film, Copy, Rental, Terms, ByCode, Rules, film_of, film_terms, terms_now, HasNumbers, Books, BookCopy, shop_of, unmarked, IsSoundWithoutTerms, row_terms, migrated, row_at, length_map, at_one, all_rows_have_one, shop_schema, version_1_schema, later_tables, this_version, first_version, versioned_columns, film_columns, copy_columns, rental_columns, terms_columns, rule_columns, counts_of, IsShop, IsFirstShop, StandsAs, AreTermed, HoldsVersion1, Holds, term_rows, rule_rows, IsKeyed, IsFirstKeyed, CopyRows}
+use Rattle.shop_schema.proofs.Common.{◌≡◌, ◌≢◌, ℕ, pos, List, [], ◌∷◌, ◌++◌, map, filter, length, drop, take, codes, true, Ok, refl, sym, ap, ap₂, subst, subst₂, ◌∙◌, arith, append-nil, inl, inr, IsPermutation, ⊤, ◌⊎◌, flat_map, AllByRecursion, IsPermutation-refl, IsPermutation-sym, IsPermutation-trans, IsPermutation-map, Null, Int, column, Binary, Trees, IsShaped, Term, lit, col, Join, left, inner, end, IsAnswer, Output, overlay, Values, Insert, Update, State, ExecutesInside, Table, Schema, map-append, map-map, flat_map-map, all-append, Changes, Means, HasRows, SameBut, number_value, all_typed, joined_query, are_equal, or_blank, shown_of, few_list, left_pair, joined_bag, plain_query, HasPut, has_put, sets_row, Row, at, is_row, Text, Film, Copy, Rental, Terms, ByCode, Rules, film_of, film_terms, terms_now, HasNumbers, Books, BookCopy, shop_of, unmarked, IsSoundWithoutTerms, row_terms, migrated, row_at, length_map, at_one, all_rows_have_one, shop_schema, version_1_schema, later_tables, this_version, first_version, versioned_columns, film_columns, copy_columns, rental_columns, terms_columns, rule_columns, counts_of, IsShop, IsFirstShop, StandsAs, AreTermed, HoldsVersion1, Holds, term_rows, later_rows, HaveRows, IsKeyed, IsFirstKeyed, CopyRows}
 use Rattle.sqlite_value.specs.Order as sql
 use Rattle.sqlite_trees.specs.declared.store.Shape.TheVariants.{Table as TableShape}
 use Rattle.sqlite_sql.specs.Query.{Query as Asked}
@@ -13,10 +13,10 @@ use Rattle.sqlite_schema.specs.declared.schema.Keys.TheVariants.{Enforced}
 use Rattle.sql_rows.proofs.Fills.{Kept, Fills, fills, fills_values, adds}
 use Rattle.sql_rows.proofs.Keyed.{applies_keyed}
 use Rattle.shop_model.specs.Values as model
-use Rattle.shop_schema.specs.Tables as t
+use Rattle.shop_schema.specs.Shop as t
 use Rattle.shop_migration.specs.Migrating.{AddsTables, IsUnderWay, PutsRule, SetsVersion, Tells}
 use Rattle.shop_schema.proofs.CreateTexts.{rental_terms_text, chain_rule_text, makes_rental_terms, makes_chain_rule}
-use Rattle.shop_schema.proofs.Stands.{HaveRows, first_rows, rows_as, first_listed, listed, named, for_own, have_append, have_moved, stands_as_but}
+use Rattle.shop_schema.proofs.Stands.{first_rows, rows_as, first_listed, listed, named, for_own, have_append, have_moved, stands_as_but}
 use Rattle.shop_schema.proofs.Listed.{own_rows}
 use Rattle.shop_schema.proofs.Lists.{picks_row}
 use Rattle.shop_schema.proofs.Numbers.{left_number}
@@ -117,7 +117,7 @@ tables_added old mid new m n books terms rule holds =
     record {
       schema_is = it.shop;
       keyed = tables_keyed old mid new m n terms rule holds.schema_is holds.keyed;
-      stands = named first_version (λ _. []) (λ _. []) counts new.now.trees books (have_append first later_tables new.now.trees rows ([] ∷ [] ∷ []) refl had none);
+      stands = named first_version (λ _. [] ∷ [] ∷ []) counts new.now.trees books (have_append first later_tables new.now.trees rows ([] ∷ [] ∷ []) refl had none);
     }
 
 -- ---- the terms
@@ -150,7 +150,7 @@ fill_means = record { is = refl; plain = (refl, refl) }
 abbrev source : Row Terms → sql.Row
 source it = Null ∷ terms_columns it
 
-module _ (db : Trees) (books : Books) (s : StandsAs first_version (λ _. []) (λ _. []) (counts_of books) db books) (held : HasNumbers books) (x : Row Rental) where
+module _ (db : Trees) (books : Books) (s : StandsAs first_version (λ _. [] ∷ [] ∷ []) (counts_of books) db books) (held : HasNumbers books) (x : Row Rental) where
   abbrev films : List Film
   films = books.catalogue.films
 
@@ -217,7 +217,7 @@ module _ (db : Trees) (books : Books) (s : StandsAs first_version (λ _. []) (λ
 
 -- ---- the rows that the statement puts
 
-all_bring : (db : Trees) (books : Books) → StandsAs first_version (λ _. []) (λ _. []) (counts_of books) db books → HasNumbers books → (rentals : List (Row Rental))
+all_bring : (db : Trees) (books : Books) → StandsAs first_version (λ _. [] ∷ [] ∷ []) (counts_of books) db books → HasNumbers books → (rentals : List (Row Rental))
     → AllByRecursion (λ (row : Row Rental). length (film_of books.catalogue (shop_of row.branch books) row.it) ≡ 1) rentals
     → flat_map (λ (x : Row Rental). shown_of fill_query (overlay db []) with_copy ([] ∷ (Null ∷ rental_columns x) ∷ [])) rentals
     ≡ map (λ (it : Row Terms). ([], source it)) (flat_map (row_terms books) rentals)
@@ -271,14 +271,14 @@ terms_put old new n ran rules books sound holds =
     let typed = all_typed (λ r. r) source it.rows terms (subst (λ (l : List sql.Row). IsPermutation l (map source terms)) (sym (map-id it.rows)) (IsPermutation-sym _ _ rows)) in
     let all = sources_of it.rows typed in
     let behind = map-map (λ (values : sql.Row). Null ∷ values) terms_columns all.0 in
-    let put = fills_values shop_schema t.rental_terms_table fill_program [] old new 5 (map terms_columns all.0) [] it (all.1 ∙ sym behind) (all_kept all.0) holds.stands.more.terms_are in
+    let put = fills_values shop_schema t.rental_terms_table fill_program [] old new 5 (map terms_columns all.0) [] it (all.1 ∙ sym behind) (all_kept all.0) holds.stands.more.rows.0 in
     let same : IsPermutation (map terms_columns terms) (map terms_columns all.0) =
     subst₂ IsPermutation (map-map (drop 1) source terms) (ap (map (drop 1)) all.1 ∙ map-map (drop 1) source all.0) (IsPermutation-map (drop 1) _ _ rows) in
     let has : HasRows 5 (new.now.trees 57) (term_rows (migrated books)) = IsPermutation-trans _ _ _ put (IsPermutation-sym _ _ same) in
     record {
       schema_is = it.schema_is;
       keyed = applies_keyed shop_schema Enforced db new.now.trees _ 21 refl it.applies holds.keyed;
-      stands = stands_as_but first_version first_version (λ _. []) (λ _. []) (λ _. term_rows (migrated books)) (λ _. []) 21 t.rental_terms_table refl refl (counts_of books) books (term_rows (migrated books)) refl db new.now.trees it.applies.tables holds.stands has;
+      stands = stands_as_but first_version first_version (λ _. [] ∷ [] ∷ []) (λ _. term_rows (migrated books) ∷ [] ∷ []) 21 t.rental_terms_table refl refl (counts_of books) books (term_rows (migrated books)) refl db new.now.trees it.applies.tables holds.stands has;
     }
 
 -- ---- the rule
@@ -313,8 +313,8 @@ rule_put old new n ran terms books holds =
     record {
       schema_is = done.schema_is;
       keyed = done.keyed holds.keyed;
-      stands = stands_as_but first_version first_version (λ _. terms) (λ _. []) (λ _. terms) (λ _. rule_columns ByCode ∷ []) 22 t.chain_rule_table refl refl (counts_of books) books (rule_columns ByCode ∷ []) refl old.now.trees new.now.trees done.others holds.stands
-          (done.rows [] holds.stands.more.rule_is);
+      stands = stands_as_but first_version first_version (λ _. terms ∷ [] ∷ []) (λ _. terms ∷ (rule_columns ByCode ∷ []) ∷ []) 22 t.chain_rule_table refl refl (counts_of books) books (rule_columns ByCode ∷ []) refl old.now.trees new.now.trees done.others holds.stands
+          (done.rows [] holds.stands.more.rows.1.0);
     }
 
 -- ---- the version
@@ -367,7 +367,7 @@ version_set old new n ran terms rule books holds =
     record {
       schema_is = version_stays old new n ran holds.schema_is;
       keyed = version_keyed old new n ran holds.schema_is holds.keyed;
-      stands = stands_as_but first_version this_version (λ _. terms) (λ _. rule) (λ _. terms) (λ _. rule) 0 t.chain_table refl refl (counts_of books) books (versioned_columns this_version books.catalogue.office_token ∷ []) refl old.now.trees new.now.trees it.others holds.stands it.told;
+      stands = stands_as_but first_version this_version (λ _. terms ∷ rule ∷ []) (λ _. terms ∷ rule ∷ []) 0 t.chain_table refl refl (counts_of books) books (versioned_columns this_version books.catalogue.office_token ∷ []) refl old.now.trees new.now.trees it.others holds.stands it.told;
     }
 
 -- ---- all of it
@@ -397,11 +397,11 @@ pub all_migrated : (s : State) (rules : Rules) (books : Books) → IsSoundWithou
     → IsUnderWay this_version (term_rows (migrated books)) (rule_columns ByCode ∷ []) s books → Holds s (migrated books)
 all_migrated s rules books sound code holds =
     let terms = term_rows (migrated books) in
-    let Rule : model.Rule → Type 0 = λ rule. HaveRows shop_schema.tables s.now.trees (rows_as this_version terms (rule_columns rule ∷ []) (counts_of books) books) in
+    let Rule : model.Rule → Type 0 = λ rule. HaveRows shop_schema.tables s.now.trees (rows_as this_version (terms ∷ (rule_columns rule ∷ []) ∷ []) (counts_of books) books) in
     record {
       schema_is = holds.schema_is;
       keyed = holds.keyed;
       stands = for_own s.now.trees (migrated books) (migrated_termed rules books sound)
-          (named this_version term_rows rule_rows (counts_of (migrated books)) s.now.trees (migrated books)
-          (subst Rule (sym code) (listed this_version (λ _. terms) (λ _. rule_columns ByCode ∷ []) (counts_of books) s.now.trees books holds.stands)));
+          (named this_version later_rows (counts_of (migrated books)) s.now.trees (migrated books)
+          (subst Rule (sym code) (listed this_version (λ _. terms ∷ (rule_columns ByCode ∷ []) ∷ []) (counts_of books) s.now.trees books holds.stands)));
     }

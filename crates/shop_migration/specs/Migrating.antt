@@ -9,14 +9,13 @@ use Rattle.sql_rows.specs.Rows.{HasRows, SameBut}
 use Rattle.shop_model.specs.Values.{Text, Rules, ByCode}
 use Rattle.shop_model.specs.Books.{Books}
 use Rattle.shop_model.specs.Migration.{IsSoundWithoutTerms, migrated, without_terms}
-use Rattle.shop_schema.specs.Columns.{this_version, first_version, versioned_columns, rule_columns}
+use Rattle.shop_schema.specs.RowValues.{this_version, first_version, versioned_columns, rule_columns}
 use Rattle.shop_schema.specs.Counts.{counts_of}
-use Rattle.shop_schema.specs.Shop.{StandsAs, Holds, HoldsVersion1, IsFirstShop, IsFirstKeyed}
-use Rattle.shop_schema.specs.Tables.{shop_schema, version_1_schema}
+use Rattle.shop_schema.specs.Shop.{StandsAs, Holds, HoldsVersion1, IsFirstShop, IsFirstKeyed, shop_schema, version_1_schema}
 
 -- the tables of version 2, which still stand for books of version 1: they have this version, and these rows of terms and of the rule
 abbrev pub IsUnderWay : ℕ → List sql.Row → List sql.Row → State → Books → Type 0
-IsUnderWay version terms rule = calls.Holds shop_schema (λ trees books. StandsAs version (λ _. terms) (λ _. rule) (counts_of books) trees books)
+IsUnderWay version terms rule = calls.Holds shop_schema (λ trees books. StandsAs version (λ _. terms ∷ rule ∷ []) (counts_of books) trees books)
 
 -- the table `chain` has one row, with this version and a token
 abbrev pub Tells : ℕ → Text → Trees → Type 0

@@ -10,10 +10,9 @@ ghost use Rattle.sql_rows.specs.Rows.{SameBut};
 ghost use Rattle.shop_model.specs.Values.{ByCode, Rules, Text};
 ghost use Rattle.shop_model.specs.Books.{Books};
 ghost use Rattle.shop_model.specs.Migration.{IsSoundWithoutTerms, migrated};
-ghost use Rattle.shop_schema.specs.Columns.{this_version, first_version, rule_columns};
+ghost use Rattle.shop_schema.specs.RowValues.{this_version, first_version, rule_columns};
 ghost use Rattle.shop_migration.specs.Migrating.{AddsTables, IsUnderWay, Migrates, PutsRule, SetsVersion, StoodForSame, Tells};
-ghost use Rattle.shop_schema.specs.Shop.{IsShop, IsKeyed, IsFirstShop, IsFirstKeyed, term_rows, HoldsVersion1};
-ghost use Rattle.shop_schema.specs.Tables.{shop_schema};
+ghost use Rattle.shop_schema.specs.Shop.{IsShop, IsKeyed, IsFirstShop, IsFirstKeyed, term_rows, HoldsVersion1, shop_schema};
 
 use sql_rows::{StoreFault, execute};
 use sqlite::{Alter, Transaction};

@@ -72,29 +72,32 @@ pub use Rattle.shop_model.proofs.EditLemmas.{AskedOfEach, by_none, by_table, eac
 pub use Rattle.shop_model.proofs.FoundLemmas.{at_one, found_none, found_some}
 pub use Rattle.shop_model.proofs.GoodShops.{edits_small, length_set}
 pub use Rattle.shop_model.proofs.Histories.{decided_failure, decided_is, failed_failure, failed_more, last_append, memory_failure, run_append, run_more, run_none, size_failure}
-pub use Rattle.shop_model.proofs.Isolation.{alone, catalogue_stays}
+pub use Rattle.shop_model.proofs.Isolation.{alone}
+pub use Rattle.shop_model.proofs.Accepted.{catalogue_stays}
 pub use Rattle.shop_model.proofs.Migration.{all_rows_have_one, migrated_sound, without_terms_sound}
 pub use Rattle.shop_model.proofs.Resends.{failure_undecided, runs_resend}
-pub use Rattle.shop_model.proofs.Resent.{bytes_same, command_same, flag_same, moment_same, option_same, person_same}
+pub use Rattle.shop_model.proofs.ActLaws.{bytes_same, command_same, flag_same, moment_same, option_same, person_same}
 pub use Rattle.shop_model.proofs.RowLemmas.{differ_if, differ_test, equal_test, filter_filter, filter_map, length_map, map_at, map_map, more_no, more_yes, numbered_push, one_more, put_all_own, put_own, row_at, same_if, same_test, set_rows_counted}
 pub use Rattle.shop_model.proofs.Soundness.{after_sound, empty_sound, opening_books_sound}
-pub use Rattle.shop_model.specs.Answers.{Answer, accepted_answer, answer_of, arrivals_text, holder_text, problem_answer, problem_text, sent_text, shown_text, transit_text}
-pub use Rattle.shop_model.specs.Books.{Append, Arrived, BookCopy, Books, Caller, Consignment, CopyRows, Counter, Customers, Edit, Event, HeadOffice, Line, LineState, Mark, Missing, Nobody, Payments, Put, PutLot, Rentals, RowOf, RowsOf, Set, TermRows, UnderWay, after, after_for, all_edited, as_arrival, as_parcel, between, book_acted, book_done, branch_after, branch_with, caller_in, caller_of, checked, checked_line, come, edited, edits_of, head, imported, is_consignment, is_counter, known_caller, last_books, new_consignment, office_after, put_state, replies_to, reply_for, rows_at, rows_of, run, set_last, shop_of, state_of, under_way, unmarked, unpacked, with_rows}
+pub use Rattle.shop_model.specs.Answers.{Answer, accepted_answer, answer_of, arrivals_text, holder_text, problem_answer, problem_text, sent_text, transit_text}
+pub use Rattle.shop_model.specs.Books.{Append, Arrived, BookCopy, Books, Caller, Consignment, CopyRows, Counter, Customers, Edit, Event, HeadOffice, Line, LineState, Mark, Missing, Nobody, Payments, Put, PutLot, Rentals, RowOf, RowsOf, Set, TermRows, UnderWay, after, after_for, all_edited, as_arrival, as_parcel, between, book_acted, book_done, branch_after, branch_with, caller_in, caller_of, checked, checked_line, come, edited, edits_of, head, imported, is_consignment, is_counter, known_caller, last_books, new_consignment, office_after, put_state, replies_to, reply_for, rows_at, rows_of, run, set_last, shop_of, state_of, under_way, unmarked, unpacked, with_rows, opening}
 pub use Rattle.shop_model.specs.Calendar.{IsMoment, Moment, days_in_month, days_in_year, digit, is_by, is_earlier, is_leap_year, moment_text, month_before, month_days, same_moment}
 pub use Rattle.shop_model.specs.Histories.{IsRun, IsStep, counted_in, fails_for_good, has_failed, is_answer, is_decided, is_store_failure}
 pub use Rattle.shop_model.specs.Json.{array, comma_if, flag_text, items_text, numbers_text, object}
 pub use Rattle.shop_model.specs.Links.{IsGoodCatalogue, NamesRowsOf, are_different, has_row, is_parcel}
-pub use Rattle.shop_model.specs.Machine.{ActorsListed, BalanceIs, CategoriesListed, CopiesAre, CustomerIs, CustomersAre, CustomersListed, Do, Done, FilmIs, FilmsListed, Gone, HereAt, HolderIs, InStockIs, Look, Office, OfficeLook, OverdueAre, Reply, Request, Shows, Sorry, StaffListed, StoresListed, UnderWayTo, Unread, films_in, given, here, if_accepted, incoming, look, numbers_from, office_acted, office_done, office_text, office_told, parcels_to, reply_by, reply_text, reply_to}
+pub use Rattle.shop_model.specs.Machine.{BalanceIs, CopiesAre, CustomerIs, CustomersAre, Do, Done, FilmIs, Gone, HereAt, HolderIs, InStockIs, Look, Office, OfficeLook, Reply, Request, Shows, Sorry, UnderWayTo, Unread, given, if_accepted, look, office_done, office_text, reply_by, reply_text, reply_to}
 pub use Rattle.shop_model.specs.Migration.{IsSoundWithoutTerms, migrated, row_terms, without_terms}
 pub use Rattle.shop_model.specs.Office.{custody_of, goes_before, office_look, place_of}
 pub use Rattle.shop_model.specs.Opening.{north_light, opening_books, opening_branch, opening_catalogue, opening_staff, river_dawn, token_of}
 pub use Rattle.shop_model.specs.Refusals.{BadThreshold, Decision, NoBranch, NoCopy, NoCounter, NoCustomer, NoFilm, NoRoute, Problem, StoreFailed, problem_status}
 pub use Rattle.shop_model.specs.Rows.{AreNumbered, IsCounted, Owned, Row, arrived, at, is_empty, is_of, is_row, lacks, mem, next, numbered, numbered_from, of, owned_by, put_all, set_at, set_row, set_rows, total}
-pub use Rattle.shop_model.specs.Shop.{Catalogue, Kept, OfficeKept, Shop, same_act, same_branch, same_command, same_film, same_numbers, same_office, same_office_act, same_option, same_person, same_rule}
-pub use Rattle.shop_model.specs.Sound.{HasCustody, HasNumbers, HasOwners, IsSound, all_lines, copy_is, is_mark, is_origin, line_is, made, one, opening, places, rows_in, rows_made, transit, widest}
+pub use Rattle.shop_model.specs.Shop.{Catalogue, Kept, OfficeKept, Shop, same_numbers, same_option, same_person, same_rule}
+pub use Rattle.shop_model.specs.OfficeActs.{same_branch, same_film, same_office, same_office_act, office_acted, office_told}
+pub use Rattle.shop_model.specs.Acts.{same_act, same_command, arrival, is_away, is_film_withdrawn, films_in, here, incoming, numbers_from, parcels_to}
+pub use Rattle.shop_model.specs.Sound.{HasCustody, HasNumbers, HasOwners, IsSound, all_lines, copy_is, is_mark, is_origin, line_is, made, one, places, rows_in, rows_made, transit, widest}
 pub use Rattle.shop_model.specs.Stock.{balance, film_in_stock, film_not_in_stock, film_of, film_terms, held_by, in_stock, is_here, is_overdue, keeps_out, rewarded, rewarded_in, termed, terms_now}
 pub use Rattle.shop_model.specs.Values.{Act, Actor, AddActor, AddBranch, AddCast, AddCategory, AddCity, AddCountry, AddCustomer, AddFilm, AddLanguage, AddStaff, Arrival, Ask, Balance, Branch, ByCode, ByComment, Cast, ChooseRule, City, Command, Copies, Copy, CopyState, Customer, Dispatch, Film, FilmInStock, FilmNotInStock, HeldBy, Here, Import, InStock, OfficeAct, OfficeAsk, OfficeCommand, OneCustomer, OneFilm, Parcel, Pay, Payment, Person, PriceFilm, Receive, Rent, Rental, Rewards, Rule, Rules, Scrap, Scrapped, Sent, SetActive, SetManager, Staff, StaffLeaves, Stock, TakeBack, Terms, Text, WithdrawFilm}
-pub use Rattle.shop_model.specs.Verdict.{Accepted, Again, Refused, Verdict, arrival, is_away, is_film_withdrawn, office_verdict, verdict}
+pub use Rattle.shop_model.specs.Verdict.{Accepted, Again, Refused, Verdict, office_verdict, verdict}
 pub use Rattle.shop_model.specs.Views.{ActorRow, FilmRow, PersonRow, StoreRow, actor_row, categories_by_name, category_name, city_name, country_name, customer_list, film_row, films_of, full_name, insert_by, is_before_text, is_cast, manager_name, overdue_list, overdue_row, paid_rentals, person_name, person_row, sales_by_category, sales_of, sells_more, sorted_by, staff_list, takings}
 pub use Rattle.shop_values.proofs.AsciiTexts.{token_is_utf8}
 pub use Rattle.shop_values.proofs.MomentLemmas.{moment_text-utf8}
@@ -142,17 +145,15 @@ pub use Rattle.sql_rows.specs.Texts.{IsQuery}
 pub use Rattle.sql_rows.specs.declared.fault.StoreFault.{StoreFault}
 pub use Rattle.sql_rows.specs.declared.fault.StoreFault.TheVariants.{Failed, Memory, Size}
 pub use Rattle.shop_schema.specs.Bare.{HaveFirst, IsPlain, begun}
-pub use Rattle.shop_schema.specs.Columns.{actor_columns, branch_columns, cast_columns, chain_columns, city_columns, consignment_columns, copy_columns, counter_columns, customer_columns, film_columns, first_version, kept_columns, kept_rows, line_columns, line_rows, line_value, lot_columns, moment_value, named_columns, office_kept_columns, out_columns, pair_columns, payment_columns, rental_columns, rule_columns, rule_value, staff_columns, state_value, terms_columns, this_version, versioned_columns}
 pub use Rattle.shop_schema.specs.Counts.{Count, Counts, Out, Pair, add_count, add_pair, branch_counts, count_in, count_of, count_pair, counts_of, drop_out, is_count, is_open, is_out, is_out_by, is_pair, last_of, new_count, no_counts, office_count, out_of, pairs_of, put_out, raise, raised, with_branch}
 pub use Rattle.shop_schema.specs.First.{TellsFirst}
-pub use Rattle.shop_schema.specs.Forms.{FormsAreOneToOne, OfficeFormsAreOneToOne, act_form, branch_form, command_form, film_form, flag_form, joined, number_form, numbers_form, office_command_form, office_form, option_form, person_form, rule_form, text_form}
-pub use Rattle.shop_schema.specs.Held.{HasFewShared, IsHeld}
+pub use Rattle.shop_schema.specs.Forms.{FormsAreOneToOne, OfficeFormsAreOneToOne, act_form, branch_form, command_form, film_form, flag_form, joined, number_form, numbers_form, office_command_form, office_form, option_form, person_form, rule_form, text_form, kept_columns, kept_rows, office_kept_columns, AreBytes, AreNumbers, IsAct, IsCommand, IsKept, IsNumberList, IsOfficeAct, IsOfficeKept}
+pub use Rattle.shop_schema.specs.Held.{HasFewShared, IsHeld, AreCatalogueValues, AreShared, AreValues}
 pub use Rattle.shop_schema.specs.Kinds.{FitEach, Fits, Kind, value_of}
-pub use Rattle.shop_schema.specs.RowValues.{AreBytes, AreCatalogueValues, AreNumbers, AreRowValues, AreShared, AreValues, IsAct, IsActor, IsBranch, IsCast, IsCity, IsCommand, IsConsignment, IsCopy, IsCustomer, IsFeatures, IsFilm, IsKept, IsKey, IsLast, IsLine, IsLot, IsName, IsNumber, IsNumberList, IsOfficeAct, IsOfficeKept, IsPayment, IsRating, IsRental, IsRow, IsRowOf, IsShared, IsStaff, IsTerms, IsText, IsToken}
-pub use Rattle.shop_schema.specs.Shop.{AreTermed, HasVersion, HaveNoFirstRows, HaveNoRows, Holds, HoldsVersion1, HoldsWith, IsFirstKeyed, IsFirstShop, IsKeyed, IsNewFirst, IsNewShop, IsShop, LeavesNew, LeavesNewFirst, MoreRows, Reads, StandsAs, StandsBy, StandsFor, StandsForVersion1, StandsWith, Tallies, TermedRows, Writes, begins_so, first_books, rule_rows, term_rows}
+pub use Rattle.shop_schema.specs.RowValues.{AreRowValues, IsActor, IsBranch, IsCast, IsCity, IsConsignment, IsCopy, IsCustomer, IsFeatures, IsFilm, IsKey, IsLast, IsLine, IsLot, IsName, IsNumber, IsPayment, IsRating, IsRental, IsRow, IsRowOf, IsShared, IsStaff, IsTerms, IsText, IsToken, actor_columns, branch_columns, cast_columns, chain_columns, city_columns, consignment_columns, copy_columns, counter_columns, customer_columns, film_columns, first_version, line_columns, line_rows, line_value, lot_columns, moment_value, named_columns, out_columns, pair_columns, payment_columns, rental_columns, rule_columns, rule_value, staff_columns, state_value, terms_columns, this_version, versioned_columns}
+pub use Rattle.shop_schema.specs.Shop.{AreTermed, HasVersion, HaveNoFirstRows, HaveNoRows, Holds, HoldsVersion1, HoldsWith, IsFirstKeyed, IsFirstShop, IsKeyed, IsNewFirst, IsNewShop, IsShop, LeavesNew, LeavesNewFirst, MoreRows, Reads, StandsAs, StandsBy, StandsFor, StandsForVersion1, StandsWith, Tallies, TermedRows, Writes, begins_so, first_books, term_rows, actor_table, branch_table, category_table, chain_rule_table, chain_table, city_table, consignment_line_table, consignment_table, copy_table, counter_table, country_table, customer_table, film_actor_table, film_table, kept_table, language_table, later_tables, lot_table, out_copy_table, pair_count_table, payment_table, rental_table, rental_terms_table, shop_schema, staff_table, version_1_schema, HaveRows, later_rows}
 pub use Rattle.shop_schema.specs.Steps.{FilmsFit, FitsTables}
 pub use Rattle.shop_schema.specs.TableOf.{TableOf, person_kinds}
-pub use Rattle.shop_schema.specs.Tables.{actor_table, branch_table, category_table, chain_rule_table, chain_table, city_table, consignment_line_table, consignment_table, copy_table, counter_table, country_table, customer_table, film_actor_table, film_table, kept_table, language_table, later_tables, lot_table, out_copy_table, pair_count_table, payment_table, rental_table, rental_terms_table, shop_schema, staff_table, version_1_schema}
 pub use Rattle.shop_schema.specs.Versions.{version_of, version_told}
 pub use Rattle.shop_schema.specs.declared.known.KnownVersion.{KnownVersion}
 pub use Rattle.shop_schema.specs.declared.known.KnownVersion.TheVariants.{First, Other, This}

@@ -1,12 +1,12 @@
 -- What the statements put that give new tables of version 1 their first rows.
-use Rattle.shop_schema.proofs.Common.{◌≡◌, ℕ, pos, List, [], ◌∷◌, map, Ok, refl, sym, ap, subst, ◌∙◌, Null, Int, Term, lit, col, Values, Insert, Database, State, ExecutesInside, Table, Means, AreKeyed, HasPut, has_put, Books, version_1_schema, chain_table, counter_table, first_version, versioned_columns, counter_columns, counts_of, office_count, IsFirstShop, IsFirstKeyed, HaveNoFirstRows, HoldsVersion1, IsNewFirst, StandsForVersion1, first_books}
+use Rattle.shop_schema.proofs.Common.{◌≡◌, ℕ, pos, List, [], ◌∷◌, map, Ok, refl, sym, ap, subst, ◌∙◌, Null, Int, Term, lit, col, Values, Insert, Database, State, ExecutesInside, Table, Means, AreKeyed, HasPut, has_put, Books, version_1_schema, chain_table, counter_table, first_version, versioned_columns, counter_columns, counts_of, office_count, IsFirstShop, IsFirstKeyed, HaveNoFirstRows, HoldsVersion1, IsNewFirst, StandsForVersion1, first_books, HaveRows}
 use Rattle.sqlite.specs.declared.types.Value.TheVariants.{Text}
 use Rattle.sqlite_value.specs.Order as sql
 use Rattle.sqlite_tied.specs.Compute.{everything}
 use Rattle.sqlite.specs.Listing.{understood}
 use Rattle.shop_model.specs.Values as model
 use Rattle.shop_schema.specs.declared.first.TheConstants.{FIRST_CHAIN, FIRST_COUNT}
-use Rattle.shop_schema.proofs.Stands.{HaveRows, with_rows, none_have, has_at, one_changed, first_named}
+use Rattle.shop_schema.proofs.Stands.{with_rows, none_have, has_at, one_changed, first_named}
 
 abbrev chain_terms : List Term
 chain_terms = lit Null ∷ lit (Int (pos 1)) ∷ col 0 0 ∷ []

@@ -1,7 +1,7 @@
 -- The rows with which a chain begins are such as the program can hold.
 use Rattle.std.proofs.Common.{IfSome}
 use Rattle.shop_schema.proofs.Common.{◌≡◌, ℕ, [], true, false, Option, Some, None, refl, arith, codes, nat_lt, list_all, IsUtf8-from_ascii, is_text, Text, token_of, river_dawn, north_light, opening_branch, opening_staff, opening_books, first_books, IsNumber, IsText, IsName, IsToken, IsFilm, IsBranch, IsStaff, AreValues, by_none, AreRowValues}
-use Rattle.shop_schema.proofs.Values.{ascii_bytes}
+use Rattle.shop_schema.proofs.Replies.{ascii_bytes}
 
 pub first_values : (token : Text) → IsToken token → AreValues (first_books token)
 first_values token is = record {

@@ -7,7 +7,11 @@ pub mod SharedTables
 pub mod Versions
 pub mod FormLemmas
 pub mod FormValues
+pub mod Replies
+pub mod Values
+pub mod Acts
 pub mod OneToOne
+pub mod OfficeActs
 pub mod OfficeOneToOne
 pub mod SameRows
 pub mod OneRow
@@ -18,8 +22,6 @@ pub mod Readings
 pub mod FirstRows
 pub mod MomentTexts
 pub mod Lasts
-pub mod Values
-pub mod OfficeValues
 pub mod FirstValues
 pub mod Numbered
 pub mod Different

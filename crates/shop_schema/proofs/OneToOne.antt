@@ -1,26 +1,11 @@
 -- Under one key, two commands have one form exactly where they are one command.
-use Rattle.shop_schema.proofs.Common.{◌≡◌, ◌≤◌, ◌/◌, ℕ, ◌==◌, ◌&&◌, ◌||◌, List, [], ◌∷◌, ◌++◌, Bool, true, false, sym, ap, subst, ◌∙◌, arith, bytes_eq, and_parts, if◌then◌else◌, Moment, IsMoment, moment_text, same_moment, digit, days_in_month, is_leap_year, Person, Act, Command, same_person, same_act, same_command, same_if, command_same, person_form, act_form, command_form, FormsAreOneToOne}
+use Rattle.shop_schema.proofs.Common.{◌≡◌, ◌≤◌, ◌/◌, ℕ, ◌==◌, ◌&&◌, ◌||◌, List, [], ◌∷◌, ◌++◌, Bool, true, false, sym, ap, subst, ◌∙◌, arith, bytes_eq, and_parts, if◌then◌else◌, Moment, IsMoment, moment_text, same_moment, digit, days_in_month, is_leap_year, Command, same_act, same_command, same_if, command_same, act_form, command_form, FormsAreOneToOne}
 use Rattle.std.proofs.lemmas.List.{append-nil}
-use Rattle.shop_model.specs.Values as model
 use Rattle.shop_schema.proofs.FormLemmas.{number_ends, moment_ends}
-use Rattle.shop_schema.proofs.FormValues.{Kind, Number, Bytes, Numbers, Perhaps, Flag, Values, text_equal, by_form, by_test, made_one}
+use Rattle.shop_schema.proofs.FormValues.{Kind, Number, Values, text_equal, by_test}
+use Rattle.shop_schema.proofs.Acts.{act_one}
 
--- ---- persons, moments and acts: by their forms, and as they are the same
-
-abbrev person_kinds : List Kind
-person_kinds = Bytes ∷ Bytes ∷ Bytes ∷ Bytes ∷ Bytes ∷ Number ∷ []
-
-abbrev of_person : Person → Values person_kinds
-of_person p = (p.first, (p.last, (p.address, (p.postal, (p.phone, (p.city, tt))))))
-
-abbrev to_person : Values person_kinds → Person
-to_person (first, (last, (address, (postal, (phone, (city, end)))))) = record { first = first; last = last; address = address; postal = postal; phone = phone; city = city }
-
-pub person_is : (p q : Person) → person_form p ≡ person_form q → p ≡ q
-person_is p q h = by_form person_kinds to_person (of_person p) (of_person q) h
-
-pub person_equal : (p q : Person) → same_person p q ≡ true → p ≡ q
-person_equal p q h = by_test person_kinds to_person (of_person p) (of_person q) h
+-- ---- moments and commands that are the same
 
 abbrev moment_kinds : List Kind
 moment_kinds = Number ∷ Number ∷ Number ∷ Number ∷ Number ∷ Number ∷ []
@@ -33,18 +18,6 @@ to_moment (year, (month, (day, (hour, (minute, (second, end)))))) = record { yea
 
 pub moment_equal : (a b : Moment) → same_moment a b ≡ true → a ≡ b
 moment_equal a b h = by_test moment_kinds to_moment (of_moment a) (of_moment b) h
-
-act_one : (a b : Act) → (act_form a ≡ act_form b → a ≡ b) × (same_act a b ≡ true → a ≡ b)
-act_one (model.AddCustomer a) (model.AddCustomer b) = made_one 1 person_kinds (λ v. model.AddCustomer (record { person = to_person v })) (of_person a.person) (of_person b.person)
-act_one (model.SetActive c x) (model.SetActive d y) = made_one 2 (Number ∷ Flag ∷ []) (λ v. model.SetActive v.0 v.1.0) (c, (x, tt)) (d, (y, tt))
-act_one (model.Rent c x) (model.Rent d y) = made_one 3 (Number ∷ Number ∷ []) (λ v. model.Rent v.0 v.1.0) (c, (x, tt)) (d, (y, tt))
-act_one (model.TakeBack r) (model.TakeBack s) = made_one 4 (Number ∷ []) (λ v. model.TakeBack v.0) (r, tt) (s, tt)
-act_one (model.Pay c r m) (model.Pay d s n) = made_one 5 (Number ∷ Perhaps ∷ Number ∷ []) (λ v. model.Pay v.0 v.1.0 v.1.1.0) (c, (r, (m, tt))) (d, (s, (n, tt)))
-act_one (model.Import lot file) (model.Import name bytes) = made_one 6 (Bytes ∷ Bytes ∷ []) (λ v. model.Import v.0 v.1.0) (lot, (file, tt)) (name, (bytes, tt))
-act_one (model.Dispatch a xs) (model.Dispatch b ys) = made_one 7 (Number ∷ Numbers ∷ []) (λ v. model.Dispatch v.0 v.1.0) (a, (xs, tt)) (b, (ys, tt))
-act_one (model.Receive s n xs) (model.Receive t m ys) = made_one 8 (Number ∷ Number ∷ Numbers ∷ []) (λ v. model.Receive v.0 v.1.0 v.1.1.0) (s, (n, (xs, tt))) (t, (m, (ys, tt)))
-act_one (model.Scrap x) (model.Scrap y) = made_one 9 (Number ∷ []) (λ v. model.Scrap v.0) (x, tt) (y, tt)
-act_one a b = (λ h. cc, λ h. cc)
 
 pub command_equal : (a b : Command) → same_command a b ≡ true → a ≡ b
 command_equal a b h =

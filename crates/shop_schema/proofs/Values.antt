@@ -1,10 +1,8 @@
 -- The rows of the books stay such as the program can hold.
-use Rattle.shop_schema.proofs.Common.{◌≡◌, ◌≤◌, ◌<◌, ◌+◌, ◌^◌, ◌==◌, ℕ, suc, get_or, List, [], ◌∷◌, ◌++◌, map, not, length, Bool, true, false, refl, sym, ap, subst, ◌∙◌, arith, inl, inr, append-nil, ◌-◌, codes, decimal, IsUtf8, IsAscii, length-append, ⊤, ◌⊎◌, nat_lt, if◌then◌else◌, AllByRecursion, list_all, and_parts, ltb-true, nat_tests, IsAscii-decimal, IsUtf8-from_ascii, IsAscii-append, IsAscii-nil, IsAscii-cons, All-push, IsMoment, flag_text, object, Row, Owned, at, of, is_row, next, put_all, set_row, set_rows, Text, Film, Copy, Rental, Terms, Act, Command, Rules, film_terms, terms_now, films_in, reply_text, Shop, Catalogue, IsGoodCatalogue, Books, Consignment, CopyRows, Rentals, TermRows, RowOf, rows_of, with_rows, Edit, Put, Set, PutLot, Append, edited, all_edited, edits_of, book_acted, book_done, imported, unmarked, shop_of, by_table, AskedOfEach, each_keeps, IsSound, row_terms, migrated, without_terms, put_own, length_map, at_one, all-append, all-filter, HasFewShared, IsHeld, IsConsignment, IsKey, IsNumber, IsFilm, IsRow, IsRental, IsTerms, IsLot, IsKept, IsLast, AreBytes, IsAct, IsCommand, AreValues, FilmsFit, FitsTables, AreRowValues, IsRowOf, RowsOf}
+use Rattle.shop_schema.proofs.Common.{◌≡◌, ◌≤◌, ◌<◌, ◌+◌, ◌^◌, ◌==◌, ℕ, suc, get_or, List, [], ◌∷◌, map, length, Bool, true, false, sym, ap, subst, ◌∙◌, arith, inl, inr, append-nil, ◌-◌, length-append, ◌⊎◌, if◌then◌else◌, AllByRecursion, nat_tests, All-push, Row, Owned, at, of, is_row, next, put_all, set_row, set_rows, Text, Film, Copy, Rental, Terms, Act, Rules, film_terms, terms_now, Shop, Catalogue, IsGoodCatalogue, Books, Consignment, Customers, CopyRows, Rentals, TermRows, Payments, unmarked, RowOf, rows_of, with_rows, Edit, Put, Set, PutLot, Append, edited, all_edited, shop_of, by_table, AskedOfEach, each_keeps, IsSound, row_terms, migrated, without_terms, put_own, length_map, at_one, all-append, HasFewShared, IsHeld, IsConsignment, IsKey, IsNumber, IsFilm, IsRow, IsRental, IsTerms, IsLot, AreBytes, AreValues, FilmsFit, FitsTables, AreRowValues, IsRowOf, RowsOf}
 use Rattle.std.specs.Prelude.{flat_map}
-use Rattle.shop_model.specs.Json.{escape_byte}
 use Rattle.shop_model.specs.Rows.{put, update_where}
 use Rattle.shop_model.specs.Values as model
-use Rattle.shop_model.specs.Machine.{told}
 use Rattle.shop_model.specs.Books.{Table, Update}
 
 -- a good catalogue by a size of a million has few shared rows
@@ -23,6 +21,14 @@ few_by_good sizes catalogue commands good =
       staff = omega (arith, commands, keys, few.staff);
     }
 
+-- by such sizes no branch has more rows of a kind
+most : (sizes : Rules) (books : Books) → sizes.commands ≡ 1_000_000 → sizes.copies ≡ 1_000_000 → IsSound sizes books → (t : Table) (b : ℕ) → length (of b (rows_of books t)) ≤ 1_000_000
+most sizes books commands copies sound Customers b = let few = (sound.shops b).keys in let fit = (sound.shops b).customers_fit in omega arith
+most sizes books commands copies sound CopyRows b = let few = (sound.shops b).copies in let same = length_map unmarked (of b books.copies) in omega arith
+most sizes books commands copies sound Rentals b = let few = (sound.shops b).keys in let fit = (sound.shops b).rentals_fit in omega arith
+most sizes books commands copies sound TermRows b = let few = (sound.shops b).keys in let fit = (sound.shops b).rentals_fit in let same = sound.terms b in omega arith
+most sizes books commands copies sound Payments b = let few = (sound.shops b).keys in let fit = (sound.shops b).payments_fit in omega arith
+
 -- sound books of such rows, by sizes of a million, are held
 pub held_by_sound : (sizes : Rules) (books : Books) → sizes.commands ≡ 1_000_000 → sizes.copies ≡ 1_000_000 → IsSound sizes books → AreValues books → IsHeld books
 held_by_sound sizes books commands copies sound values = record {
@@ -31,11 +37,8 @@ held_by_sound sizes books commands copies sound values = record {
   keys = λ b. (sound.links b).keys;
   tokens = sound.catalogue.tokens;
   most_kept = λ b. let few = (sound.shops b).keys in omega arith;
-  most_customers = λ b. let few = (sound.shops b).keys in let fit = (sound.shops b).customers_fit in omega arith;
+  most_rows = most sizes books commands copies sound;
   termed = sound.terms;
-  most_rentals = λ b. let few = (sound.shops b).keys in let fit = (sound.shops b).rentals_fit in omega arith;
-  most_payments = λ b. let few = (sound.shops b).keys in let fit = (sound.shops b).payments_fit in omega arith;
-  most_copies = λ b. let few = (sound.shops b).copies in omega arith;
   most_office_kept = let few = sound.catalogue.keys_fit in omega arith;
   out_once = λ b. (sound.held b).one;
   owners = sound.owners;
@@ -87,7 +90,10 @@ film_terms_values : (films : List Film) → AllByRecursion IsFilm films → AllB
 film_terms_values [] all = tt
 film_terms_values (film ∷ films) all = (record { rate = all.0.rate; period = all.0.period; replacement = all.0.replacement }, film_terms_values films all.1)
 
-few_terms : (catalogue : Catalogue) (shop : Shop) (x : ℕ) → length (terms_now catalogue shop x) ≤ 1
+pub now_values : (catalogue : Catalogue) → AllByRecursion IsFilm catalogue.films → (shop : Shop) (x : ℕ) → AllByRecursion IsTerms (terms_now catalogue shop x)
+now_values catalogue films shop x = film_terms_values (flat_map (λ (copy : Copy). at copy.film catalogue.films) (at x shop.copies)) (all_found catalogue.films films (at x shop.copies))
+
+pub few_terms : (catalogue : Catalogue) (shop : Shop) (x : ℕ) → length (terms_now catalogue shop x) ≤ 1
 few_terms catalogue shop x = subst (λ (n : ℕ). n ≤ 1) (sym (length_map film_terms (flat_map (λ (copy : Copy). at copy.film catalogue.films) (at x shop.copies)))) (go (at x shop.copies) (at_one x shop.copies))
   where
     one : (n : ℕ) (films : List Film) → (at n films ≡ []) ⊎ ((film : Film) × (at n films ≡ film ∷ [])) → length (at n films) ≤ 1
@@ -108,9 +114,8 @@ row_values b n (it ∷ its) branch number all = ((branch, number, all.0), row_va
 all_migrated : (books : Books) → AllByRecursion IsFilm books.catalogue.films → (rows : List (Row Rental)) → AllByRecursion (IsRow IsRental) rows → AllByRecursion (IsRow IsTerms) (flat_map (row_terms books) rows)
 all_migrated books films [] all = tt
 all_migrated books films (row ∷ rows) all =
-    let found = all_found books.catalogue.films films (at row.it.copy (shop_of row.branch books).copies) in
     all-append (IsRow IsTerms) (row_terms books row) (flat_map (row_terms books) rows)
-    (row_values row.branch row.number (terms_now books.catalogue (shop_of row.branch books) row.it.copy) all.0.0 all.0.1 (film_terms_values (flat_map (λ (copy : Copy). at copy.film books.catalogue.films) (at row.it.copy (shop_of row.branch books).copies)) found))
+    (row_values row.branch row.number (terms_now books.catalogue (shop_of row.branch books) row.it.copy) all.0.0 all.0.1 (now_values books.catalogue films (shop_of row.branch books) row.it.copy))
     (all_migrated books films rows all.1)
 
 -- other terms
@@ -123,75 +128,6 @@ migrated_values books v = with_terms _ books (all_migrated books v.catalogue.fil
 pub values_without : (books : Books) → AreValues books → AreValues (without_terms books)
 values_without books v = with_terms [] books tt v
 
--- ---- kept replies
-
-pub ascii_bytes : (bytes : List ℕ) → list_all (λ b. nat_lt b 128) bytes ≡ true → IsAscii bytes
-ascii_bytes [] low = IsAscii-nil
-ascii_bytes (b ∷ bytes) low =
-    let each = and_parts (nat_lt b 128) (list_all (λ b. nat_lt b 128) bytes) low in
-    IsAscii-cons b bytes (ltb-true b 128 each.0) (ascii_bytes bytes each.1)
-
-customer_reply : (n : ℕ) → n < 2 ^ 64 → IsUtf8 (object ((codes "customer", decimal n) ∷ []))
-unfolding escape_byte
-customer_reply n fits = IsUtf8-from_ascii _
-    (IsAscii-append (codes "{\"customer\":") (decimal n ++ codes "}") (ascii_bytes (codes "{\"customer\":") refl)
-    (IsAscii-append (decimal n) (codes "}") (IsAscii-decimal n fits) (ascii_bytes (codes "}") refl)))
-
-import_reply : (copies first : ℕ) → copies < 2 ^ 64 → first < 2 ^ 64 → IsUtf8 (object ((codes "copies", decimal copies) ∷ (codes "first", decimal first) ∷ []))
-unfolding escape_byte
-import_reply copies first c f = IsUtf8-from_ascii _
-    (IsAscii-append (codes "{\"copies\":") (decimal copies ++ (codes ",\"first\":" ++ (decimal first ++ codes "}"))) (ascii_bytes (codes "{\"copies\":") refl)
-    (IsAscii-append (decimal copies) (codes ",\"first\":" ++ (decimal first ++ codes "}")) (IsAscii-decimal copies c)
-    (IsAscii-append (codes ",\"first\":") (decimal first ++ codes "}") (ascii_bytes (codes ",\"first\":") refl)
-    (IsAscii-append (decimal first) (codes "}") (IsAscii-decimal first f) (ascii_bytes (codes "}") refl)))))
-
--- a number in an object of one member, whose name is plain
-pub number_reply : (name : List ℕ) → list_all (λ b. nat_lt b 128) name ≡ true → (n : ℕ) → n < 2 ^ 64 → IsUtf8 (name ++ (decimal n ++ codes "}"))
-number_reply name plain n fits = IsUtf8-from_ascii _ (IsAscii-append name (decimal n ++ codes "}") (ascii_bytes name plain) (IsAscii-append (decimal n) (codes "}") (IsAscii-decimal n fits) (ascii_bytes (codes "}") refl)))
-
-rental_reply : (n : ℕ) → n < 2 ^ 64 → IsUtf8 (object ((codes "rental", decimal n) ∷ []))
-unfolding escape_byte
-rental_reply n fits = number_reply (codes "{\"rental\":") refl n fits
-
-payment_reply : (n : ℕ) → n < 2 ^ 64 → IsUtf8 (object ((codes "payment", decimal n) ∷ []))
-unfolding escape_byte
-payment_reply n fits = number_reply (codes "{\"payment\":") refl n fits
-
-returned_reply : (n : ℕ) → n < 2 ^ 64 → IsUtf8 (object ((codes "returned", decimal n) ∷ []))
-unfolding escape_byte
-returned_reply n fits = number_reply (codes "{\"returned\":") refl n fits
-
-scrapped_reply : (n : ℕ) → n < 2 ^ 64 → IsUtf8 (object ((codes "scrapped", decimal n) ∷ []))
-unfolding escape_byte
-scrapped_reply n fits = number_reply (codes "{\"scrapped\":") refl n fits
-
-active_reply : (active : Bool) (n : ℕ) → n < 2 ^ 64 → IsUtf8 (object ((codes "active", flag_text active) ∷ (codes "customer", decimal n) ∷ []))
-unfolding escape_byte
-active_reply true n fits = number_reply (codes "{\"active\":true,\"customer\":") refl n fits
-active_reply false n fits = number_reply (codes "{\"active\":false,\"customer\":") refl n fits
-
--- the number of a row is small
-pub small : (n : ℕ) → IsNumber n → n < 2 ^ 64
-small n is = grind (arith, nat_tests)
-
--- What is asked of a dispatch or a receipt besides: their rows and replies need sound books.
-abbrev pub IfConsigns : Act → Type 0 → Type 0
-IfConsigns (model.Dispatch addressee copies) P = P
-IfConsigns (model.Receive source number missing) P = P
-IfConsigns act P = ⊤
-
-reply_utf8 : (rules : Rules) (act : Act) (shop : Shop) → length shop.customers ≤ 1_000_000 → length shop.rentals ≤ 1_000_000 → length shop.payments ≤ 1_000_000 → length shop.copies ≤ 1_000_000 → IsAct act → FitsTables rules act → IfConsigns act (IsUtf8 (object (told rules act shop)))
-    → IsUtf8 (object (told rules act shop))
-reply_utf8 rules (model.AddCustomer person) shop customers rentals payments copies is fits consigned = customer_reply (length shop.customers + 1) (omega arith)
-reply_utf8 rules (model.Import lot file) shop customers rentals payments copies is fits consigned = import_reply (length (films_in (rules.stock_of file))) (length shop.copies + 1) (omega (arith, fits.1)) (omega arith)
-reply_utf8 rules (model.SetActive c active) shop customers rentals payments copies is fits consigned = active_reply active c (small c is)
-reply_utf8 rules (model.Rent c x) shop customers rentals payments copies is fits consigned = rental_reply (length shop.rentals + 1) (omega arith)
-reply_utf8 rules (model.TakeBack r) shop customers rentals payments copies is fits consigned = returned_reply r (small r is)
-reply_utf8 rules (model.Pay c rental amount) shop customers rentals payments copies is fits consigned = payment_reply (length shop.payments + 1) (omega arith)
-reply_utf8 rules (model.Dispatch to xs) shop customers rentals payments copies is fits consigned = consigned
-reply_utf8 rules (model.Receive source number missing) shop customers rentals payments copies is fits consigned = consigned
-reply_utf8 rules (model.Scrap x) shop customers rentals payments copies is fits consigned = scrapped_reply x (small x is)
-
 -- ---- what a step is given
 
 -- rules by which every stock file fits are rules by which every act does
@@ -199,7 +135,7 @@ pub acts_fit : (rules : Rules) → ((file : Text) → FilmsFit (rules.stock_of f
 acts_fit rules files (model.Import lot file) = files file
 acts_fit rules files act = tt
 
--- ---- a step
+-- ---- edits
 
 with_values : (t : Table) (new : RowsOf t) (books : Books) → AreRowValues t new → AreValues books → AreValues (with_rows t new books)
 with_values t new books is v = record { catalogue = v.catalogue; rows = by_table AreRowValues t new books is v.rows; lots = v.lots; consignments = v.consignments; kept = v.kept; lasts = v.lasts }
@@ -208,7 +144,7 @@ with_others : (lots : List (Owned Text)) (cs : List Consignment) (books : Books)
 with_others lots cs books lots_are cs_are v = record { catalogue = v.catalogue; rows = v.rows; lots = lots_are; consignments = cs_are; kept = v.kept; lasts = v.lasts }
 
 -- what new rows are asked, whatever their numbers
-abbrev AreNew : (t : Table) → List (ℕ → RowOf t) → Type 0
+abbrev pub AreNew : (t : Table) → List (ℕ → RowOf t) → Type 0
 AreNew t makes = AllByRecursion (λ (make : ℕ → RowOf t). (n : ℕ) → IsNumber n → IsRowOf t (make n)) makes
 
 puts_values : (t : Table) (b : ℕ) (makes : List (ℕ → RowOf t)) (its : List (Row (RowOf t))) → IsNumber b → length (of b its) + length makes ≤ 1_001_000 → AreNew t makes → AreRowValues t its → AreRowValues t (put_all b makes its)
@@ -222,7 +158,7 @@ sets_values t b [] f its stays all = all
 sets_values t b (n ∷ ns) f its stays all = sets_values t b ns f (set_row b n f its) stays (set_values (IsRowOf t) b n f its stays all)
 
 -- what an edit is asked
-abbrev IsEditOfValues : ℕ → Books → Edit → Type 0
+abbrev pub IsEditOfValues : ℕ → Books → Edit → Type 0
 IsEditOfValues b books (Put t makes) = (length (of b (rows_of books t)) + length makes ≤ 1_001_000) × AreNew t makes
 IsEditOfValues b books (Set t ns f) = (it : RowOf t) → IsRowOf t it → IsRowOf t (f it)
 IsEditOfValues b books (PutLot lot) = IsKey lot
@@ -236,65 +172,8 @@ values_edited b branch books (PutLot lot) asked v = with_others _ books.consignm
 values_edited b branch books (Append it) asked v = with_others books.lots _ books v.lots (All-push IsConsignment books.consignments it v.consignments asked) v
 values_edited b branch books (Update test f) asked v = with_others books.lots _ books v.lots asked v
 
-all_values : (b : ℕ) (edits : List Edit) (books : Books) → IsNumber b → AskedOfEach b (IsEditOfValues b) edits books → AreValues books → AreValues (all_edited b edits books)
+pub all_values : (b : ℕ) (edits : List Edit) (books : Books) → IsNumber b → AskedOfEach b (IsEditOfValues b) edits books → AreValues books → AreValues (all_edited b edits books)
 all_values b edits books branch asked v = each_keeps AreValues (IsEditOfValues b) b (values_edited b branch) edits books asked v
-
-new_copies_values : (b : ℕ) → IsNumber b → (films : List ℕ) → AllByRecursion IsNumber films → AreNew CopyRows (map (imported b) films)
-new_copies_values b branch [] all = tt
-new_copies_values b branch (film ∷ films) all = (λ n number. (all.0, (branch, number)), new_copies_values b branch films all.1)
-
-new_terms_values : (its : List Terms) → AllByRecursion IsTerms its → AreNew TermRows (map (λ it _. it) its)
-new_terms_values [] all = tt
-new_terms_values (it ∷ its) all = (λ n number. all.0, new_terms_values its all.1)
-
-acted_values : (rules : Rules) (b : ℕ) (command : Command) (act : Act) (books : Books) → IsNumber b → IsNumber command.staff → IsMoment command.moment → IsAct act → IsHeld books → FitsTables rules act
-    → IfConsigns act (AreValues (book_acted rules b command act books))
-    → AreValues (book_acted rules b command act books)
-acted_values rules b command (model.Dispatch to xs) books branch staff moment is held fits consigned = consigned
-acted_values rules b command (model.Receive source number missing) books branch staff moment is held fits consigned = consigned
-acted_values rules b command (model.AddCustomer person) books branch staff moment is held fits consigned =
-    let few = held.most_customers b in
-    all_values b (edits_of rules b command (model.AddCustomer person) books) books branch ((omega arith, (λ n number. (is, moment), tt)), tt) held.values
-acted_values rules b command (model.Import lot file) books branch staff moment is held fits consigned =
-    let few : length (of b books.copies) ≤ 1_000_000 = subst (λ n. n ≤ 1_000_000) (length_map unmarked (of b books.copies)) (held.most_copies b) in
-    let many = length_map (imported b) (films_in (rules.stock_of file)) in
-    all_values b (edits_of rules b command (model.Import lot file) books) books branch ((omega (arith, fits.1, many), new_copies_values b branch (films_in (rules.stock_of file)) fits.0), (is.0, tt)) held.values
-acted_values rules b command (model.Rent c x) books branch staff moment is held fits consigned =
-    let few = held.most_rentals b in
-    let now = terms_now books.catalogue (shop_of b books) x in
-    let many = length_map {B = ℕ → Terms} (λ it _. it) now in
-    all_values b (edits_of rules b command (model.Rent c x) books) books branch (
-      (omega arith, (λ n number. record { rented = moment; copy = is.1; customer = is.0; returned = tt; staff = staff }, tt)),
-      (
-        (
-          omega (arith, few, many, held.termed b, few_terms books.catalogue (shop_of b books) x),
-          new_terms_values now (film_terms_values (flat_map (λ (copy : Copy). at copy.film books.catalogue.films) (at x (shop_of b books).copies)) (all_found books.catalogue.films held.values.catalogue.films.1 (at x (shop_of b books).copies))),
-        ),
-        tt,
-      ),
-    ) held.values
-acted_values rules b command (model.TakeBack r) books branch staff moment is held fits consigned =
-    all_values b (edits_of rules b command (model.TakeBack r) books) books branch (λ it such. record { rented = such.rented; copy = such.copy; customer = such.customer; returned = moment; staff = such.staff }, tt) held.values
-acted_values rules b command (model.Pay c rental amount) books branch staff moment is held fits consigned =
-    let few = held.most_payments b in
-    all_values b (edits_of rules b command (model.Pay c rental amount) books) books branch ((omega arith, (λ n number. record { customer = is.0; staff = staff; rental = is.1; amount = is.2; paid = moment }, tt)), tt) held.values
-acted_values rules b command act books branch staff moment is held fits consigned = all_values b (edits_of rules b command act books) books branch (λ it such. such, tt) held.values
-
--- what an accepted command makes of books that are held
-pub values_done : (rules : Rules) (b : ℕ) (command : Command) (books : Books) → IsNumber b → IsCommand command → IsHeld books → FitsTables rules command.act
-    → IfConsigns command.act (AreValues (book_acted rules b command command.act books)) → IfConsigns command.act (IsUtf8 (object (told rules command.act (shop_of b books))))
-    → AreValues (book_done rules b command books)
-values_done rules b command books branch is held fits rows replies =
-    let v = acted_values rules b command command.act books branch is.staff is.moment is.act held fits rows in
-    let reply = reply_utf8 rules command.act (shop_of b books) (held.most_customers b) (held.most_rentals b) (held.most_payments b) (held.most_copies b) is.act fits replies in
-    record {
-      catalogue = v.catalogue;
-      rows = v.rows;
-      lots = v.lots;
-      consignments = v.consignments;
-      kept = All-push IsKept books.kept (record { owner = b; it = record { command = command; reply = reply_text rules command (shop_of b books) } }) held.values.kept (branch, is, reply);
-      lasts = (is.moment, all-filter IsLast (λ row. not (row.owner == b)) books.lasts held.values.lasts);
-    }
 
 -- ---- the bytes of a stock file
 

@@ -15,8 +15,7 @@ use Rattle.shop_types.specs.declared.rule.Rule as chain_rule
 use Rattle.shop_types.specs.declared.custody.CopyState.{CopyState}
 use Rattle.shop_types.specs.declared.custody.LineState.{LineState}
 use Rattle.shop_schema.specs.declared.shop_cells.ThisVersion.{ThisVersion}
-use Rattle.shop_schema.specs.Columns.{moment_value, rule_value, state_value, line_value}
-use Rattle.shop_schema.specs.RowValues.{IsNumber, IsText, IsKey, IsToken, IsPlace}
+use Rattle.shop_schema.specs.RowValues.{IsNumber, IsText, IsKey, IsToken, IsPlace, moment_value, rule_value, state_value, line_value}
 
 pub data Kind : Type 0 where
   Number : Kind  -- of a row

@@ -3,7 +3,7 @@ use Rattle.std.specs.Prelude.{⊤, ◌≤◌, length}
 use Rattle.std.specs.List.{AllByRecursion}
 use Rattle.shop_model.specs.Values.{Stock, Act, Rules}
 use Rattle.shop_model.specs.Values as model
-use Rattle.shop_model.specs.Machine.{films_in}
+use Rattle.shop_model.specs.Acts.{films_in}
 use Rattle.shop_schema.specs.RowValues.{IsNumber}
 
 -- the film of each copy that a stock file lists is a row's number, and it lists 1,000 copies at most

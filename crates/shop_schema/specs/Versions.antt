@@ -5,7 +5,7 @@ use Rattle.sqlite.specs.declared.types.Value.TheVariants.{Int}
 use Rattle.sqlite_value.specs.Order.{Row, column}
 use Rattle.shop_schema.specs.declared.known.KnownVersion.{KnownVersion}
 use Rattle.shop_schema.specs.declared.known.KnownVersion.TheVariants.{Missing, First, This, Other}
-use Rattle.shop_schema.specs.Columns.{this_version, first_version}
+use Rattle.shop_schema.specs.RowValues.{this_version, first_version}
 
 abbrev pub version_told : Value → KnownVersion
 version_told (Int (pos n)) = if n == this_version then This else if n == first_version then First else Other

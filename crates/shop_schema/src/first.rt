@@ -15,7 +15,7 @@ ghost use Rattle.shop_schema.specs.Shop.{
   first_books,
 };
 
-use crate::create::TEXTS;
+use crate::tables::TEXTS;
 use shop_types::Token;
 use sql_rows::{StoreFault, execute, fault_of, make_tables};
 use sqlite::types::ValueRef;

@@ -1,12 +1,14 @@
-//! The stored form of commands.
+//! The stored form of a branch's commands, and the ranges of their values.
 
-ghost use Rattle.std.specs.Prelude.{◌≡◌, ◌<◌, ◌^◌, [], ◌∷◌, ◌++◌, length, IfOk, OnOk};
-ghost use Rattle.shop_model.specs.Values.{Pay};
-ghost use Rattle.shop_schema.specs.Forms.{number_form, text_form, numbers_form, joined, option_form, person_form, act_form, command_form};
+ghost use Rattle.std.specs.Prelude.{◌≡◌, ◌≤◌, ◌<◌, ◌^◌, [], ◌∷◌, ◌++◌, length, IfOk, OnOk};
+ghost use Rattle.shop_model.specs.Values.{Pay, Receive};
+ghost use Rattle.shop_schema.specs.Forms.{number_form, text_form, numbers_form, joined, option_form, person_form, act_form, command_form, IsStockFile, IsNumberList, IsAct, IsCommand};
+ghost use Rattle.shop_schema.specs.RowValues.{IsPerson};
 ghost use Rattle.shop_types.specs.Seen.{seen_person, seen_act, seen_command};
 
 use shop_types::{
-    Act, Amount, Command, ConsignmentNo, CustomerNo, LineNos, NoMemory, Person, RentalNo, RowNumber,
+    Act, Amount, BranchNo, Command, ConsignmentNo, CustomerNo, LineNos, NoMemory, Person, RentalNo,
+    RowNumber,
 };
 use sql_rows::Bytes;
 use std::alloc::Global;
@@ -170,4 +172,100 @@ pub fn command_form(alloc: Global, command: &Command) -> Result<Bytes, NoMemory>
     form.extend_from_slice(command.at.text().as_slice())?;
     add_act(&mut form, &command.act)?;
     Ok(Bytes::new(form))
+}
+
+// ---- ranges
+
+pub fn person_values(person: &Person)
+    ensures { IsPerson (seen_person person.now) }
+{
+    let _first = person.first.as_str();
+    let _last = person.last.as_str();
+    let _address = person.address.as_str();
+    let _postal = person.postal.as_str();
+    let _phone = person.phone.as_str();
+    let _city = person.city.get();
+}
+
+/// So many bytes are a stock file, whatever they are.
+fn bytes_values(bytes: &[u8])
+    requires { length bytes.now ≤ 65_536 }
+    ensures { IsStockFile bytes.now }
+{}
+
+/// So many a command may list, and each is the number of a row.
+fn numbers_values<const KIND: u8>(numbers: &[RowNumber<KIND>])
+    requires { length numbers.now ≤ 65_536 }
+    ensures { IsNumberList numbers.now }
+{
+    for number in numbers {
+        let _number = number.get();
+    }
+}
+
+fn payment_values(customer: CustomerNo, rental: Option<RentalNo>, amount: Amount)
+    ensures { IsAct (Pay customer rental amount) }
+{
+    let _customer = customer.get();
+    if let Some(number) = rental {
+        let _rental = number.get();
+    }
+    let _amount = amount.get();
+}
+
+fn receipt_values(from: BranchNo, number: ConsignmentNo, missing: &LineNos)
+    ensures { IsAct (Receive from number missing.now) }
+{
+    let _from = from.get();
+    let _number = number.get();
+    numbers_values(missing.as_slice());
+}
+
+fn act_values(act: &Act)
+    ensures { IsAct (seen_act act.now) }
+{
+    match act {
+        Act::Customer(it) => person_values(&it.person),
+        Act::Active { customer, .. } => {
+            let _customer = customer.get();
+        }
+        Act::Rent { customer, copy } => {
+            let _customer = customer.get();
+            let _copy = copy.get();
+        }
+        Act::TakeBack(rental) => {
+            let _rental = rental.get();
+        }
+        Act::Pay {
+            customer,
+            rental,
+            amount,
+        } => payment_values(*customer, *rental, *amount),
+        Act::Import { lot, file } => {
+            let _lot = lot.as_str();
+            bytes_values(file.as_slice());
+        }
+        Act::Dispatch { to, copies } => {
+            let _to = to.get();
+            numbers_values(copies.as_slice());
+        }
+        Act::Receive {
+            from,
+            number,
+            missing,
+        } => receipt_values(*from, *number, missing),
+        Act::Scrap(copy) => {
+            let _copy = copy.get();
+        }
+    }
+}
+
+/// The values of a command are such as the tables can hold: a law, so that nothing is done.
+pub fn command_values(command: &Command)
+    ensures { IsCommand (seen_command command.now) }
+{
+    let _key = command.key.as_str();
+    let _staff = command.staff.get();
+    let _text = command.at.text();
+    act_values(&command.act);
 }

@@ -7,8 +7,7 @@ ghost use Rattle.sqlite.specs.Steps.{over_memory};
 ghost use Rattle.sqlite.specs.State.{HasCleanDisk};
 ghost use Rattle.sql_rows.specs.Calls.{StaysInside};
 ghost use Rattle.sql_rows.specs.Rows.{columns_of};
-ghost use Rattle.shop_schema.specs.Tables.{shop_schema, version_1_schema};
-ghost use Rattle.shop_schema.specs.Shop.{HasVersion};
+ghost use Rattle.shop_schema.specs.Shop.{HasVersion, shop_schema, version_1_schema};
 ghost use Rattle.shop_schema.specs.Versions.{version_of};
 
 use crate::create::create_shop;

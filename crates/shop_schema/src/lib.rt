@@ -10,24 +10,22 @@ mod laws;
 mod moment_text;
 mod office_forms;
 mod place;
-mod ranges;
 mod read;
 mod same_parts;
 mod same_tables;
 mod shop_cells;
 mod states;
-mod tables;
+pub mod tables;
 
 pub use cells::{Cell, Cells, read_cells};
 pub use create::{create_shop, create_tables};
 pub use first::create_first;
-pub use form::command_form;
+pub use form::{command_form, command_values};
 pub use known::{KnownVersion, has_version, is_first_shop, is_shop, version};
 pub use laws::{forms_are_one_to_one, office_forms_are_one_to_one};
 pub use moment_text::MomentText;
-pub use office_forms::office_form;
+pub use office_forms::{office_form, office_values};
 pub use place::DispatchPlace;
-pub use ranges::{command_values, office_values};
 pub use read::{
     first_of, moment_at, moment_or_null_at, query_first, row_number_at, row_number_or_null_at,
     row_numbers_in, text_at,
@@ -35,8 +33,3 @@ pub use read::{
 pub use same_tables::same_schema;
 pub use shop_cells::ThisVersion;
 pub use states::{line_state_code, state_code};
-pub use tables::{
-    ActorCells, BranchCells, CastCells, ChainCells, CityCells, CopyCells, CustomerCells, FilmCells,
-    HeaderCells, KeptCells, LineCells, LotCells, NamedCells, PaymentCells, PricedCells,
-    RentalCells, RuleCells, StaffCells, TermsCells,
-};

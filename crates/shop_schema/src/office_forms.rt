@@ -1,12 +1,15 @@
-//! The stored form of head office's commands.
+//! The stored form of head office's commands, and the ranges of their values.
 
 ghost use Rattle.std.specs.Prelude.{◌≡◌, false, [], ◌∷◌, ◌++◌, IfOk, OnOk};
-ghost use Rattle.shop_schema.specs.Forms.{number_form, text_form, option_form, flag_form, joined, film_form, branch_form, rule_form, office_form, office_command_form};
+ghost use Rattle.shop_schema.specs.Forms.{number_form, text_form, option_form, flag_form, joined, film_form, branch_form, rule_form, office_form, office_command_form, IsOfficeAct};
+ghost use Rattle.shop_schema.specs.RowValues.{IsKey, IsRating, IsFeatures, IsFilm, IsBranch, IsStaff};
 ghost use Rattle.shop_types.specs.Films.{rating_text, features_text};
-ghost use Rattle.shop_types.specs.Seen.{seen_film, seen_branch, seen_rule, seen_office_act, seen_office};
+ghost use Rattle.shop_types.specs.Seen.{seen_film, seen_branch, seen_staff, seen_rule, seen_office_act, seen_office};
 
-use crate::form::{add_bytes, add_number, add_one, add_pair, add_person, add_text};
-use shop_types::{Branch, Film, Minutes, NoMemory, OfficeAct, OfficeCommand, Rule, T45};
+use crate::form::{add_bytes, add_number, add_one, add_pair, add_person, add_text, person_values};
+use shop_types::{
+    Branch, Features, Film, Minutes, NoMemory, OfficeAct, OfficeCommand, Rating, Rule, Staff, T45,
+};
 use sql_rows::Bytes;
 use std::alloc::Global;
 
@@ -143,4 +146,99 @@ pub fn office_form(alloc: Global, command: &OfficeCommand) -> Result<Bytes, NoMe
     let mut form = Vec::new(alloc);
     add_office_act(&mut form, &command.act)?;
     Ok(Bytes::new(form))
+}
+
+// ---- ranges
+
+#[tactic(auto, using(crate::proofs::ShopTables::rating_fits))]
+fn rating_values(rating: Rating)
+    ensures { IsRating (rating_text rating) }
+{}
+
+#[tactic(auto, using(crate::proofs::CellTexts::features_are))]
+fn features_values(features: Features)
+    ensures { IsFeatures (features_text features) }
+{}
+
+fn film_values(film: &Film)
+    ensures { IsFilm (seen_film film.now) }
+{
+    let _title = film.title.as_str();
+    let _description = film.description.as_str();
+    let _language = film.language.get();
+    let _category = film.category.get();
+    let _period = film.period.get();
+    let _rate = film.rate.get();
+    let _replacement = film.replacement.get();
+    if let Some(minutes) = film.minutes {
+        let _minutes = minutes.get();
+    }
+    rating_values(film.rating);
+    features_values(film.features);
+}
+
+fn branch_values(branch: &Branch)
+    ensures { IsBranch (seen_branch branch.now) }
+{
+    let _token = branch.token.as_bytes();
+    let _address = branch.address.as_str();
+    let _postal = branch.postal.as_str();
+    let _phone = branch.phone.as_str();
+    let _city = branch.city.get();
+}
+
+fn staff_values(staff: &Staff)
+    ensures { IsStaff (seen_staff staff.now) }
+{
+    let _branch = staff.branch.get();
+    person_values(&staff.person);
+}
+
+fn office_act_values(act: &OfficeAct)
+    ensures { IsOfficeAct (seen_office_act act.now) }
+{
+    match act {
+        OfficeAct::Country(name) | OfficeAct::Language(name) | OfficeAct::Category(name) => {
+            let _name = name.as_str();
+        }
+        OfficeAct::City(city) => {
+            let _name = city.name.as_str();
+            let _country = city.country.get();
+        }
+        OfficeAct::Actor(actor) => {
+            let _first = actor.first.as_str();
+            let _last = actor.last.as_str();
+        }
+        OfficeAct::Film(film) => film_values(film),
+        OfficeAct::Price { film, rate } => {
+            let _film = film.get();
+            let _rate = rate.get();
+        }
+        OfficeAct::Withdraw(film) => {
+            let _film = film.get();
+        }
+        OfficeAct::Cast { film, actor } => {
+            let _film = film.get();
+            let _actor = actor.get();
+        }
+        OfficeAct::Branch(branch) => branch_values(branch),
+        OfficeAct::Staff(staff) => staff_values(staff),
+        OfficeAct::Leave(staff) => {
+            let _staff = staff.get();
+        }
+        OfficeAct::Manager { branch, staff } => {
+            let _branch = branch.get();
+            let _staff = staff.get();
+        }
+        OfficeAct::Rule(_) => {}
+    }
+}
+
+/// The values of a command of head office are such as the tables can hold: a law, so that nothing is done.
+pub fn office_values(command: &OfficeCommand)
+    ensures key { IsKey (seen_office command.now).key }
+    ensures act { IsOfficeAct (seen_office command.now).act }
+{
+    let _key = command.key.as_str();
+    office_act_values(&command.act);
 }

@@ -12,9 +12,8 @@ ghost use Rattle.sql_rows.specs.Calls.{StaysInside};
 ghost use Rattle.sql_rows.specs.Rows.{number_value};
 ghost use Rattle.sql_rows.specs.declared.fault.StoreFault.TheVariants.{Failed};
 ghost use Rattle.shop_model.specs.Calendar.{Moment as Civil, IsMoment};
-ghost use Rattle.shop_schema.specs.Columns.{moment_value};
 ghost use Rattle.shop_schema.specs.First.{TellsFirst};
-ghost use Rattle.shop_schema.specs.RowValues.{IsNumber, IsText};
+ghost use Rattle.shop_schema.specs.RowValues.{IsNumber, IsText, moment_value};
 
 use shop_types::{Moment, RowNumber, Text};
 use sql_rows::{StoreFault, number_at, number_or_null_at, query, words_at, words_or_null_at};

@@ -8,8 +8,7 @@ ghost use Rattle.sql_rows.specs.declared.fault.StoreFault.TheVariants.{Failed};
 ghost use Rattle.shop_model.specs.Calendar.{IsMoment};
 ghost use Rattle.shop_types.specs.Films.{rating_text, features_text};
 ghost use Rattle.shop_types.specs.Seen.{seen_rule, seen_state, seen_line_state};
-ghost use Rattle.shop_schema.specs.Columns.{moment_value, rule_value, state_value, line_value};
-ghost use Rattle.shop_schema.specs.RowValues.{IsNumber, IsText, IsKey, IsToken, IsPlace};
+ghost use Rattle.shop_schema.specs.RowValues.{IsNumber, IsText, IsKey, IsToken, IsPlace, moment_value, rule_value, state_value, line_value};
 
 use crate::cells::Cell;
 use crate::place::DispatchPlace;

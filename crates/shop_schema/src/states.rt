@@ -3,7 +3,7 @@
 ghost use Rattle.std.specs.Prelude.{◌≡◌};
 ghost use Rattle.sql_rows.specs.Rows.{number_value};
 ghost use Rattle.shop_types.specs.Seen.{seen_state, seen_line_state};
-ghost use Rattle.shop_schema.specs.Columns.{state_value, line_value};
+ghost use Rattle.shop_schema.specs.RowValues.{state_value, line_value};
 
 use shop_types::{CopyState, LineState};
 

@@ -1,44 +1,80 @@
--- By head office's commands too the rows of the books stay such as the program can hold, and what is known of the books stays known.
-use Rattle.shop_schema.proofs.Common.{◌≡◌, ◌≤◌, ◌<◌, ◌+◌, ◌-◌, ◌^◌, ◌==◌, ℕ, List, [], ◌∷◌, ◌++◌, length, Bool, true, false, cond, refl, arith, codes, decimal, IsUtf8, length-append, nat_lt, IfSome, AllByRecursion, list_all, IsAscii-decimal, IsUtf8-from_ascii, IsAscii-append, All-push, object, set_at, Film, Branch, Staff, OfficeAct, AddCountry, AddCity, AddLanguage, AddCategory, AddActor, AddFilm, PriceFilm, WithdrawFilm, AddCast, AddBranch, AddStaff, StaffLeaves, SetManager, ByCode, ByComment, ChooseRule, OfficeCommand, office_acted, office_told, office_text, office_done, Catalogue, Books, length_set, HasFewShared, IsToken, IsNumber, IsName, IsCity, IsActor, IsRating, IsFeatures, IsFilm, IsCast, IsBranch, IsStaff, IsKey, IsOfficeAct, IsOfficeKept, AreShared, AreCatalogueValues, AreValues, rating_text, features_text, Features, Rating}
-use Rattle.std.specs.Prelude.{None, Some, Option}
+-- What is shown of each act of head office: its form is its own, what it replies is a text, and the rows that it makes are such as the program can hold.
+use Rattle.shop_schema.proofs.Common.{◌≡◌, ◌≤◌, ◌-◌, ◌==◌, ℕ, List, [], ◌∷◌, ◌++◌, length, Bool, true, false, cond, refl, arith, codes, IsUtf8, length-append, IfSome, AllByRecursion, All-push, object, set_at, Film, Branch, Staff, OfficeAct, AddCountry, AddCity, AddLanguage, AddCategory, AddActor, AddFilm, PriceFilm, WithdrawFilm, AddCast, AddBranch, AddStaff, StaffLeaves, SetManager, ByCode, ByComment, ChooseRule, OfficeCommand, office_acted, office_told, office_text, office_done, Catalogue, Books, length_set, HasFewShared, IsToken, IsNumber, IsName, IsCity, IsActor, IsFilm, IsCast, IsBranch, IsStaff, IsKey, IsOfficeAct, IsOfficeKept, AreShared, AreCatalogueValues, AreValues, ◌↔◌, ◌&&◌, Option, Some, ap, subst, bytes_eq-Decides, bytes_eq, and_parts, Text, Person, Rule, same_person, same_rule, same_office_act, same_if, equal_test, person_same, joined, number_form, text_form, person_form, rule_form, office_form}
+use Rattle.std.specs.Prelude.{None}
 use Rattle.shop_model.specs.Json.{escape_byte}
-use Rattle.shop_types.specs.declared.film.Rating.TheVariants as rating
-use Rattle.shop_schema.proofs.Values.{ascii_bytes, number_reply, small}
+use Rattle.shop_schema.proofs.Replies.{ascii_bytes, number_ascii, object_utf8}
+use Rattle.shop_schema.proofs.FormLemmas.{number_ends, text_is}
+use Rattle.shop_schema.proofs.FormValues.{text_equal, Kind, Number, Bytes, Perhaps, Flag, Values, forms, behind, one_form}
+use Rattle.shop_schema.proofs.Acts.{person_is, person_equal}
+use Rattle.shop_schema.proofs.OneToOne.{alone}
 
--- a rating's text is one
-pub rating_is : (it : Rating) → IsRating (rating_text it)
-rating_is rating.G = refl
-rating_is rating.Pg = refl
-rating_is rating.Pg13 = refl
-rating_is rating.R = refl
-rating_is rating.Nc17 = refl
+-- ---- one form exactly where they are the same
 
--- so are a film's features
-pub features_are : (it : Features) → IsFeatures (features_text it)
-features_are it = (it, refl)
+abbrev film_kinds : List Kind
+film_kinds = Bytes ∷ Bytes ∷ Number ∷ Number ∷ Number ∷ Number ∷ Number ∷ Perhaps ∷ Bytes ∷ Bytes ∷ Flag ∷ []
 
--- the sixteen texts have no byte above 127
-all_plain : (trailers commentaries deleted behind : Bool)
-    → list_all (λ b. nat_lt b 128) (features_text (record { trailers = trailers; commentaries = commentaries; deleted_scenes = deleted; behind_the_scenes = behind })) ≡ true
-all_plain false false false false = refl
-all_plain true false false false = refl
-all_plain false true false false = refl
-all_plain true true false false = refl
-all_plain false false true false = refl
-all_plain true false true false = refl
-all_plain false true true false = refl
-all_plain true true true false = refl
-all_plain false false false true = refl
-all_plain true false false true = refl
-all_plain false true false true = refl
-all_plain true true false true = refl
-all_plain false false true true = refl
-all_plain true false true true = refl
-all_plain false true true true = refl
-all_plain true true true true = refl
+abbrev of_film : Film → Values film_kinds
+of_film f = (f.title, (f.description, (f.language, (f.category, (f.period, (f.rate, (f.replacement, (f.minutes, (f.rating, (f.features, (f.withdrawn, tt)))))))))))
 
-pub features_utf8 : (it : Features) → IsUtf8 (features_text it)
-features_utf8 it = IsUtf8-from_ascii (features_text it) (ascii_bytes (features_text it) (all_plain it.trailers it.commentaries it.deleted_scenes it.behind_the_scenes))
+abbrev branch_kinds : List Kind
+branch_kinds = Bytes ∷ Bytes ∷ Bytes ∷ Bytes ∷ Number ∷ Perhaps ∷ []
+
+abbrev of_branch : Branch → Values branch_kinds
+of_branch b = (b.token, (b.address, (b.postal, (b.phone, (b.city, (b.manager, tt))))))
+
+-- a name alone
+one_name : (n : ℕ) (x y : Text) → (n ∷ text_form x ≡ n ∷ text_form y) ↔ (bytes_eq x y ≡ true)
+one_name n x y = (λ h. (bytes_eq-Decides x y).1 (text_is x y (ap behind h)), λ h. ap (λ (t : Text). n ∷ text_form t) (text_equal x y h))
+
+one_number : (n x y : ℕ) → (n ∷ forms (Number ∷ []) (x, tt) ≡ n ∷ forms (Number ∷ []) (y, tt)) ↔ ((x == y) ≡ true)
+one_number n x y = one_form n (Number ∷ []) (x, tt) (y, tt)
+
+two_numbers : (n a b c d : ℕ) → (n ∷ joined (number_form a ∷ number_form b ∷ []) ≡ n ∷ joined (number_form c ∷ number_form d ∷ [])) ↔ ((a == c && b == d) ≡ true)
+two_numbers n a b c d = one_form n (Number ∷ Number ∷ []) (a, (b, tt)) (c, (d, tt))
+
+one_rule : (a b : Rule) → (14 ∷ rule_form a ≡ 14 ∷ rule_form b) ↔ (same_rule a b ≡ true)
+one_rule ByCode ByCode = (λ h. refl, λ h. refl)
+one_rule ByComment ByComment = (λ h. refl, λ h. refl)
+one_rule a b = (λ h. cc, λ h. cc)
+
+one_staff : (b c : ℕ) (p q : Person) → (11 ∷ joined (number_form b ∷ person_form p ∷ []) ≡ 11 ∷ joined (number_form c ∷ person_form q ∷ [])) ↔ ((b == c && same_person p q) ≡ true)
+one_staff b c p q = (
+  λ h.
+      let branch = number_ends b c (person_form p ++ []) (person_form q ++ []) (ap behind h) in
+      let person = person_is p q (alone (person_form p) (person_form q) branch.1) in
+      λ i. equal_test b c branch.0 i && subst (λ (r : Person). same_person p r ≡ true) person (person_same p) i,
+  λ h.
+      let k = and_parts (b == c) (same_person p q) h in
+      λ i. 11 ∷ joined (number_form (same_if b c k.0 i) ∷ person_form (person_equal p q k.1 i) ∷ []),
+)
+
+pub one_act : (a b : OfficeAct) → (office_form a ≡ office_form b) ↔ (same_office_act a b ≡ true)
+one_act (AddCountry x) (AddCountry y) = one_name 1 x y
+one_act (AddCity x) (AddCity y) = one_form 2 (Bytes ∷ Number ∷ []) (x.name, (x.country, tt)) (y.name, (y.country, tt))
+one_act (AddLanguage x) (AddLanguage y) = one_name 3 x y
+one_act (AddCategory x) (AddCategory y) = one_name 4 x y
+one_act (AddActor x) (AddActor y) = one_form 5 (Bytes ∷ Bytes ∷ []) (x.first, (x.last, tt)) (y.first, (y.last, tt))
+one_act (AddFilm x) (AddFilm y) = one_form 6 film_kinds (of_film x) (of_film y)
+one_act (PriceFilm x m) (PriceFilm y n) = two_numbers 7 x m y n
+one_act (WithdrawFilm x) (WithdrawFilm y) = one_number 8 x y
+one_act (AddCast x) (AddCast y) = two_numbers 9 x.film x.actor y.film y.actor
+one_act (AddBranch x) (AddBranch y) = one_form 10 branch_kinds (of_branch x) (of_branch y)
+one_act (AddStaff x) (AddStaff y) = one_staff x.branch y.branch x.person y.person
+one_act (StaffLeaves x) (StaffLeaves y) = one_number 12 x y
+one_act (SetManager b s) (SetManager c t) = two_numbers 13 b s c t
+one_act (ChooseRule x) (ChooseRule y) = one_rule x y
+one_act a b = (λ h. cc, λ h. cc)
+
+-- ---- its reply
+
+office_reply : (act : OfficeAct) (it : Catalogue) → IsUtf8 (object (office_told act it))
+unfolding escape_byte
+office_reply (PriceFilm f rate) it = object_utf8 (office_told (PriceFilm f rate) it) refl (number_ascii f, (number_ascii rate, tt))
+office_reply (AddCast cast) it = object_utf8 (office_told (AddCast cast) it) refl (number_ascii cast.actor, (number_ascii cast.film, tt))
+office_reply (SetManager b s) it = object_utf8 (office_told (SetManager b s) it) refl (number_ascii b, (number_ascii s, tt))
+office_reply (ChooseRule ByCode) it = object_utf8 (office_told (ChooseRule ByCode) it) refl (ascii_bytes (codes "\"code\"") refl, tt)
+office_reply (ChooseRule ByComment) it = object_utf8 (office_told (ChooseRule ByComment) it) refl (ascii_bytes (codes "\"comment\"") refl, tt)
+office_reply act it = object_utf8 (office_told act it) refl (number_ascii _, tt)
 
 -- ---- lists of shared rows
 
@@ -81,40 +117,6 @@ managed branch manager is who = record {
   city = is.city;
   manager = who;
 }
-
--- ---- kept replies
-
-two_reply : (first second : List ℕ) → list_all (λ b. nat_lt b 128) first ≡ true → list_all (λ b. nat_lt b 128) second ≡ true → (m n : ℕ) → m < 2 ^ 64 → n < 2 ^ 64
-    → IsUtf8 (first ++ (decimal m ++ (second ++ (decimal n ++ codes "}"))))
-two_reply first second plain also m n fits fit = IsUtf8-from_ascii _
-    (IsAscii-append first (decimal m ++ (second ++ (decimal n ++ codes "}"))) (ascii_bytes first plain)
-    (IsAscii-append (decimal m) (second ++ (decimal n ++ codes "}")) (IsAscii-decimal m fits)
-    (IsAscii-append second (decimal n ++ codes "}") (ascii_bytes second also)
-    (IsAscii-append (decimal n) (codes "}") (IsAscii-decimal n fit) (ascii_bytes (codes "}") refl)))))
-
-next : (n : ℕ) → n ≤ 1_000_003 → n + 1 < 2 ^ 64
-next n few = omega (arith, few)
-
-low_rate : (n : ℕ) → n ≤ 9_999 → n < 2 ^ 64
-low_rate n low = omega (arith, low)
-
-office_reply : (act : OfficeAct) (it : Catalogue) → IsOfficeAct act → HasFewShared it → IsUtf8 (object (office_told act it))
-unfolding escape_byte
-office_reply (AddCountry name) it is few = number_reply (codes "{\"country\":") refl (length it.countries + 1) (next _ few.countries)
-office_reply (AddCity city) it is few = number_reply (codes "{\"city\":") refl (length it.cities + 1) (next _ few.cities)
-office_reply (AddLanguage name) it is few = number_reply (codes "{\"language\":") refl (length it.languages + 1) (next _ few.languages)
-office_reply (AddCategory name) it is few = number_reply (codes "{\"category\":") refl (length it.categories + 1) (next _ few.categories)
-office_reply (AddActor actor) it is few = number_reply (codes "{\"actor\":") refl (length it.actors + 1) (next _ few.actors)
-office_reply (AddFilm film) it is few = number_reply (codes "{\"film\":") refl (length it.films + 1) (next _ few.films)
-office_reply (PriceFilm f rate) it is few = two_reply (codes "{\"film\":") (codes ",\"rate\":") refl refl f rate (small f is.0) (low_rate rate is.1)
-office_reply (WithdrawFilm f) it is few = number_reply (codes "{\"film\":") refl f (small f is)
-office_reply (AddCast cast) it is few = two_reply (codes "{\"actor\":") (codes ",\"film\":") refl refl cast.actor cast.film (small cast.actor is.1) (small cast.film is.0)
-office_reply (AddBranch branch) it is few = number_reply (codes "{\"branch\":") refl (length it.branches + 1) (next _ few.branches)
-office_reply (AddStaff staff) it is few = number_reply (codes "{\"staff\":") refl (length it.staff + 1) (next _ few.staff)
-office_reply (StaffLeaves s) it is few = number_reply (codes "{\"staff\":") refl s (small s is)
-office_reply (SetManager b s) it is few = two_reply (codes "{\"branch\":") (codes ",\"staff\":") refl refl b s (small b is.0) (small s is.1)
-office_reply (ChooseRule ByCode) it is few = IsUtf8-from_ascii _ (ascii_bytes (codes "{\"rule\":\"code\"}") refl)
-office_reply (ChooseRule ByComment) it is few = IsUtf8-from_ascii _ (ascii_bytes (codes "{\"rule\":\"comment\"}") refl)
 
 -- ---- a step
 
@@ -184,7 +186,7 @@ pub office_values_done : (command : OfficeCommand) (books : Books) → IsOfficeA
     → AreValues (record books { catalogue = office_done command books.catalogue })
 office_values_done command books is key values few =
     let v = acted_values command.act books.catalogue is values.catalogue few in
-    let reply = office_reply command.act books.catalogue is few in
+    let reply = office_reply command.act books.catalogue in
     record {
       catalogue = record {
         office_token = v.office_token;

@@ -1,5 +1,5 @@
 use Rattle.shop_schema.proofs.Common.{take, AreNumbers}
-use Rattle.shop_schema.proofs.ranges.numbers_values.Given as goal
+use Rattle.shop_schema.proofs.form.numbers_values.Given as goal
 
 abbrev pub invariant-loop-number : goal.invariant-loop-number
 invariant-loop-number g l = AreNumbers (take l.number-index l.numbers)
