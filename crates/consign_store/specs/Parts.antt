@@ -5,7 +5,7 @@ use Rattle.sqlite_value.specs.Order as sql
 use Rattle.sql_rows.specs.Rows.{PicksOne, number_value, flag_value}
 use Rattle.shop_model.specs.Rows.{update_where, set_at, numbered}
 use Rattle.shop_model.specs.Books.{Books, Line, LineState, Consignment, is_consignment}
-use Rattle.shop_schema.specs.Columns.{line_value}
+use Rattle.shop_schema.specs.RowValues.{line_value}
 use Rattle.shop_schema.specs.Counts.{Counts, is_pair}
 
 -- ---- a consignment without its lines

@@ -10,7 +10,8 @@ ghost use Rattle.consign_store.specs.Parts.{header_of, header_columns, opened, w
 ghost use Rattle.consign_store.specs.Seen.{seen_header};
 
 use crate::keys::ConsignmentKey;
-use shop_schema::{DispatchPlace, HeaderCells, read_cells};
+use shop_schema::tables::HeaderCells;
+use shop_schema::{DispatchPlace, read_cells};
 use sql_rows::{StoreFault, Stored, execute, fault_of, query, query_one};
 use sqlite::types::{ToSql, ValueRef};
 use sqlite::{Alter, Row, Transaction};

@@ -10,7 +10,8 @@ ghost use Rattle.consign_store.specs.Seen.{seen_line};
 ghost use Rattle.shop_types.specs.Seen.{seen_line_state};
 
 use crate::keys::ConsignmentKey;
-use shop_schema::{LineCells, line_state_code, read_cells};
+use shop_schema::tables::LineCells;
+use shop_schema::{line_state_code, read_cells};
 use shop_types::{FilmNo, LineNo, LineState, Mark};
 use sql_rows::{StoreFault, Stored, execute, query_all};
 use sqlite::types::{ToSql, ValueRef};

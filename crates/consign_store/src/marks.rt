@@ -11,7 +11,7 @@ ghost use Rattle.consign_store.specs.Parts.{all_placed};
 ghost use Rattle.consign_store.specs.Seen.{seen_line};
 
 use crate::lines::LineRow;
-use shop_store::CopyRow;
+use shop_store::copies::CopyRow;
 use shop_types::Mark;
 use sql_rows::{StoreFault, query_all};
 use sqlite::types::ToSql;

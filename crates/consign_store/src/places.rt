@@ -11,7 +11,7 @@ ghost use Rattle.consign_store.specs.Custody.{is_here, is_under_way, HasOnePlace
 
 use crate::lines::LineRow;
 use crate::marks::{copies_marked, lines_marked};
-use shop_store::CopyRow;
+use shop_store::copies::CopyRow;
 use shop_types::{CopyState, LineState, Mark, Place};
 use sql_rows::StoreFault;
 use sqlite::{Alter, Transaction};

@@ -1,5 +1,5 @@
 -- The counts of the books themselves: which row has which, and what a new row makes of them.
-use Rattle.shop_schema.proofs.Common.{◌≡◌, ◌+◌, ◌<◌, ◌≤◌, ◌^◌, ◌==◌, ◌&&◌, ℕ, suc, List, [], ◌∷◌, ◌++◌, map, filter, length, true, false, Bool, cond, Some, refl, sym, ap, subst, ◌∙◌, arith, IsPermutation, slice_get, AllByRecursion, all_map, all_weaker, cases_Bool, inl, inr, nat_tests, column, all-slice_get, PicksOne, number_value, same_number, of, numbered, Branch, Books, unmarked, same_if, length_map, IsHeld, Count, Counts, is_count, count_in, branch_counts, office_count, counts_of, State, StandsWith, AreTermed, Holds, HoldsWith, all-permutation}
+use Rattle.shop_schema.proofs.Common.{◌≡◌, ◌+◌, ◌<◌, ◌≤◌, ◌^◌, ◌==◌, ◌&&◌, ℕ, suc, List, [], ◌∷◌, ◌++◌, map, filter, length, true, false, Bool, cond, Some, refl, sym, ap, subst, ◌∙◌, arith, IsPermutation, slice_get, AllByRecursion, all_map, all_weaker, cases_Bool, inl, inr, nat_tests, column, all-slice_get, PicksOne, number_value, same_number, numbered, Branch, Books, same_if, IsHeld, Count, Counts, is_count, count_in, branch_counts, office_count, counts_of, State, StandsWith, AreTermed, Holds, HoldsWith, all-permutation, Customers, CopyRows, Rentals, Payments}
 use Rattle.std.specs.Prelude.{flat_map}
 use Rattle.sqlite_value.specs.Order as sql
 use Rattle.shop_schema.proofs.Stands.{with_own, for_own}
@@ -119,10 +119,10 @@ small_once this b books low office small = record { once = once_counted this b b
     branches_small (it ∷ its) = (small kind.Customers it.0, (small kind.Copies it.0, (small kind.Rentals it.0, (small kind.Payments it.0, (small kind.Kept it.0, branches_small its)))))
 
 held_small : (books : Books) → IsHeld books → (kind : CountKind) (a : ℕ) → count_in (kind_number kind) a books < 2 ^ 32
-held_small books held kind.Customers a = let few = held.most_customers a in omega (arith, few)
-held_small books held kind.Copies a = let few = held.most_copies a in let many = length_map unmarked (of a books.copies) in omega (arith, few, many)
-held_small books held kind.Rentals a = let few = held.most_rentals a in omega (arith, few)
-held_small books held kind.Payments a = let few = held.most_payments a in omega (arith, few)
+held_small books held kind.Customers a = let few = held.most_rows Customers a in omega (arith, few)
+held_small books held kind.Copies a = let few = held.most_rows CopyRows a in omega (arith, few)
+held_small books held kind.Rentals a = let few = held.most_rows Rentals a in omega (arith, few)
+held_small books held kind.Payments a = let few = held.most_rows Payments a in omega (arith, few)
 held_small books held kind.Kept a = let few = held.most_kept a in omega (arith, few)
 
 -- so it is of the books' own counts

@@ -6,7 +6,7 @@ ghost use Rattle.sql_rows.specs.Rows.{number_value};
 ghost use Rattle.shop_model.specs.Calendar.{IsMoment};
 ghost use Rattle.shop_model.specs.Books.{set_last};
 ghost use Rattle.shop_ledger.specs.Calls.{Finds, Stores};
-ghost use Rattle.shop_schema.specs.Columns.{moment_value};
+ghost use Rattle.shop_schema.specs.RowValues.{moment_value};
 ghost use Rattle.shop_ledger.specs.Standings.{IsStanding};
 
 use crate::counts::fitting;

@@ -1,12 +1,12 @@
 -- A table of the branches' rows, each with its branch and its number there: what a SELECT says of it, and what an UPDATE of one row makes of it.
-use Rattle.shop_schema.proofs.Common.{◌≡◌, ◌≤◌, ◌&&◌, ℕ, zero, suc, List, [], ◌∷◌, map, filter, drop, length, Bool, true, cond, Ok, refl, sym, ap, subst, ◌∙◌, arith, IfSome, option_to_list, AllByRecursion, list_all, map-id, Value, Int, column, ascending, Binary, rowid, Term, col, eval_all, holds, Query, output, cast, cast_all, cast_row, Update, State, ExecutesInside, sort_by, update_where, map-map, all-filter, all_map, Means, by, PicksOne, columns_from, columns_of, number_value, are_kept, id_of, length-map, number_test, two_tested, test_of, unmapped_kind, still_holds, writes_by, Selects, plain_query, selects_one, selects_sorted, sets_row, Row, is_of, is_row, of, at, set_row, AreNumbered, Books, row_at, IsHeld, IsRow, shop_schema, StandsFor, StandsWith, Holds, Reads, Writes, counts_of, cols}
+use Rattle.shop_schema.proofs.Common.{◌≡◌, ◌≤◌, ◌&&◌, ◌/◌, ℕ, zero, suc, List, [], ◌∷◌, map, filter, drop, length, Bool, true, cond, Ok, refl, sym, ap, subst, ◌∙◌, arith, IfSome, option_to_list, AllByRecursion, list_all, map-id, Value, Int, Null, column, ascending, Binary, rowid, Term, col, eval_all, holds, Query, output, cast, cast_all, cast_row, Insert, Update, Values, value_rows, values, State, ExecutesInside, sort_by, update_where, map-map, all-filter, all_map, Means, by, PicksOne, columns_from, columns_of, number_value, are_kept, id_of, length-map, number_test, two_tested, test_of, unmapped_kind, still_holds, writes_by, Selects, plain_query, selects_one, selects_sorted, sets_row, Row, is_of, is_row, of, at, set_row, AreNumbered, Books, row_at, IsHeld, IsRow, shop_schema, StandsFor, StandsWith, Holds, Reads, Writes, counts_of, cols}
 use Rattle.std.specs.Prelude.{Option, Some, None, take, option_map}
 use Rattle.sqlite_value.specs.Order as sql
 use Rattle.sqlite_schema.specs.declared.schema.Kind.TheVariants as kind
 use Rattle.sqlite.specs.State.{Shown}
 use Rattle.shop_schema.proofs.Lists.{picks_row}
 use Rattle.shop_schema.proofs.Stands.{with_own}
-use Rattle.shop_schema.proofs.Listed.{Plain, width, stood, changed, own_rows}
+use Rattle.shop_schema.proofs.Listed.{Plain, PutsLast, puts_last, width, stood, changed, own_rows}
 use Rattle.shop_ledger.proofs.Equals.{of_two}
 use Rattle.shop_ledger.proofs.Rising.{Rise, of_which, which_rise, which_are, rise_differ, rise_sorted}
 
@@ -18,6 +18,8 @@ pub record BranchRows (A : Type 0) : Type 1 where
   pub begins : (row : Row A) → (column (rows.columns row) 0 ≡ number_value row.branch) × (column (rows.columns row) 1 ≡ number_value row.number)
   pub valued : (books : Books) → IsHeld books → AllByRecursion (IsRow Fits) (rows.part.items books)
   pub counted : (books : Books) → IsHeld books → (b : ℕ) → AreNumbered (is_of b) (λ row. row.number) (rows.part.items books)
+  -- each column takes its value as it is
+  pub kept : (row : Row A) → are_kept rows.table.columns (rows.columns row) ≡ true
 
 -- another item at the place
 abbrev pub replaced : {X : Type 0} → ℕ → X → List X → List X
@@ -25,9 +27,15 @@ replaced n y [] = []
 replaced zero y (x ∷ xs) = y ∷ xs
 replaced (suc n) y (x ∷ xs) = x ∷ replaced n y xs
 
--- what an UPDATE of the column at a place by the third parameter computes
-abbrev pub set_terms : ℕ → ℕ → List Term
-set_terms width at = col 1 0 ∷ col 1 0 ∷ replaced at (col 0 2) (cols 1 1 width)
+-- others at these places
+abbrev pub written : {X : Type 0} → List ℕ → List X → List X → List X
+written [] ys xs = xs
+written (n ∷ ns) [] xs = xs
+written (n ∷ ns) (y ∷ ys) xs = written ns ys (replaced n y xs)
+
+-- what an UPDATE of the columns at these places computes, by the parameters from that one on
+abbrev pub set_terms : ℕ → ℕ → List ℕ → List Term
+set_terms first width places = col 1 0 ∷ col 1 0 ∷ written places (cols 0 first (length places)) (cols 1 1 width)
 
 pub take_few : {X : Type 0} (xs : List X) → length xs ≤ 1 → take 1 xs ≡ xs
 take_few [] few = refl
@@ -127,36 +135,53 @@ module _ {A : Type 0} (t : BranchRows A) where
         let found = reads_sorted tests seen text means params test (of_which which b) tested only (λ books held. which_rise which b (items books) (t.counted books held b)) old new rows all h read kinds books holds held in
         (found.0, sym (map-map (λ (row : Row A). row.it) seen all) ∙ ap (map (λ (row : Row A). row.it)) found.1 ∙ which_are which b (items books) (t.counted books held b))
 
-  -- ---- an UPDATE of one column of one row
+  -- ---- an INSERT of a row
 
-  -- The premises from `kept` on are `refl` where the text is known.
-  module _ (text : List ℕ) (place : ℕ) (v : Value) (f : A → A) (b n : ℕ) where
+  abbrev pub PutsRow : List ℕ → Type 1
+  PutsRow text = PutsLast t.rows text
+
+  -- the premises are `refl` where the text is known
+  pub puts_row : (text : List ℕ) → Means shop_schema text (Insert t.rows.place (Values (values wide) (suc wide)))
+      → ((x : Row A) → value_rows (columns x) (suc wide) (length (values wide) / suc wide) (values wide) ≡ eval_all (values wide) (columns x ∷ []) ∷ [])
+      → ((x : Row A) → eval_all (values wide) (columns x ∷ []) ≡ Null ∷ columns x) → ((x : Row A) (id : Value) → columns_of wide (id ∷ columns x) ≡ columns x) → PutsRow text
+  puts_row text means one is whole = puts_last t.rows text means one is t.kept whole
+
+  -- ---- an UPDATE of some columns of one row
+
+  -- `places` are the columns', from 0; all premises are `refl` where the text is known
+  module _ (text : List ℕ) (places : List ℕ) (vs : List Value) (f : A → A) (b n : ℕ) where
     abbrev pub set_columns : sql.Row → sql.Row
-    set_columns vs = replaced place v (columns_from 0 wide vs)
+    set_columns row = written places vs (columns_from 0 wide row)
 
     abbrev pub set_item : Row A → Row A
     set_item row = record row { it = f row.it }
 
     abbrev pub set_params : sql.Row
-    set_params = number_value b ∷ number_value n ∷ v ∷ []
+    set_params = number_value b ∷ number_value n ∷ vs
 
-    -- no two rows have the number
+    abbrev makes : List Term
+    makes = set_terms 2 wide places
+
+    -- of books in which no two rows have the number, and of all books of a chain
     abbrev pub IsOne : Books → Type 0
     IsOne books = PicksOne (is_row b n) (items books)
 
-    pub sets_column : Means shop_schema text (Update t.rows.place (record { lets = []; body = plain_query tree of_two (set_terms wide place) [] })) → ((row : Row A) → set_columns (columns row) ≡ columns (set_item row))
-        → ((row : Row A) → are_kept t.rows.table.columns (set_columns (columns row)) ≡ true) → ((r : sql.Row) → list_all (holds (set_params ∷ r ∷ [])) of_two ≡ has_key b n (columns_of wide r))
-        → ((r : sql.Row) → drop 1 (eval_all (set_terms wide place) (set_params ∷ r ∷ [])) ≡ rowid r ∷ set_columns (columns_of wide r))
-        → ((r : sql.Row) → id_of (eval_all (set_terms wide place) (set_params ∷ r ∷ [])) ≡ id_of r) → ((r : sql.Row) → columns_of wide (Int (id_of r) ∷ set_columns (columns_of wide r)) ≡ set_columns (columns_of wide r))
-        → ((w : Value) (vs : sql.Row) → cast_row t.rows.table (w ∷ vs) ≡ cast kind.Integer w ∷ cast_all t.rows.table.columns vs)
-        → (old new : State) (count : ℕ) → ExecutesInside 0 text set_params old new (Ok count) → Writes old new IsOne (λ books. t.rows.part.filled (set_row b n f (items books)) books)
-    sets_column means sets_are kept sees shown ids whole casts old new count h counts =
-        let change : Books → Books = λ them. t.rows.part.filled (update_where (is_row b n) set_item (items them)) them in
-        writes_by shop_schema (StandsWith counts) old new IsOne change (λ has.
-        sets_row shop_schema (StandsWith counts) text t.rows.place t.rows.table wide of_two (set_terms wide place) set_params columns (has_key b n) (is_row b n) set_columns set_item (key_tested b n) sets_are kept old new has
-        means t.rows.plain.place refl count h (own_rows old.now.trees t.rows.table.tree) sees shown ids whole casts IsOne change
-        (λ them same s few sets. changed t.rows counts them (update_where (is_row b n) set_item (items them)) old.now.trees new.now.trees same s (sets (items them) (stood t.rows counts them old.now.trees s) few)))
+    abbrev pub SetsWhere : (Books → Type 0) → Type 1
+    SetsWhere Given = (old new : State) (count : ℕ) → ExecutesInside 0 text set_params old new (Ok count) → Writes old new Given (λ books. t.rows.part.filled (set_row b n f (items books)) books)
 
-    -- which is so of all books of a chain
-    pub sets_held : {change : Books → Books} → (old new : State) → Writes old new IsOne change → Writes old new IsHeld change
-    sets_held old new write counts books holds held = write counts books holds (picks_row b (items books) (t.counted books held b) n)
+    module _ (means : Means shop_schema text (Update t.rows.place (record { lets = []; body = plain_query tree of_two makes [] }))) (sets_are : (row : Row A) → set_columns (columns row) ≡ columns (set_item row))
+        (sees : (r : sql.Row) → list_all (holds (set_params ∷ r ∷ [])) of_two ≡ has_key b n (columns_of wide r))
+        (shown : (r : sql.Row) → drop 1 (eval_all makes (set_params ∷ r ∷ [])) ≡ rowid r ∷ set_columns (columns_of wide r))
+        (ids : (r : sql.Row) → id_of (eval_all makes (set_params ∷ r ∷ [])) ≡ id_of r) (whole : (r : sql.Row) → columns_of wide (Int (id_of r) ∷ set_columns (columns_of wide r)) ≡ set_columns (columns_of wide r))
+        (casts : (w : Value) (row : sql.Row) → cast_row t.rows.table (w ∷ row) ≡ cast kind.Integer w ∷ cast_all t.rows.table.columns row) where
+      pub sets_one : SetsWhere IsOne
+      sets_one old new count h counts =
+          let change : Books → Books = λ them. t.rows.part.filled (update_where (is_row b n) set_item (items them)) them in
+          let kept : (row : Row A) → are_kept t.rows.table.columns (set_columns (columns row)) ≡ true = λ row. ap (are_kept t.rows.table.columns) (sets_are row) ∙ t.kept (set_item row) in
+          writes_by shop_schema (StandsWith counts) old new IsOne change (λ has.
+          sets_row shop_schema (StandsWith counts) text t.rows.place t.rows.table wide of_two makes set_params columns (has_key b n) (is_row b n) set_columns set_item (key_tested b n) sets_are kept old new has
+          means t.rows.plain.place refl count h (own_rows old.now.trees t.rows.table.tree) sees shown ids whole casts IsOne change
+          (λ them same s few sets. changed t.rows counts them (update_where (is_row b n) set_item (items them)) old.now.trees new.now.trees same s (sets (items them) (stood t.rows counts them old.now.trees s) few)))
+
+      pub sets_held : SetsWhere IsHeld
+      sets_held old new count h counts books holds held = sets_one old new count h counts books holds (picks_row b (items books) (t.counted books held b) n)

@@ -8,16 +8,8 @@ pub mod PutTexts
 pub mod SharedSets
 pub mod OpeningTexts
 pub mod CountPuts
-pub mod FilmRows
 pub mod BranchRows
 pub mod BranchTables
-pub mod OnCustomers
-pub mod OnCopies
-pub mod CopyNows
 pub mod Ascending
-pub mod OnRentals
-pub mod OnRule
 pub mod WithTerms
-pub mod OnTermed
-pub mod OnPayments
-pub mod SameRentals
+pub mod Common

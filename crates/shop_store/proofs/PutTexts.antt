@@ -7,11 +7,11 @@ use Rattle.sqlite.specs.Listing.{understood}
 use Rattle.sqlite_schema.specs.declared.schema.Kind.TheVariants as kind
 use Rattle.shop_model.specs.Values as model
 use Rattle.shop_schema.proofs.Stands.{stands_first}
-use Rattle.shop_schema.proofs.Listed.{PutsNext, PutsLast, puts_next, puts_last, next_row, IsNext, push}
-use Rattle.shop_schema.proofs.SharedTables.{countries, languages, categories, cities, actors, films, casts, branches, staff}
+use Rattle.shop_schema.proofs.Listed.{next_row, IsNext, push}
+use Rattle.shop_schema.proofs.SharedTables.{branches}
 use Rattle.shop_ledger.proofs.Puts.{puts_row}
 use Rattle.shop_store.specs.declared.opening.TheConstants.{INSERT_RULE, INSERT_CHAIN}
-use Rattle.shop_store.specs.declared.puts.TheConstants.{INSERT_COUNTRY, INSERT_LANGUAGE, INSERT_CATEGORY, INSERT_CITY, INSERT_ACTOR, INSERT_FILM, INSERT_CAST, INSERT_BRANCH, INSERT_STAFF}
+use Rattle.shop_store.specs.declared.puts.TheConstants.{INSERT_BRANCH}
 use Rattle.shop_store.specs.New.{branch_params, IsRuled}
 
 -- ---- the rule, and head office's token
@@ -58,45 +58,11 @@ holds_first old new token count h ruled =
       stands = stands_first ruled.before old.now.trees new.now.trees token ruled.empty ruled.same ruled.rule done.others (done.rows [] (none_yet 2 (old.now.trees 0) none));
     }
 
--- ---- shared rows
+-- ---- branches, which have no last moment yet
 
 pub kept_or_null : (o : Option ℕ) → (is_kept kind.Integer (or_null number_value o) && true) ≡ true
 kept_or_null None = refl
 kept_or_null (Some n) = refl
-
-pub puts_country : PutsNext countries INSERT_COUNTRY.now
-unfolding understood everything
-puts_country = puts_next countries _ (record { is = refl; plain = (refl, refl) }) (λ n x. refl) (λ n x. refl) (λ n x. refl) (λ n x id. refl)
-
-pub puts_language : PutsNext languages INSERT_LANGUAGE.now
-unfolding understood everything
-puts_language = puts_next languages _ (record { is = refl; plain = (refl, refl) }) (λ n x. refl) (λ n x. refl) (λ n x. refl) (λ n x id. refl)
-
-pub puts_category : PutsNext categories INSERT_CATEGORY.now
-unfolding understood everything
-puts_category = puts_next categories _ (record { is = refl; plain = (refl, refl) }) (λ n x. refl) (λ n x. refl) (λ n x. refl) (λ n x id. refl)
-
-pub puts_city : PutsNext cities INSERT_CITY.now
-unfolding understood everything
-puts_city = puts_next cities _ (record { is = refl; plain = (refl, refl) }) (λ n x. refl) (λ n x. refl) (λ n x. refl) (λ n x id. refl)
-
-pub puts_actor : PutsNext actors INSERT_ACTOR.now
-unfolding understood everything
-puts_actor = puts_next actors _ (record { is = refl; plain = (refl, refl) }) (λ n x. refl) (λ n x. refl) (λ n x. refl) (λ n x id. refl)
-
-pub puts_film : PutsNext films INSERT_FILM.now
-unfolding understood everything
-puts_film = puts_next films _ (record { is = refl; plain = (refl, refl) }) (λ n x. refl) (λ n x. refl) (λ n x. kept_or_null x.minutes) (λ n x id. refl)
-
-pub puts_staff : PutsNext staff INSERT_STAFF.now
-unfolding understood everything
-puts_staff = puts_next staff _ (record { is = refl; plain = (refl, refl) }) (λ n x. refl) (λ n x. refl) (λ n x. refl) (λ n x id. refl)
-
-pub puts_cast : PutsLast casts INSERT_CAST.now
-unfolding understood everything
-puts_cast = puts_last casts _ (record { is = refl; plain = (refl, refl) }) (λ x. refl) (λ x. refl) (λ x. refl) (λ x id. refl)
-
--- ---- branches, which have no last moment yet
 
 abbrev branch_terms : List Term
 branch_terms = lit Null ∷ (cols 0 0 7 ++ lit Null ∷ [])

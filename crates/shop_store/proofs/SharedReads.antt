@@ -1,22 +1,14 @@
 -- What is read of a shared row by its number, and of a table's only row.
-use Rattle.shop_schema.proofs.Common.{◌≡◌, ◌≤◌, suc, Trees, HasRows, TellsFirst, ◌==◌, ◌&&◌, ℕ, List, [], ◌∷◌, map, length, cond, not, true, Some, None, refl, sym, ap, subst, ◌∙◌, arith, slice_get, list_all, nat_tests, Null, or_null, column, Binary, Term, col, op2, holds, Query, output, Compare, Eq, State, map-map, columns_of, number_value, flag_value, length-map, Selects, plain_query, number_test, one_tested, same_flag, same_or_null, test_of, same_number, projects_one, still_holds, at, is_empty, lacks, numbered, Books, head, shop_schema, StandsFor, Holds, Reads, counts_of}
+use Rattle.shop_schema.proofs.Common.{◌≡◌, ◌≤◌, suc, Trees, HasRows, TellsFirst, ◌==◌, ◌&&◌, ℕ, List, [], ◌∷◌, map, length, cond, not, true, Some, None, refl, sym, ap, subst, ◌∙◌, arith, slice_get, list_all, nat_tests, Null, column, Binary, Term, col, op2, holds, Query, output, Compare, Eq, State, map-map, columns_of, number_value, length-map, Selects, plain_query, number_test, one_tested, test_of, projects_one, still_holds, at, is_empty, lacks, numbered, Books, head, shop_schema, StandsFor, Holds, Reads, counts_of}
 use Rattle.std.specs.Prelude.{Option}
 use Rattle.sqlite_value.specs.Order as sql
-use Rattle.sqlite_tied.specs.Compute.{everything}
-use Rattle.sqlite.specs.Listing.{understood}
 use Rattle.sqlite.specs.State.{Shown}
 use Rattle.shop_schema.proofs.FirstRows.{first_none, first_some}
 use Rattle.shop_schema.proofs.Lasts.{numbered_once}
 use Rattle.shop_schema.proofs.Stands.{with_own}
 use Rattle.shop_schema.proofs.Listed.{own_rows}
 use Rattle.shop_schema.proofs.Numbered.{picked}
-use Rattle.shop_store.specs.declared.branches.TheConstants.{SELECT_MANAGER}
-use Rattle.shop_store.specs.declared.films.TheConstants.{SELECT_WITHDRAWN}
-use Rattle.shop_store.specs.declared.rows.TheConstants.{SELECT_COUNTRY, SELECT_LANGUAGE, SELECT_CATEGORY, SELECT_CITY, SELECT_ACTOR}
-use Rattle.shop_store.specs.declared.staff.TheConstants.{SELECT_POST}
-use Rattle.shop_store.proofs.ByNumber.{ByNumber, countries, languages, categories, cities, actors, films, staff, branches}
-use Rattle.shop_types.specs.Verdicts.{post_of}
-use Rattle.shop_store.specs.SharedSeen.{withdrawn_of, manager_of}
+use Rattle.shop_store.proofs.ByNumber.{ByNumber}
 
 abbrev pub of_number : List Term
 of_number = op2 (Compare Eq Binary) (col 1 1) (col 0 0) ∷ []
@@ -81,52 +73,8 @@ abbrev pub ReadsWhether : {A : Type 0} → ByNumber A → List ℕ → Type 1
 ReadsWhether t text =
     (old new : State) (n : ℕ) (rows : List sql.Row) → Shown text (number_value n ∷ []) old new rows → 1 ≤ n → Reads old new (λ books. not (length rows == 0) ≡ not (lacks (t.part.items books) n))
 
-pub read_country : ReadsWhether countries SELECT_COUNTRY.now
-unfolding understood everything
-read_country = reads_whether countries _ (col 1 1 ∷ []) (record { names = _; is = refl; plain = (refl, refl); unlisted = refl }) (λ vs. column vs 0 ∷ []) (λ m r. refl)
-
-pub read_language : ReadsWhether languages SELECT_LANGUAGE.now
-unfolding understood everything
-read_language = reads_whether languages _ (col 1 1 ∷ []) (record { names = _; is = refl; plain = (refl, refl); unlisted = refl }) (λ vs. column vs 0 ∷ []) (λ m r. refl)
-
-pub read_category : ReadsWhether categories SELECT_CATEGORY.now
-unfolding understood everything
-read_category = reads_whether categories _ (col 1 1 ∷ []) (record { names = _; is = refl; plain = (refl, refl); unlisted = refl }) (λ vs. column vs 0 ∷ []) (λ m r. refl)
-
-pub read_city : ReadsWhether cities SELECT_CITY.now
-unfolding understood everything
-read_city = reads_whether cities _ (col 1 1 ∷ []) (record { names = _; is = refl; plain = (refl, refl); unlisted = refl }) (λ vs. column vs 0 ∷ []) (λ m r. refl)
-
-pub read_actor : ReadsWhether actors SELECT_ACTOR.now
-unfolding understood everything
-read_actor = reads_whether actors _ (col 1 1 ∷ []) (record { names = _; is = refl; plain = (refl, refl); unlisted = refl }) (λ vs. column vs 0 ∷ []) (λ m r. refl)
-
--- ---- a film
-
-pub read_film : ReadsFirst films SELECT_WITHDRAWN.now withdrawn_of (λ row v. column row 0 ≡ flag_value v)
-unfolding understood everything
-read_film old new n rows slice h low =
-    reads_first films SELECT_WITHDRAWN.now (col 1 12 ∷ []) (record { names = _; is = refl; plain = (refl, refl); unlisted = refl }) (λ vs. column vs 11 ∷ []) (λ m r. refl) old new n rows h low
-    withdrawn_of (λ row v. column row 0 ≡ flag_value v) (λ books x v is. same_flag v x.withdrawn (sym is)) slice
-
--- ---- a member of staff
-
-pub read_staff : ReadsFirst staff SELECT_POST.now post_of (λ row v. (column row 0 ≡ number_value v.0) × (column row 1 ≡ flag_value v.1))
-unfolding understood everything
-read_staff old new n rows slice h low =
-    reads_first staff SELECT_POST.now (col 1 2 ∷ col 1 9 ∷ []) (record { names = _; is = refl; plain = (refl, refl); unlisted = refl }) (λ vs. column vs 1 ∷ column vs 8 ∷ []) (λ m r. refl) old new n rows h low
-    post_of (λ row v. (column row 0 ≡ number_value v.0) × (column row 1 ≡ flag_value v.1)) (λ books x v is. let place = sym (same_number x.branch v.0 is.0) in let left = same_flag v.1 x.gone (sym is.1) in (λ i. (place i, left i))) slice
-
--- ---- a branch
-
 pub number_is_some : (n : ℕ) → number_value n ≡ Null → ⊥
 number_is_some n h = cc
-
-pub read_manager : ReadsFirst branches SELECT_MANAGER.now manager_of (λ row v. column row 0 ≡ or_null number_value v)
-unfolding understood everything
-read_manager old new n rows slice h low =
-    reads_first branches SELECT_MANAGER.now (col 1 7 ∷ []) (record { names = _; is = refl; plain = (refl, refl); unlisted = refl }) (λ vs. column vs 6 ∷ []) (λ m r. refl) old new n rows h low
-    manager_of (λ row v. column row 0 ≡ or_null number_value v) (λ books x v is. same_or_null number_value number_is_some same_number v x.manager (sym is)) slice
 
 -- ---- a column of a table's only row: `one` says that its values are one to one
 

@@ -1,18 +1,12 @@
--- An UPDATE of one column of the shared row of a number.
-use Rattle.shop_schema.proofs.Common.{◌≡◌, ◌≤◌, ◌<◌, ◌+◌, ◌-◌, ◌==◌, ◌&&◌, ℕ, List, [], ◌∷◌, map, drop, length, Bool, true, false, cond, Some, Ok, refl, sym, ap, subst, arith, ⊤, list_all, nat_tests, Value, Int, rowid, Term, col, eval_all, holds, cast, cast_all, cast_row, Update, State, ExecutesInside, update_where, Means, HasRows, SameBut, PicksOne, columns_from, columns_of, number_value, flag_value, are_kept, id_of, number_test, one_tested, test_of, kept_or_null, writes_by, plain_query, sets_row, numbered, numbered_from, set_at, owned_by, Books, head, shop_schema, moment_value, StandsWith, Writes, cols}
+-- An UPDATE of some columns of the shared row of a number.
+use Rattle.shop_schema.proofs.Common.{◌≡◌, ◌≤◌, ◌<◌, ◌+◌, ◌-◌, ◌==◌, ◌&&◌, ℕ, List, [], ◌∷◌, map, drop, length, Bool, true, false, cond, Ok, refl, sym, subst, arith, ⊤, list_all, nat_tests, Value, Int, rowid, Term, eval_all, holds, cast, cast_all, cast_row, Update, State, ExecutesInside, update_where, Means, HasRows, SameBut, PicksOne, columns_from, columns_of, number_value, are_kept, id_of, number_test, one_tested, test_of, writes_by, plain_query, sets_row, numbered, numbered_from, set_at, Books, shop_schema, StandsWith, Writes}
 use Rattle.sqlite_value.specs.Order as sql
 use Rattle.sqlite_schema.specs.declared.schema.Kind.TheVariants as kind
-use Rattle.sqlite_tied.specs.Compute.{everything}
-use Rattle.sqlite.specs.Listing.{understood}
 use Rattle.shop_schema.proofs.Lasts.{numbered_once}
 use Rattle.shop_schema.proofs.Listed.{own_rows}
-use Rattle.shop_store.specs.declared.branches.TheConstants.{UPDATE_MANAGER}
-use Rattle.shop_store.specs.declared.films.TheConstants.{UPDATE_RATE, UPDATE_WITHDRAWN}
-use Rattle.shop_store.specs.declared.staff.TheConstants.{UPDATE_GONE}
-use Rattle.shop_store.proofs.BranchRows.{replaced}
-use Rattle.shop_store.proofs.ByNumber.{ByNumber, films, staff, branches}
+use Rattle.shop_store.proofs.BranchRows.{written, set_terms}
+use Rattle.shop_store.proofs.ByNumber.{ByNumber}
 use Rattle.shop_store.proofs.SharedReads.{of_number}
-use Rattle.shop_store.proofs.PutTexts.{kept_or_null as minutes_kept}
 
 -- ---- the row of a number
 
@@ -48,36 +42,35 @@ module _ {A : Type 0} (f : A → A) where
 
 -- ---- the text
 
--- the columns of a row, with the second parameter in the place of one
-abbrev pub set_terms : ℕ → ℕ → List Term
-set_terms width at = col 1 0 ∷ col 1 0 ∷ replaced at (col 0 1) (cols 1 1 width)
-
-module _ {A : Type 0} (t : ByNumber A) (text : List ℕ) (place : ℕ) (v : Value) (f : A → A) (n : ℕ) where
+-- `places` are the columns', from 0
+module _ {A : Type 0} (t : ByNumber A) (text : List ℕ) (places : List ℕ) (vs : List Value) (f : A → A) (n : ℕ) where
   abbrev wide : ℕ
   wide = length t.table.columns
 
   abbrev terms : List Term
-  terms = set_terms wide place
+  terms = set_terms 1 wide places
 
   abbrev set_columns : sql.Row → sql.Row
-  set_columns vs = replaced place v (columns_from 0 wide vs)
+  set_columns row = written places vs (columns_from 0 wide row)
 
   abbrev params : sql.Row
-  params = number_value n ∷ v ∷ []
+  params = number_value n ∷ vs
 
   abbrev change : Books → Books
   change books = t.part.filled (set_at n f (t.part.items books)) books
 
-  -- The premises up to `low` are `refl` where the text is known, but `kept` where a column may be NULL.
-  pub sets_column : Means shop_schema text (Update t.place (record { lets = []; body = plain_query t.table.tree of_number terms [] }))
+  abbrev pub SetsByNumber : Type 1
+  SetsByNumber = (old new : State) (count : ℕ) → 1 ≤ n → ExecutesInside 0 text params old new (Ok count) → Writes old new (λ _. ⊤) change
+
+  -- the premises are `refl` where the text is known, but `kept` where a column may be NULL
+  pub sets_by_number : Means shop_schema text (Update t.place (record { lets = []; body = plain_query t.table.tree of_number terms [] }))
       → ((books : Books) (it : ℕ × A) → set_columns (t.columns books it) ≡ t.columns books (set_item f it))
       → ((books : Books) (it : ℕ × A) → are_kept t.table.columns (set_columns (t.columns books it)) ≡ true)
       → ((r : sql.Row) → list_all (holds (params ∷ r ∷ [])) of_number ≡ (number_test 0 n (columns_of wide r) && true))
       → ((r : sql.Row) → drop 1 (eval_all terms (params ∷ r ∷ [])) ≡ rowid r ∷ set_columns (columns_of wide r))
       → ((r : sql.Row) → id_of (eval_all terms (params ∷ r ∷ [])) ≡ id_of r) → ((r : sql.Row) → columns_of wide (Int (id_of r) ∷ set_columns (columns_of wide r)) ≡ set_columns (columns_of wide r))
-      → ((w : Value) (vs : sql.Row) → cast_row t.table (w ∷ vs) ≡ cast kind.Integer w ∷ cast_all t.table.columns vs)
-      → 1 ≤ n → (old new : State) (count : ℕ) → ExecutesInside 0 text params old new (Ok count) → Writes old new (λ _. ⊤) change
-  sets_column means sets_are kept sees shown ids whole casts low old new count h counts books holds given =
+      → ((w : Value) (row : sql.Row) → cast_row t.table (w ∷ row) ≡ cast kind.Integer w ∷ cast_all t.table.columns row) → SetsByNumber
+  sets_by_number means sets_are kept sees shown ids whole casts old new count low h counts books holds given =
       writes_by shop_schema (StandsWith counts) old new (λ them. them ≡ books) change (λ has.
       sets_row shop_schema (StandsWith counts) text t.place t.table wide of_number terms params (t.columns books) (λ vs. number_test 0 n vs && true) (λ it. it.0 == n) set_columns (set_item f)
       (λ it. one_tested _ (test_of (t.columns books it) 0 it.0 n (t.numbers books it))) (sets_are books) (kept books) old new has
@@ -93,34 +86,3 @@ module _ {A : Type 0} (t : ByNumber A) (text : List ℕ) (place : ℕ) (v : Valu
       put same stood rows =
           t.changed counts books (set_at n f (t.part.items books)) old.now.trees new.now.trees same stood
           (subst (λ (its : List (ℕ × A)). HasRows wide (new.now.trees t.table.tree) (map (t.columns books) its)) (numbered_set f n low (t.part.items books)) rows)
-
--- ---- the sets of head office
-
-abbrev pub SetsColumn : {A : Type 0} → ByNumber A → List ℕ → Value → (A → A) → Type 1
-SetsColumn t text v f =
-    (old new : State) (n : ℕ) (count : ℕ) → 1 ≤ n → ExecutesInside 0 text (number_value n ∷ v ∷ []) old new (Ok count) → Writes old new (λ _. ⊤) (λ books. t.part.filled (set_at n f (t.part.items books)) books)
-
-pub sets_rate : (rate : ℕ) → SetsColumn films UPDATE_RATE.now (number_value rate) (λ f. record f { rate = rate })
-unfolding understood everything
-sets_rate rate old new n count low =
-    sets_column films _ 6 (number_value rate) (λ f. record f { rate = rate }) n (record { is = refl; plain = (refl, refl) }) (λ books it. refl) (λ books it. minutes_kept it.1.minutes)
-    (λ r. refl) (λ r. refl) (λ r. refl) (λ r. refl) (λ w vs. refl) low old new count
-
-pub sets_withdrawn : SetsColumn films UPDATE_WITHDRAWN.now (flag_value true) (λ f. record f { withdrawn = true })
-unfolding understood everything
-sets_withdrawn old new n count low =
-    sets_column films _ 11 (flag_value true) (λ f. record f { withdrawn = true }) n (record { is = refl; plain = (refl, refl) }) (λ books it. refl) (λ books it. minutes_kept it.1.minutes)
-    (λ r. refl) (λ r. refl) (λ r. refl) (λ r. refl) (λ w vs. refl) low old new count
-
-pub sets_gone : SetsColumn staff UPDATE_GONE.now (flag_value true) (λ r. record r { gone = true })
-unfolding understood everything
-sets_gone old new n count low =
-    sets_column staff _ 8 (flag_value true) (λ r. record r { gone = true }) n (record { is = refl; plain = (refl, refl) }) (λ books it. refl) (λ books it. refl)
-    (λ r. refl) (λ r. refl) (λ r. refl) (λ r. refl) (λ w vs. refl) low old new count
-
-pub sets_manager : (manager : ℕ) → SetsColumn branches UPDATE_MANAGER.now (number_value manager) (λ r. record r { manager = Some manager })
-unfolding understood everything
-sets_manager manager old new n count low =
-    sets_column branches _ 6 (number_value manager) (λ r. record r { manager = Some manager }) n (record { is = refl; plain = (refl, refl) }) (λ books it. refl)
-    (λ books it. ap (λ b. b && true) (kept_or_null moment_value (λ moment. refl) (head (owned_by it.0 books.lasts))))
-    (λ r. refl) (λ r. refl) (λ r. refl) (λ r. refl) (λ w vs. refl) low old new count

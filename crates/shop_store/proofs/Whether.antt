@@ -1,10 +1,8 @@
 -- Whether a SELECT shows a row, as a call tells it.
-use Rattle.shop_schema.proofs.Common.{◌≡◌, ◌==◌, ◌+◌, ◌&&◌, ◌||◌, ℕ, suc, List, [], ◌∷◌, map, filter, length, cond, not, Bool, true, false, Result, refl, ap, ◌∙◌, arith, MutBor, list_all, list_any, bytes_eq, nat_tests, column, Binary, Trees, Term, col, op2, holds, Query, output, Compare, Eq, is_true, Ghosts, Held, state, State, HasRows, columns_of, number_value, StoreFault, Selects, plain_query, number_test, number_tested, text_test, text_tested, one_tested, two_tested, projects_count, still_holds, numbered, numbered_from, Cast, Branch, Books, shop_schema, cast_columns, counts_of, StandsFor, Reads}
+use Rattle.shop_schema.proofs.Common.{◌≡◌, ◌==◌, ◌+◌, ◌&&◌, ◌||◌, ℕ, suc, List, [], ◌∷◌, map, filter, length, cond, not, Bool, true, false, Result, refl, ap, ◌∙◌, arith, MutBor, list_all, list_any, bytes_eq, nat_tests, column, Binary, Trees, Term, col, op2, holds, Query, output, Compare, Eq, is_true, Ghosts, Held, state, State, HasRows, columns_of, StoreFault, Selects, plain_query, text_test, text_tested, one_tested, projects_count, still_holds, numbered, numbered_from, Books, shop_schema, counts_of, StandsFor, Reads}
 use Rattle.sqlite.specs.declared.types.Value.TheVariants.{Text}
 use Rattle.sqlite_value.specs.Order as sql
 use Rattle.sqlite_sql.specs.Ops.{binary}
-use Rattle.sqlite_tied.specs.Compute.{everything}
-use Rattle.sqlite.specs.Listing.{understood}
 use Rattle.sqlite.specs.State.{Shown}
 use Rattle.shop_model.specs.Values as model
 use Rattle.sql_rows.specs.Calls.{DoesInside}
@@ -13,9 +11,7 @@ use Rattle.shop_schema.proofs.Stands.{with_own}
 use Rattle.shop_schema.proofs.Listed.{own_rows}
 use Rattle.shop_ledger.specs.Calls.{Finds}
 use Rattle.shop_ledger.proofs.Doing.{does_so}
-use Rattle.shop_store.specs.declared.branches.TheConstants.{SELECT_WITH_TOKEN}
-use Rattle.shop_store.specs.declared.rows.TheConstants.{SELECT_COUNTRY_NAMED, SELECT_LANGUAGE_NAMED, SELECT_CATEGORY_NAMED, SELECT_CAST}
-use Rattle.shop_store.proofs.ByNumber.{ByNumber, countries, languages, categories, branches}
+use Rattle.shop_store.proofs.ByNumber.{ByNumber}
 
 -- the call tells it
 pub tells : {S : Type 0} {g : Ghosts S} {a b : MutBor (Held S)} {r : Result Bool StoreFault} {P : Books → Bool} (text : List ℕ) (params : sql.Row)
@@ -68,7 +64,7 @@ module _ {A : Type 0} (t : ByNumber A) (text : List ℕ) (place : ℕ) where
   abbrev pub of_text : List Term
   of_text = op2 (Compare Eq Binary) (col 1 (suc place)) (col 0 0) ∷ []
 
-  abbrev with_text : Query
+  abbrev pub with_text : Query
   with_text = plain_query t.table.tree of_text (col 1 1 ∷ []) []
 
   -- the premises are `refl` where the text and the table are known
@@ -92,39 +88,9 @@ abbrev pub ReadsName : ByNumber model.Text → List ℕ → Type 1
 ReadsName t text =
     (old new : State) (name : List ℕ) (rows : List sql.Row) → Shown text (Text name ∷ []) old new rows → Reads old new (λ books. not (length rows == 0) ≡ list_any (bytes_eq name) (t.part.items books))
 
-reads_name : (t : ByNumber model.Text) (text : List ℕ) → Selects shop_schema text (with_text t text 1) → ((books : Books) (it : ℕ × model.Text) → column (t.columns books it) 1 ≡ Text it.1)
+pub reads_name : (t : ByNumber model.Text) (text : List ℕ) → Selects shop_schema text (with_text t text 1) → ((books : Books) (it : ℕ × model.Text) → column (t.columns books it) 1 ≡ Text it.1)
     → ((name : List ℕ) (r : sql.Row) → cond (list_all (holds ((Text name ∷ []) ∷ r ∷ [])) (of_text t text 1)) (output (with_text t text 1) ((Text name ∷ []) ∷ r ∷ []) ∷ []) []
     ≡ cond (text_test 1 name (columns_of (length t.table.columns) r) && true) (([], column (columns_of (length t.table.columns) r) 0 ∷ []) ∷ []) []) → ReadsName t text
 reads_name t text means texts only old new name rows h books holds held =
     let found = reads_text t text 1 means (λ it. it) texts only old new name rows h books holds held in
     (found.0, found.1 ∙ any_turned name (t.part.items books))
-
-pub named_country : ReadsName countries SELECT_COUNTRY_NAMED.now
-unfolding understood everything
-named_country = reads_name countries _ (record { names = _; is = refl; plain = (refl, refl); unlisted = refl }) (λ books it. refl) (λ n r. refl)
-
-pub named_language : ReadsName languages SELECT_LANGUAGE_NAMED.now
-unfolding understood everything
-named_language = reads_name languages _ (record { names = _; is = refl; plain = (refl, refl); unlisted = refl }) (λ books it. refl) (λ n r. refl)
-
-pub named_category : ReadsName categories SELECT_CATEGORY_NAMED.now
-unfolding understood everything
-named_category = reads_name categories _ (record { names = _; is = refl; plain = (refl, refl); unlisted = refl }) (λ books it. refl) (λ n r. refl)
-
-pub token_taken : (old new : State) (token : List ℕ) (rows : List sql.Row) → Shown SELECT_WITH_TOKEN.now (Text token ∷ []) old new rows
-    → Reads old new (λ books. not (length rows == 0) ≡ list_any (λ (it : Branch). bytes_eq it.token token) books.catalogue.branches)
-unfolding understood everything
-token_taken = reads_text branches SELECT_WITH_TOKEN.now 1 (record { names = _; is = refl; plain = (refl, refl); unlisted = refl }) (λ it. it.token) (λ books it. refl) (λ n r. refl)
-
--- ---- who is cast
-
-abbrev of_cast : List Term
-of_cast = op2 (Compare Eq Binary) (col 1 1) (col 0 0) ∷ op2 (Compare Eq Binary) (col 1 2) (col 0 1) ∷ []
-
-pub read_cast : (old new : State) (film actor : ℕ) (rows : List sql.Row) → Shown SELECT_CAST.now (number_value film ∷ number_value actor ∷ []) old new rows
-    → Reads old new (λ books. not (length rows == 0) ≡ list_any (λ (it : Cast). it.film == film && it.actor == actor) books.catalogue.casts)
-unfolding understood everything
-read_cast old new film actor =
-    reads_any SELECT_CAST.now 16 2 of_cast (col 1 1 ∷ []) (record { names = _; is = refl; plain = (refl, refl); unlisted = refl }) (λ books. cast_columns) (λ books. books.catalogue.casts) (λ books trees s. s.casts)
-    (number_value film ∷ number_value actor ∷ []) (λ vs. number_test 0 film vs && (number_test 1 actor vs && true)) (λ vs. column vs 0 ∷ []) (λ it. it.film == film && it.actor == actor)
-    (λ books it. two_tested _ _ (number_tested it.film film) (number_tested it.actor actor)) (λ r. refl) old new

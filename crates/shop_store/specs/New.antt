@@ -6,9 +6,8 @@ use Rattle.sqlite.specs.declared.types.Value.TheVariants.{Text}
 use Rattle.sqlite.specs.Values.{or_null}
 use Rattle.sqlite_value.specs.Order as sql
 use Rattle.sql_rows.specs.Rows.{HasRows, SameBut, number_value}
-use Rattle.shop_schema.specs.Tables.{shop_schema}
-use Rattle.shop_schema.specs.Columns.{rule_columns}
-use Rattle.shop_schema.specs.Shop.{IsShop, IsKeyed, HaveNoRows}
+use Rattle.shop_schema.specs.RowValues.{rule_columns}
+use Rattle.shop_schema.specs.Shop.{IsShop, IsKeyed, HaveNoRows, shop_schema}
 use Rattle.shop_model.specs.Values.{City, Actor, Film, Branch, Staff, ByCode}
 use Rattle.shop_store.specs.declared.puts.NewCity.{NewCity}
 use Rattle.shop_store.specs.declared.puts.NewActor.{NewActor}

@@ -7,8 +7,7 @@ use Rattle.shop_model.specs.Rows.{Row}
 use Rattle.shop_model.specs.Values.{Customer, Copy, Rental, Terms, Payment}
 use Rattle.shop_model.specs.Books.{BookCopy}
 use Rattle.shop_types.specs.Seen.{seen_customer, seen_rental, seen_terms, seen_payment, seen_mark, seen_state}
-use Rattle.shop_schema.specs.Columns.{moment_value}
-use Rattle.shop_schema.specs.RowValues.{IsRental, IsTerms}
+use Rattle.shop_schema.specs.RowValues.{IsRental, IsTerms, moment_value}
 use Rattle.shop_store.specs.declared.customers.CustomerRow.{CustomerRow}
 use Rattle.shop_store.specs.declared.copies.CopyRow.{CopyRow}
 use Rattle.shop_store.specs.declared.copies.CopyNow.{CopyNow}

@@ -7,7 +7,7 @@ ghost use Rattle.sql_rows.specs.Calls.{DoesInside};
 ghost use Rattle.sql_rows.specs.Rows.{number_value};
 ghost use Rattle.shop_types.specs.Seen.{seen_rule};
 ghost use Rattle.shop_ledger.specs.Calls.{Finds, Stores};
-ghost use Rattle.shop_schema.specs.Columns.{rule_value};
+ghost use Rattle.shop_schema.specs.RowValues.{rule_value};
 
 use crate::columns::{token_at, token_text};
 use crate::rows::shows_row;

@@ -11,15 +11,14 @@ ghost use Rattle.shop_model.specs.Stock.{keeps_out};
 ghost use Rattle.shop_model.specs.Books.{put_state, shop_of};
 ghost use Rattle.shop_model.specs.Sound.{copy_is};
 ghost use Rattle.shop_ledger.specs.Calls.{Finds, Stores};
-ghost use Rattle.shop_schema.specs.RowValues.{IsRow, IsCopy};
-ghost use Rattle.shop_schema.specs.Columns.{state_value, copy_columns};
+ghost use Rattle.shop_schema.specs.RowValues.{IsRow, IsCopy, state_value, copy_columns};
 ghost use Rattle.shop_store.specs.Seen.{seen_copy_row, seen_copy_now};
 ghost use Rattle.shop_types.specs.Seen.{seen_state};
 
 use crate::rows::shows_row;
+use shop_schema::tables::CopyCells;
 use shop_schema::{
-    Cell, CopyCells, query_first, read_cells, row_number_at, row_number_or_null_at, row_numbers_in,
-    state_code,
+    Cell, query_first, read_cells, row_number_at, row_number_or_null_at, row_numbers_in, state_code,
 };
 use shop_types::{BranchNo, CopyNo, CopyState, FilmNo, LotName, Mark, RentalNo};
 use sql_rows::{StoreFault, Stored, execute, query, query_all, query_one};

@@ -6,12 +6,12 @@ ghost use Rattle.shop_model.specs.Rows.{at, of, set_row};
 ghost use Rattle.shop_model.specs.Books.{head};
 ghost use Rattle.shop_types.specs.Seen.{seen_customer};
 ghost use Rattle.shop_ledger.specs.Calls.{Finds, Stores};
-ghost use Rattle.shop_schema.specs.Columns.{customer_columns};
-ghost use Rattle.shop_schema.specs.RowValues.{IsRow, IsCustomer};
+ghost use Rattle.shop_schema.specs.RowValues.{IsRow, IsCustomer, customer_columns};
 ghost use Rattle.shop_schema.specs.Held.{IsHeld};
 ghost use Rattle.shop_store.specs.Seen.{seen_row};
 
-use shop_schema::{CustomerCells, MomentText, query_first, read_cells};
+use shop_schema::tables::CustomerCells;
+use shop_schema::{MomentText, query_first, read_cells};
 use shop_types::{BranchNo, Customer, CustomerNo, Person};
 use sql_rows::{StoreFault, Stored, execute, flag_at, query_one};
 use sqlite::types::{ToSql, ValueRef};

@@ -6,10 +6,11 @@ ghost use Rattle.sql_rows.specs.Calls.{DoesInside};
 ghost use Rattle.shop_model.specs.Rows.{at, set_at};
 ghost use Rattle.shop_model.specs.Books.{head};
 ghost use Rattle.shop_ledger.specs.Calls.{Finds, Stores};
-ghost use Rattle.shop_schema.specs.Columns.{film_columns};
+ghost use Rattle.shop_schema.specs.RowValues.{film_columns};
 ghost use Rattle.shop_store.specs.SharedSeen.{seen_film_row, withdrawn_of};
 
-use shop_schema::{FilmCells, query_first, read_cells};
+use shop_schema::tables::FilmCells;
+use shop_schema::{query_first, read_cells};
 use shop_types::{Film, FilmNo, Rate};
 use sql_rows::{StoreFault, Stored, execute, flag_at, query_one};
 use sqlite::types::ToSql;

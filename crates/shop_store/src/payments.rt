@@ -7,11 +7,11 @@ ghost use Rattle.shop_model.specs.Calendar.{moment_text, is_by, is_earlier};
 ghost use Rattle.shop_model.specs.Rows.{of};
 ghost use Rattle.shop_types.specs.Seen.{seen_payment};
 ghost use Rattle.shop_ledger.specs.Calls.{Finds, Stores};
-ghost use Rattle.shop_schema.specs.Columns.{payment_columns};
-ghost use Rattle.shop_schema.specs.RowValues.{IsRow, IsPayment};
+ghost use Rattle.shop_schema.specs.RowValues.{IsRow, IsPayment, payment_columns};
 ghost use Rattle.shop_store.specs.Seen.{seen_payment_row};
 
-use shop_schema::{MomentText, PaymentCells, read_cells};
+use shop_schema::tables::PaymentCells;
+use shop_schema::{MomentText, read_cells};
 use shop_types::{BranchNo, CustomerNo, Moment, Payment, PaymentNo, RentalNo};
 use sql_rows::{StoreFault, Stored, execute, query_all};
 use sqlite::types::{ToSql, ValueRef};

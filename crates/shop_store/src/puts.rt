@@ -7,7 +7,7 @@ ghost use Rattle.sql_rows.specs.Calls.{DoesInside};
 ghost use Rattle.sql_rows.specs.Rows.{number_value};
 ghost use Rattle.shop_model.specs.Rows.{owned_by};
 ghost use Rattle.shop_ledger.specs.Calls.{Stores};
-ghost use Rattle.shop_schema.specs.Columns.{city_columns, actor_columns, film_columns, staff_columns};
+ghost use Rattle.shop_schema.specs.RowValues.{city_columns, actor_columns, film_columns, staff_columns};
 ghost use Rattle.shop_store.specs.New.{seen_city, seen_actor, seen_film, seen_branch, seen_staff, branch_params};
 
 use shop_types::{

@@ -6,13 +6,13 @@ ghost use Rattle.shop_model.specs.Calendar.{moment_text, same_moment};
 ghost use Rattle.shop_model.specs.Rows.{at, of, set_row};
 ghost use Rattle.shop_types.specs.Seen.{seen_rental};
 ghost use Rattle.shop_ledger.specs.Calls.{Finds, Stores};
-ghost use Rattle.shop_schema.specs.Columns.{rental_columns};
-ghost use Rattle.shop_schema.specs.RowValues.{IsRow, IsRental};
+ghost use Rattle.shop_schema.specs.RowValues.{IsRow, IsRental, rental_columns};
 ghost use Rattle.shop_schema.specs.Held.{IsHeld};
 ghost use Rattle.shop_store.specs.Seen.{seen_rental_row, opened_row};
 
 use crate::rows::shows_row;
-use shop_schema::{MomentText, RentalCells, read_cells};
+use shop_schema::tables::RentalCells;
+use shop_schema::{MomentText, read_cells};
 use shop_types::{BranchNo, CopyNo, CustomerNo, Moment, Rental, RentalNo};
 use sql_rows::{StoreFault, Stored, execute, query_one};
 use sqlite::types::{ToSql, ValueRef};

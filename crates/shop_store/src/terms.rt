@@ -2,7 +2,7 @@ ghost use Rattle.std.specs.Prelude.{⊤, ◌≡◌, ◌++◌, ◌∷◌, []};
 ghost use Rattle.sqlite.specs.Values.{bound};
 ghost use Rattle.sql_rows.specs.Calls.{DoesInside};
 ghost use Rattle.shop_ledger.specs.Calls.{Stores};
-ghost use Rattle.shop_schema.specs.Columns.{terms_columns};
+ghost use Rattle.shop_schema.specs.RowValues.{terms_columns};
 ghost use Rattle.shop_store.specs.Seen.{seen_terms_row};
 
 use shop_types::{BranchNo, RentalNo, Terms};

@@ -1,8 +1,24 @@
-use Rattle.shop_ledger.proofs.Doing.{does_so}
-use Rattle.shop_store.proofs.OnCopies.{read_of_film}
+use Rattle.shop_schema.proofs.Common.{map, filter, AllByRecursion, State, BookCopy, copy_columns, IsRow, IsCopy, CopyRows}
+use Rattle.sqlite_value.specs.Order as sql
+use Rattle.shop_ledger.proofs.Rising.{which_rise}
+use Rattle.shop_store.specs.declared.copies.CopyRow.{CopyRow}
+use Rattle.shop_store.specs.declared.copies.TheConstants.{SELECT_COPIES_OF_FILM}
+use Rattle.shop_store.specs.Seen.{seen_copy_row}
+use Rattle.shop_store.proofs.Common.{◌≡◌, ◌==◌, ◌&&◌, ℕ, List, [], ◌∷◌, Bool, true, refl, everything, understood, Shown, number_value, number_test, number_tested, two_tested, Row, is_of, Reads, does_so, equals, copies, reads_sorted}
 use Rattle.shop_store.proofs.copies.copies_of_film.Goals as goal
+
+abbrev is_of_film : ℕ → ℕ → Row BookCopy → Bool
+is_of_film b film row = is_of b row && row.it.film == film
+
+reads : (old new : State) (b film : ℕ) (rows : List sql.Row) (all : List CopyRow) → Shown SELECT_COPIES_OF_FILM.now (number_value b ∷ number_value film ∷ []) old new rows
+    → map (λ x. copy_columns (seen_copy_row x)) all ≡ rows → AllByRecursion (λ x. IsRow IsCopy (seen_copy_row x)) all → Reads old new (λ books. map seen_copy_row all ≡ filter (is_of_film b film) books.copies)
+unfolding understood everything
+reads old new b film rows all h read kinds =
+    reads_sorted copies (equals 0 (1 ∷ 3 ∷ [])) seen_copy_row SELECT_COPIES_OF_FILM.now (record { names = _; is = refl; plain = (refl, refl); unlisted = refl }) (number_value b ∷ number_value film ∷ [])
+    (λ vs. number_test 0 b vs && (number_test 2 film vs && true)) (is_of_film b film) (λ c. two_tested _ _ (number_tested c.branch b) (number_tested c.it.film film)) (λ r. refl)
+    (λ books held. which_rise (λ (it : BookCopy). it.film == film) b books.copies (held.numbers.rows CopyRows b)) old new rows all h read kinds
 
 pub returns : goal.returns
 returns g c =
     does_so c.query_all.ensures.inside (rw (c.to_sql.ensures, c.get.ensures.value, c.to_sql-2.ensures, c.get-2.ensures.value) at c.query_all.ensures.shown)
-    (λ all it. read_of_film _ _ c.args.branch c.args.film it.0 all.items it.1 it.2 it.3)
+    (λ all it. reads _ _ c.args.branch c.args.film it.0 all.items it.1 it.2 it.3)

@@ -1,8 +1,13 @@
-use Rattle.shop_ledger.proofs.Doing.{does_so}
-use Rattle.shop_store.proofs.OnCopies.{read_copy}
+use Rattle.shop_store.specs.declared.copies.TheConstants.{SELECT_COPY}
+use Rattle.shop_store.specs.Seen.{seen_copy_row}
+use Rattle.shop_store.proofs.Common.{refl, everything, understood, does_so, copies, ReadsOne, reads_one}
 use Rattle.shop_store.proofs.copies.copy_at.Goals as goal
+
+reads : ReadsOne copies seen_copy_row SELECT_COPY.now
+unfolding understood everything
+reads = reads_one copies seen_copy_row _ (record { names = _; is = refl; plain = (refl, refl); unlisted = refl }) (λ b n r. refl)
 
 pub returns : goal.returns
 returns g c =
     does_so c.query_one.ensures.inside (rw (c.to_sql.ensures, c.get.ensures.value, c.to_sql-2.ensures, c.get-2.ensures.value) at c.query_one.ensures.shown)
-    (λ o it. read_copy _ _ c.args.branch c.args.number it.0 o it.1 it.2 it.3)
+    (λ o it. reads _ _ c.args.branch c.args.number it.0 o it.1 it.2 it.3)

@@ -1,6 +1,11 @@
-use Rattle.shop_ledger.proofs.Doing.{does_so}
-use Rattle.shop_store.proofs.PutTexts.{puts_actor}
+use Rattle.shop_schema.proofs.SharedTables.{actors}
+use Rattle.shop_store.specs.declared.puts.TheConstants.{INSERT_ACTOR}
+use Rattle.shop_store.proofs.Common.{refl, everything, understood, does_so, PutsNext, puts_next}
 use Rattle.shop_store.proofs.puts.put_actor.Goals as goal
 
+puts : PutsNext actors INSERT_ACTOR.now
+unfolding understood everything
+puts = puts_next actors _ (record { is = refl; plain = (refl, refl) }) (λ n x. refl) (λ n x. refl) (λ n x. refl) (λ n x id. refl)
+
 pub returns : goal.returns
-returns g c = does_so c.execute.ensures.inside c.execute.ensures.ran (λ _ ran. puts_actor _ _ _ _ ran.0 (rw c.values.ensures at ran.1))
+returns g c = does_so c.execute.ensures.inside c.execute.ensures.ran (λ _ ran. puts _ _ _ _ ran.0 (rw c.values.ensures at ran.1))

@@ -1,6 +1,11 @@
-use Rattle.shop_ledger.proofs.Doing.{does_so}
-use Rattle.shop_store.proofs.PutTexts.{puts_city}
+use Rattle.shop_schema.proofs.SharedTables.{cities}
+use Rattle.shop_store.specs.declared.puts.TheConstants.{INSERT_CITY}
+use Rattle.shop_store.proofs.Common.{refl, everything, understood, does_so, PutsNext, puts_next}
 use Rattle.shop_store.proofs.puts.put_city.Goals as goal
 
+puts : PutsNext cities INSERT_CITY.now
+unfolding understood everything
+puts = puts_next cities _ (record { is = refl; plain = (refl, refl) }) (λ n x. refl) (λ n x. refl) (λ n x. refl) (λ n x id. refl)
+
 pub returns : goal.returns
-returns g c = does_so c.execute.ensures.inside c.execute.ensures.ran (λ _ ran. puts_city _ _ _ _ ran.0 (rw c.values.ensures at ran.1))
+returns g c = does_so c.execute.ensures.inside c.execute.ensures.ran (λ _ ran. puts _ _ _ _ ran.0 (rw c.values.ensures at ran.1))

@@ -1,5 +1,10 @@
-use Rattle.shop_store.proofs.Whether.{tells, named_language}
+use Rattle.shop_store.specs.declared.rows.TheConstants.{SELECT_LANGUAGE_NAMED}
+use Rattle.shop_store.proofs.Common.{refl, everything, understood, languages, ReadsName, reads_name, tells}
 use Rattle.shop_store.proofs.rows.is_language.Goals as goal
 
+reads : ReadsName languages SELECT_LANGUAGE_NAMED.now
+unfolding understood everything
+reads = reads_name languages _ (record { names = _; is = refl; plain = (refl, refl); unlisted = refl }) (λ books it. refl) (λ n r. refl)
+
 pub returns : goal.returns
-returns g c = tells _ _ (rw c.to_sql.ensures at c.shows_row.ensures) (named_language _ _ c.args.name.now)
+returns g c = tells _ _ (rw c.to_sql.ensures at c.shows_row.ensures) (reads _ _ c.args.name.now)
