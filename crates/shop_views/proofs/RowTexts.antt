@@ -1,37 +1,23 @@
--- The texts of the views' rows, and that none has a float.
-use Rattle.shop_types.proofs.Common.{◌≡◌, ◌∙◌, ◌||◌, refl, ap, ℕ, Bool, false, List, [], ◌∷◌, map, codes, decimal, Option, None, Some, Result, IfOk, IfOk-weaker, array, object, numbers_text, flag_text, Text, listed_film}
+-- The texts of rows, and that none has a float.
+use Rattle.shop_types.proofs.Common.{◌≡◌, ◌∙◌, ◌||◌, ap, ℕ, Bool, false, List, [], ◌∷◌, map, codes, decimal, Result, IfOk, IfOk-weaker, array, object, numbers_text, flag_text, Text}
 use Rattle.serde_json.specs.declared.value.Value.{Value}
 use Rattle.serde_json.specs.Data.{Data, number, unsigned}
 use Rattle.serde_json.specs.View.{view, items_of}
 use Rattle.serde_json.specs.Written.{compact_text, has_float}
-use Rattle.shop_model.specs.Views.{FilmRow}
 use Rattle.shop_views.proofs.TextLemmas.{same_text, numbers_texts, numbers_no_float}
 use Rattle.shop_views.specs.Texts.{json_text, item_texts}
 use Rattle.shop_views.specs.Bodies.{numbers_value}
 use Rattle.shop_views.specs.Consignments.{Listed, arrival_data, arrival_text, sent_data, sent_text, transit_data, transit_text}
-use Rattle.shop_views.specs.Films.{film_data}
-use Rattle.shop_views.specs.Lists.{IsRow}
+use Rattle.shop_views.specs.Lists.{IsWritten, IsRow}
+
+-- a value that is this one, whose text is known
+pub is_written : (json : Data) (written : Text) (value : Data) → value ≡ json → json_text json ≡ written → has_float json ≡ false → IsWritten json written value
+is_written json written value is told none = record { is = is; text = ap compact_text is ∙ same_text json ∙ told; no_float = ap has_float is ∙ none }
 
 -- a value that is made of what a row has
-pub row_written : {A E : Type 0} (json : A → Data) (text : A → Text) (it seen : A) → it ≡ seen → json_text (json seen) ≡ text seen → has_float (json seen) ≡ false
-    → (made : Result Value E) → IfOk made (λ v. view v ≡ json it) → IfOk made (λ v. IsRow json text seen (view v))
-row_written json text it seen same told none made =
-    IfOk-weaker made _ _
-    (λ v is. let whole = is ∙ ap json same in record { is = whole; text = ap compact_text whole ∙ same_text (json seen) ∙ told; no_float = ap has_float whole ∙ none })
-
-pub film_is : (it : FilmRow) → json_text (film_data it) ≡ listed_film it
-film_is it = go it.minutes
-  where
-    go : (minutes : Option ℕ) → json_text (film_data (record it { minutes = minutes })) ≡ listed_film (record it { minutes = minutes })
-    go None = refl
-    go (Some n) = refl
-
-pub film_no_float : (it : FilmRow) → has_float (film_data it) ≡ false
-film_no_float it = go it.minutes
-  where
-    go : (minutes : Option ℕ) → has_float (film_data (record it { minutes = minutes })) ≡ false
-    go None = refl
-    go (Some n) = refl
+pub row_written : {A E : Type 0} (json : A → Data) (text : A → Text) (it : A) → json_text (json it) ≡ text it → has_float (json it) ≡ false
+    → (made : Result Value E) → IfOk made (λ v. view v ≡ json it) → IfOk made (λ v. IsRow json text it (view v))
+row_written json text it told none made = IfOk-weaker made _ _ (λ v is. is_written (json it) (text it) (view v) is told none)
 
 -- the films of a consignment as a list of numbers, before the other members
 films_first : (ns : List ℕ) (more : List (Text × Text)) → object ((codes "films", array (item_texts (items_of (map (λ n. number (unsigned n)) ns)))) ∷ more) ≡ object ((codes "films", numbers_text ns) ∷ more)

@@ -5,7 +5,7 @@ use Rattle.serde_json.specs.Find.{of_integer}
 use Rattle.serde_json.specs.View.{items_of}
 use Rattle.shop_model.specs.Values.{Text, OfficeAct, AddCountry, AddCity, AddLanguage, AddCategory, AddActor, AddFilm, PriceFilm, WithdrawFilm, AddCast, AddBranch, AddStaff, StaffLeaves, SetManager, ChooseRule}
 use Rattle.shop_model.specs.Json.{quoted}
-use Rattle.shop_model.specs.Machine.{rule_name}
+use Rattle.shop_model.specs.OfficeActs.{rule_name}
 
 -- a list of numbers
 abbrev pub numbers_value : List ℕ → Data

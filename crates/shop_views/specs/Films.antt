@@ -1,11 +1,13 @@
 -- The list of films and that of actors, as JSON values.
-use Rattle.std.specs.Prelude.{ℕ, Option, None, Some, ◌++◌, codes}
+use Rattle.std.specs.Prelude.{◌≡◌, ℕ, false, refl, Option, None, Some, ◌++◌, codes}
 use Rattle.std.specs.List.{join_by}
 use Rattle.serde_json.specs.Data.{Data, null, number, unsigned, string, object, member, no_members}
+use Rattle.serde_json.specs.Written.{has_float}
 use Rattle.shop_model.specs.Values.{Text}
 use Rattle.shop_model.specs.Views as views
 use Rattle.shop_types.specs.Films.{rating_text}
 use Rattle.shop_views.specs.Names.{name_text}
+use Rattle.shop_views.specs.Texts.{json_text}
 use Rattle.shop_views.specs.declared.films.ListedFilm.{ListedFilm}
 use Rattle.shop_views.specs.declared.actors.FilmGroup.{FilmGroup}
 use Rattle.shop_views.specs.declared.actors.ActorRow.{ActorRow}
@@ -40,6 +42,21 @@ film_data it = object
     (member (codes "price") (number (unsigned it.price))
     (member (codes "rating") (string it.rating)
     (member (codes "title") (string it.title) no_members))))))))
+
+-- its text is that of the definitions, and it has no float: a length is a number or null
+pub film_written : (it : views.FilmRow) → json_text (film_data it) ≡ views.listed_film it
+film_written it = by_minutes it.minutes
+  where
+    by_minutes : (minutes : Option ℕ) → json_text (film_data (record it { minutes = minutes })) ≡ views.listed_film (record it { minutes = minutes })
+    by_minutes None = refl
+    by_minutes (Some n) = refl
+
+pub film_no_float : (it : views.FilmRow) → has_float (film_data it) ≡ false
+film_no_float it = by_minutes it.minutes
+  where
+    by_minutes : (minutes : Option ℕ) → has_float (film_data (record it { minutes = minutes })) ≡ false
+    by_minutes None = refl
+    by_minutes (Some n) = refl
 
 -- the films of a category, as "Category: Title, Title"
 abbrev pub films_text : FilmGroup → Text

@@ -1,10 +1,8 @@
 //! Actors as the list of actors shows them, each with the films by category.
 
-ghost use Rattle.std.specs.Prelude.{◌≡◌, codes, map, IfOk, string_bytes};
-ghost use Rattle.std.specs.List.{join_by};
+ghost use Rattle.std.specs.Prelude.{◌≡◌, refl, IfOk};
 ghost use Rattle.serde_json.specs.View.{view};
-ghost use Rattle.shop_model.specs.Values.{Text};
-ghost use Rattle.shop_model.specs.Answers.{listed_actor};
+ghost use Rattle.shop_model.specs.Views.{listed_actor};
 ghost use Rattle.shop_views.specs.Films.{films_text, seen_actor, actor_data};
 
 use crate::joins::{Told, joined};
@@ -76,4 +74,8 @@ impl ListedRow for ActorRow {
         let films = joined(alloc, row.groups.as_slice(), "; ")?;
         actor_object(alloc, row, films.as_str())
     }
+
+    ghost as_written = { λ row. refl };
+
+    ghost no_float = { λ row. refl };
 }

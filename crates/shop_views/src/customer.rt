@@ -1,5 +1,4 @@
-ghost use Rattle.std.specs.Prelude.{◌≡◌, [], ◌∷◌, codes, decimal, IfOk, string_bytes};
-ghost use Rattle.shop_model.specs.Json.{object};
+ghost use Rattle.std.specs.Prelude.{◌≡◌, IfOk, string_bytes};
 ghost use Rattle.shop_model.specs.Calendar.{moment_text};
 ghost use Rattle.shop_model.specs.Answers.{customer_text};
 ghost use Rattle.shop_types.specs.Seen.{seen_customer};
@@ -8,13 +7,6 @@ use crate::fields::{Field, object_text};
 use shop_types::Customer;
 use shop_values::CustomerNo;
 use std::alloc::{AllocError, Global};
-
-/// The body that tells a counter the number of the customer it added.
-pub fn new_customer_text(alloc: Global, number: CustomerNo) -> Result<String, AllocError>
-    ensures { IfOk result (λ s. string_bytes s ≡ object ((codes "customer", decimal number) ∷ [])) }
-{
-    object_text(alloc, &[Field::Number("customer", number.get() as u64)])
-}
 
 /// The body with that text of the moment.
 fn customer_body<'a>(

@@ -1,12 +1,13 @@
 //! Objects as lists of their members.
 
-ghost use Rattle.std.specs.Prelude.{◌≡◌, IfOk, OnOk, string_bytes};
+ghost use Rattle.std.specs.Prelude.{◌≡◌, [], ◌∷◌, decimal, IfOk, OnOk, string_bytes};
 ghost use Rattle.serde_json.specs.View.{view, members_view};
+ghost use Rattle.shop_model.specs.Json.{object};
 ghost use Rattle.shop_views.specs.Fields.{with_field, fields_value, fields_text};
 
 use crate::numbers::numbers_value;
 use serde_json::{Map, Value, put};
-use shop_values::FilmNo;
+use shop_values::{FilmNo, RowNumber};
 use std::alloc::{AllocError, Global};
 
 /// A member of an object: its name and what it holds.
@@ -50,8 +51,19 @@ pub fn object_of(alloc: Global, fields: &[Field]) -> Result<Value, AllocError>
 }
 
 /// The text of that object.
-pub(crate) fn object_text(alloc: Global, fields: &[Field]) -> Result<String, AllocError>
+pub fn object_text(alloc: Global, fields: &[Field]) -> Result<String, AllocError>
     ensures { IfOk result (λ s. string_bytes s ≡ fields_text fields.now) }
 {
     object_of(alloc, fields)?.to_string(alloc)
+}
+
+/// The text of the object that has the number alone, under that name.
+pub fn number_text<const KIND: u8>(
+    alloc: Global,
+    name: &'static str,
+    number: RowNumber<KIND>,
+) -> Result<String, AllocError>
+    ensures { IfOk result (λ s. string_bytes s ≡ object ((name.now, decimal number.entry) ∷ [])) }
+{
+    object_text(alloc, &[Field::Number(name, number.get() as u64)])
 }

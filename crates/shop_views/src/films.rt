@@ -2,8 +2,8 @@
 
 ghost use Rattle.std.specs.Prelude.{◌≡◌, IfOk};
 ghost use Rattle.serde_json.specs.View.{view};
-ghost use Rattle.shop_model.specs.Answers.{listed_film};
-ghost use Rattle.shop_views.specs.Films.{film_with, seen_film, film_data};
+ghost use Rattle.shop_model.specs.Views.{listed_film};
+ghost use Rattle.shop_views.specs.Films.{film_with, seen_film, film_data, film_written, film_no_float};
 
 use crate::joins::joined;
 use crate::lists::ListedRow;
@@ -63,4 +63,8 @@ impl ListedRow for ListedFilm {
         let actors = joined(alloc, row.actors.as_slice(), ", ")?;
         film_object(alloc, row, actors.as_str())
     }
+
+    ghost as_written = { λ row. film_written (seen_film row) };
+
+    ghost no_float = { λ row. film_no_float (seen_film row) };
 }

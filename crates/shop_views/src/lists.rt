@@ -1,16 +1,18 @@
 //! The manual's views and the overdue rentals as JSON values, of rows that are handed in, each row by its own call.
 
-ghost use Rattle.std.specs.Prelude.{◌≡◌, [], map, IfOk};
+ghost use Rattle.std.specs.Prelude.{◌≡◌, [], false, map, IfOk};
 ghost use Rattle.serde_json.specs.Data.{Data};
 ghost use Rattle.serde_json.specs.View.{view};
+ghost use Rattle.serde_json.specs.Written.{has_float};
 ghost use Rattle.shop_model.specs.Json.{array};
 ghost use Rattle.shop_model.specs.Values.{Text};
-ghost use Rattle.shop_model.specs.Answers.{overdue_text, listed_customer, person_text, listed_film, listed_actor, listed_store, listed_category};
+ghost use Rattle.shop_model.specs.Views.{overdue_text, listed_customer, person_text, listed_film, listed_actor, listed_store, listed_category};
 ghost use Rattle.shop_views.specs.Overdue.{seen_overdue, overdue_data};
 ghost use Rattle.shop_views.specs.People.{seen_customer, customer_data, seen_staff, staff_data};
 ghost use Rattle.shop_views.specs.Films.{seen_film, film_data, seen_actor, actor_data};
 ghost use Rattle.shop_views.specs.Sales.{seen_store, store_data, seen_category, category_data};
 ghost use Rattle.shop_views.specs.Lists.{list_of, IsWritten};
+ghost use Rattle.shop_views.specs.Texts.{json_text};
 
 use crate::actors::ActorRow;
 use crate::films::ListedFilm;
@@ -28,7 +30,11 @@ pub trait ListedRow: Sized {
     ghost written: { Self → Text };
 
     fn value(alloc: Global, row: &Self) -> Result<Value, AllocError>
-        ensures { IfOk result (λ v. IsWritten (json row.now) (written row.now) (view v)) };
+        ensures { IfOk result (λ v. view v ≡ json row.now) };
+
+    ghost as_written: { (row : Self) → json_text (json row) ≡ written row };
+
+    ghost no_float: { (row : Self) → has_float (json row) ≡ false };
 }
 
 /// The rows in their order, as a list of their values.

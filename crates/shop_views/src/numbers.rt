@@ -1,7 +1,7 @@
 ghost use Rattle.std.specs.Prelude.{◌≡◌, ℕ, List, [], ◌∷◌, length, IfOk, string_bytes};
 ghost use Rattle.serde_json.specs.View.{view};
 ghost use Rattle.shop_model.specs.Json.{numbers_text, object};
-ghost use Rattle.shop_model.specs.Machine.{numbers_from};
+ghost use Rattle.shop_model.specs.Acts.{numbers_from};
 ghost use Rattle.std.specs.List.{range_with_len};
 ghost use Rattle.shop_views.specs.Texts.{json_text};
 ghost use Rattle.shop_views.specs.Bodies.{numbers_value, listed_value, named_value};
@@ -76,8 +76,8 @@ fn named_value(
     Ok(Value::Object(map))
 }
 
-/// The text of that object.
-pub(crate) fn counted_text(
+/// The text of that object. The list is empty where there are none.
+pub fn counted_text(
     alloc: Global,
     name: &'static str,
     first: u32,

@@ -1,6 +1,6 @@
 ghost use Rattle.std.specs.Prelude.{◌≡◌, ◌∷◌, option_to_list, IfOk, string_bytes};
 ghost use Rattle.shop_model.specs.Json.{object};
-ghost use Rattle.shop_model.specs.Machine.{rule_name};
+ghost use Rattle.shop_model.specs.OfficeActs.{rule_name};
 ghost use Rattle.shop_types.specs.Seen.{seen_office_act, seen_rule};
 ghost use Rattle.shop_views.specs.Fields.{fields_text};
 ghost use Rattle.shop_views.specs.Bodies.{office_members};

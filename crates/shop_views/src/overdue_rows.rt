@@ -1,6 +1,6 @@
-ghost use Rattle.std.specs.Prelude.{◌≡◌, IfOk};
+ghost use Rattle.std.specs.Prelude.{◌≡◌, refl, IfOk};
 ghost use Rattle.serde_json.specs.View.{view};
-ghost use Rattle.shop_model.specs.Answers.{overdue_text};
+ghost use Rattle.shop_model.specs.Views.{overdue_text};
 ghost use Rattle.shop_views.specs.Overdue.{overdue_data, seen_overdue};
 
 use crate::lists::ListedRow;
@@ -48,4 +48,8 @@ impl ListedRow for OverdueRow {
         let customer = with_between(alloc, row.last.as_str(), ", ", row.first.as_str())?;
         overdue_object(alloc, row, customer.as_str())
     }
+
+    ghost as_written = { λ row. refl };
+
+    ghost no_float = { λ row. refl };
 }

@@ -4,18 +4,10 @@ ghost use Rattle.serde_json.specs.View.{view};
 ghost use Rattle.shop_model.specs.Json.{numbers_text, object};
 ghost use Rattle.shop_views.specs.Bodies.{balance_value};
 
-use crate::fields::{Field, object_text};
 use crate::numbers::listed_text;
 use serde_json::{Map, Value, put};
-use shop_values::{Cents, CustomerNo, PaymentNo};
+use shop_values::{Cents, CustomerNo};
 use std::alloc::{AllocError, Global};
-
-/// The body that tells a counter the number of the payment it took.
-pub fn payment_text(alloc: Global, payment: PaymentNo) -> Result<String, AllocError>
-    ensures { IfOk result (λ s. string_bytes s ≡ object ((codes "payment", decimal payment) ∷ [])) }
-{
-    object_text(alloc, &[Field::Number("payment", payment.get() as u64)])
-}
 
 fn balance_value(alloc: Global, balance: Cents) -> Result<Value, AllocError>
     ensures { IfOk result (λ v. view v ≡ balance_value balance) }

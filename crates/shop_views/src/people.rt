@@ -1,12 +1,13 @@
 //! Customers and staff as the lists of people show them.
 
-ghost use Rattle.std.specs.Prelude.{◌≡◌, [], codes, if◌then◌else◌, IfOk};
+ghost use Rattle.std.specs.Prelude.{◌≡◌, [], codes, refl, if◌then◌else◌, IfOk};
 ghost use Rattle.serde_json.specs.View.{view};
-ghost use Rattle.shop_model.specs.Answers.{listed_customer, person_text};
+ghost use Rattle.shop_model.specs.Views.{listed_customer, person_text};
 ghost use Rattle.shop_views.specs.People.{person_as, seen_customer, seen_staff, customer_data, staff_data};
 
+use crate::joins::Told;
 use crate::lists::ListedRow;
-use crate::names::{PersonName, full_name};
+use crate::names::PersonName;
 use crate::{Field, object_of};
 use serde_json::Value;
 use shop_values::{BranchNo, CustomerNo, L45, StaffNo, T128};
@@ -85,10 +86,13 @@ impl ListedRow for ListedCustomer {
     ghost written = { λ row. listed_customer (seen_customer row) };
 
     fn value(alloc: Global, row: &ListedCustomer) -> Result<Value, AllocError> {
-        let names = &row.person.name;
-        let name = full_name(alloc, names.first.as_str(), names.last.as_str())?;
+        let name = PersonName::text(alloc, &row.person.name)?;
         customer_object(alloc, row, name.as_str())
     }
+
+    ghost as_written = { λ row. refl };
+
+    ghost no_float = { λ row. refl };
 }
 
 /// The member of staff by that whole name.
@@ -118,8 +122,11 @@ impl ListedRow for ListedStaff {
     ghost written = { λ row. person_text [] (seen_staff row) };
 
     fn value(alloc: Global, row: &ListedStaff) -> Result<Value, AllocError> {
-        let names = &row.person.name;
-        let name = full_name(alloc, names.first.as_str(), names.last.as_str())?;
+        let name = PersonName::text(alloc, &row.person.name)?;
         staff_object(alloc, row, name.as_str())
     }
+
+    ghost as_written = { λ row. refl };
+
+    ghost no_float = { λ row. refl };
 }

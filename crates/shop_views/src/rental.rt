@@ -5,43 +5,8 @@ ghost use Rattle.shop_model.specs.Answers.{holder_text};
 
 use crate::fields::{Field, object_text};
 use crate::numbers::listed_text;
-use shop_values::{CopyNo, CustomerNo, RentalNo};
+use shop_values::{CopyNo, CustomerNo};
 use std::alloc::{AllocError, Global};
-
-/// The body that tells a counter whether the customer may rent from now on.
-pub fn active_text(alloc: Global, customer: CustomerNo, active: bool) -> Result<String, AllocError>
-    ensures { IfOk result (λ s. string_bytes s
-        ≡ object ((codes "active", flag_text active) ∷ (codes "customer", decimal customer) ∷ [])) }
-{
-    object_text(
-        alloc,
-        &[
-            Field::Flag("active", active),
-            Field::Number("customer", customer.get() as u64),
-        ],
-    )
-}
-
-/// The body that tells a counter the number of the rental it made.
-pub fn rental_text(alloc: Global, rental: RentalNo) -> Result<String, AllocError>
-    ensures { IfOk result (λ s. string_bytes s ≡ object ((codes "rental", decimal rental) ∷ [])) }
-{
-    object_text(alloc, &[Field::Number("rental", rental.get() as u64)])
-}
-
-/// The body that tells a counter which rental's copy came back.
-pub fn returned_text(alloc: Global, rental: RentalNo) -> Result<String, AllocError>
-    ensures { IfOk result (λ s. string_bytes s ≡ object ((codes "returned", decimal rental) ∷ [])) }
-{
-    object_text(alloc, &[Field::Number("returned", rental.get() as u64)])
-}
-
-/// The body that tells a counter which copy is scrapped.
-pub fn scrapped_text(alloc: Global, copy: CopyNo) -> Result<String, AllocError>
-    ensures { IfOk result (λ s. string_bytes s ≡ object ((codes "scrapped", decimal copy) ∷ [])) }
-{
-    object_text(alloc, &[Field::Number("scrapped", copy.get() as u64)])
-}
 
 /// The body that shows whether a copy is in stock.
 pub fn in_stock_text(alloc: Global, is_in: bool) -> Result<String, AllocError>

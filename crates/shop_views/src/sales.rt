@@ -1,8 +1,8 @@
 //! The rows of the two views of sales.
 
-ghost use Rattle.std.specs.Prelude.{◌≡◌, IfOk, string_bytes};
+ghost use Rattle.std.specs.Prelude.{◌≡◌, refl, IfOk, string_bytes};
 ghost use Rattle.serde_json.specs.View.{view};
-ghost use Rattle.shop_model.specs.Answers.{listed_store, listed_category};
+ghost use Rattle.shop_model.specs.Views.{listed_store, listed_category};
 ghost use Rattle.shop_views.specs.Sales.{manager_text, seen_store, seen_category, store_data, category_data};
 
 use crate::lists::ListedRow;
@@ -75,18 +75,10 @@ impl ListedRow for StoreRow {
         let manager = manager_name(alloc, &row.manager)?;
         store_object(alloc, store.as_str(), manager.as_str(), row.total)
     }
-}
 
-fn category_value(alloc: Global, row: &CategoryRow) -> Result<Value, AllocError>
-    ensures { IfOk result (λ v. view v ≡ category_data (seen_category row.now)) }
-{
-    object_of(
-        alloc,
-        &[
-            Field::Text("category", row.category.as_str()),
-            Field::Number("total", row.total),
-        ],
-    )
+    ghost as_written = { λ row. refl };
+
+    ghost no_float = { λ row. refl };
 }
 
 /// A row of `sales_by_film_category`, as an object.
@@ -96,6 +88,16 @@ impl ListedRow for CategoryRow {
     ghost written = { λ row. listed_category (seen_category row) };
 
     fn value(alloc: Global, row: &CategoryRow) -> Result<Value, AllocError> {
-        category_value(alloc, row)
+        object_of(
+            alloc,
+            &[
+                Field::Text("category", row.category.as_str()),
+                Field::Number("total", row.total),
+            ],
+        )
     }
+
+    ghost as_written = { λ row. refl };
+
+    ghost no_float = { λ row. refl };
 }

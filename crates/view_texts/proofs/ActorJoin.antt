@@ -1,5 +1,5 @@
--- What the actors' join shows of the books.
-use Rattle.shop_schema.proofs.Common.{◌≡◌, ◌==◌, ◌&&◌, ◌||◌, ◌+◌, ℕ, List, [], ◌∷◌, ◌++◌, map, filter, true, false, Bool, Some, None, refl, sym, ap, subst, ◌∙◌, arith, append-nil, IsPermutation, flat_map, list_all, list_any, AllByRecursion, and_comm, IsPermutation-sym, IsPermutation-trans, IsPermutation-map, length_permutation, and_parts, not-true, Null, or_null, column, Trees, end, Output, overlay, map-map, filter-map, filter_same, all-filter, all_weaker, all_from_test, ascending-map, ascending_weaker, IsPermutation-same, IsPermutation-flat_map, IsPermutation-flat_map_each, HasRows, columns_of, number_value, one_tested, number_tested, or_blank, shown_of, equals, left_bag, at, lacks, numbered, numbered_from, has_row, Actor, Film, Cast, Catalogue, is_cast, category_name, films_of, is_before_text, named_columns, actor_columns, film_columns, cast_columns}
+-- The actors' join: what its text means, and what it shows of the books.
+use Rattle.shop_schema.proofs.Common.{◌≡◌, ◌==◌, ◌&&◌, ◌||◌, ◌+◌, ℕ, List, [], ◌∷◌, ◌++◌, map, filter, true, false, Bool, Some, None, refl, sym, ap, subst, ◌∙◌, arith, append-nil, IsPermutation, flat_map, list_all, list_any, AllByRecursion, and_comm, IsPermutation-sym, IsPermutation-trans, IsPermutation-map, length_permutation, and_parts, not-true, Null, or_null, column, Trees, end, Output, overlay, map-map, filter-map, filter_same, all-filter, all_weaker, all_from_test, ascending-map, ascending_weaker, IsPermutation-same, IsPermutation-flat_map, IsPermutation-flat_map_each, HasRows, columns_of, number_value, one_tested, number_tested, or_blank, shown_of, equals, left_bag, at, lacks, numbered, numbered_from, has_row, Actor, Film, Cast, Catalogue, is_cast, category_name, films_of, is_before_text, named_columns, actor_columns, film_columns, cast_columns, ascending, Key, Binary, Term, col, Query, Join, inner, left, IsQuery, Selects, is_query, shop_schema, joined_query, are_equal}
 use Rattle.sqlite.specs.declared.types.Value.TheVariants.{Text}
 use Rattle.sqlite_value.specs.Order as sql
 use Rattle.shop_model.specs.Values as model
@@ -11,7 +11,38 @@ use Rattle.view_texts.proofs.Lefts.{by_known}
 use Rattle.view_texts.proofs.Casts.{casts_of, played_by, cast_bag, there_one, any_cast, differ_in, AreApart}
 use Rattle.view_texts.proofs.ByText.{sorted_bag}
 use Rattle.view_texts.proofs.Parted.{part, parted}
-use Rattle.view_texts.proofs.ActorQuery.{actors_query, with_category, with_film, with_cast}
+use Rattle.sqlite_tied.specs.Compute.{everything}
+use Rattle.sqlite.specs.Listing.{understood}
+use Rattle.view_texts.specs.declared.actors.TheConstants.{SELECT_ACTORS}
+
+-- ---- what its text means
+
+-- what is joined to a film, to a cast, and to an actor
+abbrev pub with_category : Join
+with_category = left 7 (are_equal (col 4 1) (col 3 5) ∷ []) end
+
+abbrev pub with_film : Join
+with_film = left 14 (are_equal (col 3 1) (col 2 1) ∷ []) with_category
+
+abbrev pub with_cast : Join
+with_cast = left 16 (are_equal (col 2 2) (col 1 1) ∷ []) with_film
+
+abbrev pub actor_shows : List Term
+actor_shows = col 1 1 ∷ col 1 2 ∷ col 1 3 ∷ col 4 1 ∷ col 4 2 ∷ col 3 2 ∷ []
+
+abbrev pub actor_order : List (Term × Key)
+actor_order = (col 1 1, ascending Binary) ∷ (col 4 2, ascending Binary) ∷ (col 4 1, ascending Binary) ∷ (col 3 2, ascending Binary) ∷ (col 3 1, ascending Binary) ∷ []
+
+abbrev pub actors_query : Query
+actors_query = joined_query (inner 12 with_cast) [] actor_shows actor_order
+
+pub actors_mean : Selects shop_schema SELECT_ACTORS.now actors_query
+unfolding understood everything
+actors_mean = record { names = _; is = refl; plain = (refl, refl); unlisted = refl }
+
+pub actors_ask : IsQuery SELECT_ACTORS.now
+unfolding everything
+actors_ask = is_query SELECT_ACTORS.now (record { parsed = _; is = refl; selects = refl; untimed = refl })
 
 abbrev pub actor_output : ActorLine → Output
 actor_output line = (

@@ -1,6 +1,6 @@
 -- A row of the actors' join, taken.
 use Rattle.shop_schema.proofs.Common.{◌≡◌, ◌==◌, ℕ, Bool, true, false, cond, List, [], ◌∷◌, ◌++◌, codes, map, Option, Some, None, option_map, refl, sym, ap, subst, ◌∙◌, join_by, map-append, column, number_value, same_number, ActorRow}
-use Rattle.shop_model.specs.Answers.{listed_actor}
+use Rattle.shop_model.specs.Views.{listed_actor}
 use Rattle.sqlite.specs.declared.types.Value.TheVariants.{Text}
 use Rattle.sqlite_value.specs.Order as sql
 use Rattle.shop_model.specs.Values as model

@@ -10,7 +10,7 @@ use Rattle.view_texts.specs.Actors.{FilmIn, ActorLine, shown_actor, films_by_cat
 use Rattle.view_texts.proofs.Orders.{less, equal}
 use Rattle.view_texts.proofs.Casts.{AreApart}
 use Rattle.view_texts.proofs.ByText.{by_text, Rises, sorted_up}
-use Rattle.view_texts.proofs.ActorQuery.{actors_query, actors_mean, actor_shows, actor_order, with_cast}
+use Rattle.view_texts.proofs.ActorJoin.{actors_query, actors_mean, actor_shows, actor_order, with_cast}
 use Rattle.view_texts.proofs.ActorJoin.{actor_output, films_there, actor_brings}
 use Rattle.view_texts.specs.declared.actors.TheConstants.{SELECT_ACTORS}
 

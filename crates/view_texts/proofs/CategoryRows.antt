@@ -1,13 +1,33 @@
--- The rows of the categories.
-use Rattle.shop_schema.proofs.Common.{◌≡◌, ℕ, List, [], ◌∷◌, map, refl, ◌∙◌, col, inner, end, Output, State, map-map, IsPermutation-same, answers, joined_rows, numbered, Text, Books, shop_schema, named_columns, IsShop, StandsFor}
+-- The rows of the categories: what their text means, and what it shows of the books.
+use Rattle.shop_schema.proofs.Common.{◌≡◌, ℕ, List, [], ◌∷◌, map, refl, ◌∙◌, col, inner, end, Output, State, map-map, IsPermutation-same, answers, joined_rows, numbered, Text, Books, shop_schema, named_columns, IsShop, StandsFor, ascending, Key, Binary, Term, Query, IsQuery, Selects, is_query, joined_query}
 use Rattle.std.proofs.lemmas.List.Concat.{flat_map_single}
 use Rattle.sqlite_value.specs.Order as sql
 use Rattle.sqlite.specs.State.{Shown}
 use Rattle.shop_schema.proofs.Lasts.{numbered_counted}
 use Rattle.view_texts.specs.CategorySums.{shown_category}
-use Rattle.view_texts.proofs.CategoryQuery.{categories_query, categories_mean, category_shows, category_order}
 use Rattle.view_texts.proofs.Orders.{counted_rise, numbered_output, climb_up}
 use Rattle.view_texts.specs.declared.categories.TheConstants.{SELECT_CATEGORIES}
+use Rattle.sqlite_tied.specs.Compute.{everything}
+use Rattle.sqlite.specs.Listing.{understood}
+
+-- ---- what its text means
+
+abbrev pub category_shows : List Term
+category_shows = col 1 1 ∷ col 1 2 ∷ []
+
+abbrev pub category_order : List (Term × Key)
+category_order = (col 1 1, ascending Binary) ∷ []
+
+abbrev pub categories_query : Query
+categories_query = joined_query (inner 7 end) [] category_shows category_order
+
+pub categories_mean : Selects shop_schema SELECT_CATEGORIES.now categories_query
+unfolding understood everything
+categories_mean = record { names = _; is = refl; plain = (refl, refl); unlisted = refl }
+
+pub categories_ask : IsQuery SELECT_CATEGORIES.now
+unfolding everything
+categories_ask = is_query SELECT_CATEGORIES.now (record { parsed = _; is = refl; selects = refl; untimed = refl })
 
 -- all categories, in the order of their numbers
 pub shows_categories : (old new : State) (rows : List sql.Row) (books : Books) → IsShop old → Shown SELECT_CATEGORIES.now [] old new rows → StandsFor old.now.trees books

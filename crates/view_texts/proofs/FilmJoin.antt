@@ -1,5 +1,5 @@
--- What the films' join shows of the books.
-use Rattle.shop_schema.proofs.Common.{◌≡◌, ◌==◌, ◌&&◌, ◌<◌, ◌+◌, ℕ, List, [], ◌∷◌, ◌++◌, map, true, false, Option, Some, None, refl, sym, ap, subst, ◌∙◌, arith, is_eq, is_lt, append-nil, inl, inr, IsPermutation, Equal, ◌⊎◌, flat_map, AllByRecursion, nat_cmp, ordering_then, IsPermutation-trans, IsPermutation-map, length_permutation, Value, Null, or_null, column, value_cmp, Trees, IsAscending, end, Output, output_cmp, State, overlay, map-map, filter_same, map-flat_map, IsPermutation-same, ascending-map, ascending_weaker, ascending-append, ascending-filter, all-filter, all-map, all-flat_map, all_weaker, HasRows, columns_of, number_value, answers, number_cmp, one_tested, number_tested, or_blank, shown_of, equals, left_bag, joined_rows, Climbs, at, lacks, numbered, numbered_from, Actor, Film, Cast, Catalogue, Books, is_cast, shop_schema, IsShop, StandsFor, named_columns, actor_columns, film_columns, cast_columns}
+-- The films' join: what its text means, and what it shows of the books.
+use Rattle.shop_schema.proofs.Common.{◌≡◌, ◌==◌, ◌&&◌, ◌<◌, ◌+◌, ℕ, List, [], ◌∷◌, ◌++◌, map, true, false, Option, Some, None, refl, sym, ap, subst, ◌∙◌, arith, is_eq, is_lt, append-nil, inl, inr, IsPermutation, Equal, ◌⊎◌, flat_map, AllByRecursion, nat_cmp, ordering_then, IsPermutation-trans, IsPermutation-map, length_permutation, Value, Null, or_null, column, value_cmp, Trees, IsAscending, end, Output, output_cmp, State, overlay, map-map, filter_same, map-flat_map, IsPermutation-same, ascending-map, ascending_weaker, ascending-append, ascending-filter, all-filter, all-map, all-flat_map, all_weaker, HasRows, columns_of, number_value, answers, number_cmp, one_tested, number_tested, or_blank, shown_of, equals, left_bag, joined_rows, Climbs, at, lacks, numbered, numbered_from, Actor, Film, Cast, Catalogue, Books, is_cast, shop_schema, IsShop, StandsFor, named_columns, actor_columns, film_columns, cast_columns, ascending, Key, Binary, Term, col, Query, Join, inner, left, IsQuery, Selects, is_query, joined_query, are_equal}
 use Rattle.sqlite.specs.declared.types.Value.TheVariants.{Text}
 use Rattle.sqlite_value.specs.Order as sql
 use Rattle.sqlite.specs.State.{Shown}
@@ -9,8 +9,38 @@ use Rattle.view_texts.proofs.Lefts.{by_known, by_number}
 use Rattle.view_texts.proofs.Orders.{less, greater, equal}
 use Rattle.shop_schema.proofs.Numbers.{left_null}
 use Rattle.view_texts.proofs.Casts.{casts_of, played_by, cast_bag, there_one, any_cast, differ_in, AreApart, AreThere}
-use Rattle.view_texts.proofs.FilmQuery.{films_query, films_mean, film_shows, film_order, with_actor, with_cast, with_category}
 use Rattle.view_texts.specs.declared.films.TheConstants.{SELECT_FILMS}
+use Rattle.sqlite_tied.specs.Compute.{everything}
+use Rattle.sqlite.specs.Listing.{understood}
+
+-- ---- what its text means
+
+-- what is joined to a cast, to a category, and to a film
+abbrev pub with_actor : Join
+with_actor = left 12 (are_equal (col 4 1) (col 3 2) ∷ []) end
+
+abbrev pub with_cast : Join
+with_cast = left 16 (are_equal (col 3 1) (col 1 1) ∷ []) with_actor
+
+abbrev pub with_category : Join
+with_category = left 7 (are_equal (col 2 1) (col 1 5) ∷ []) with_cast
+
+abbrev pub film_shows : List Term
+film_shows = col 1 1 ∷ col 1 2 ∷ col 1 3 ∷ col 2 2 ∷ col 1 7 ∷ col 1 9 ∷ col 1 10 ∷ col 4 2 ∷ col 4 3 ∷ []
+
+abbrev pub film_order : List (Term × Key)
+film_order = (col 1 1, ascending Binary) ∷ (col 3 2, ascending Binary) ∷ []
+
+abbrev pub films_query : Query
+films_query = joined_query (inner 14 with_category) [] film_shows film_order
+
+pub films_mean : Selects shop_schema SELECT_FILMS.now films_query
+unfolding understood everything
+films_mean = record { names = _; is = refl; plain = (refl, refl); unlisted = refl }
+
+pub films_ask : IsQuery SELECT_FILMS.now
+unfolding everything
+films_ask = is_query SELECT_FILMS.now (record { parsed = _; is = refl; selects = refl; untimed = refl })
 
 abbrev pub film_output : Catalogue → FilmLine → Output
 film_output catalogue line = (number_value line.0.0 ∷ or_null (λ (it : ℕ × Actor). number_value it.0) line.1 ∷ [], shown_film catalogue line)

@@ -1,6 +1,6 @@
 -- A row of the films' join, read and taken.
 use Rattle.shop_schema.proofs.Common.{◌≡◌, ◌==◌, ℕ, false, cond, List, [], ◌∷◌, ◌++◌, map, Option, Some, None, option_map, refl, sym, ap, subst, ◌∙◌, map-append, or_null, column, number_value, same_or_null, same_number, at, Catalogue, FilmRow, category_name, at_one, rating_text, Rating}
-use Rattle.shop_model.specs.Answers.{listed_film}
+use Rattle.shop_model.specs.Views.{listed_film}
 use Rattle.sqlite.specs.declared.types.Value.TheVariants.{Text}
 use Rattle.sqlite_value.specs.Order as sql
 use Rattle.shop_model.specs.Values as model

@@ -1,5 +1,6 @@
--- What the join of what is out shows of the books: each open rental of the branch, with its terms, its customer and the title of its film.
-use Rattle.shop_schema.proofs.Common.{◌≡◌, ◌≤◌, ◌==◌, ◌&&◌, ℕ, List, [], ◌∷◌, ◌++◌, map, filter, length, true, cond, refl, sym, ap, subst, ◌∙◌, arith, append-nil, append_assoc, is_none, AllByRecursion, flat_map, filter-append, IsPermutation-refl, Value, Null, or_null, column, Trees, col, inner, Output, overlay, State, map-map, all-filter, IsPermutation-same, HasRows, PicksOne, columns_of, number_value, answers, kept_as_map, or_blank, shown_of, equals, left_pair, joined_rows, Row, is_of, is_row, Film, Rental, Books, head, same_test, filter_filter, shop_schema, moment_value, customer_columns, rental_columns, terms_columns, out_columns, is_open, out_of, IsHeld, StandsFor, Holds, CopyRows, Customers, Rentals, TermRows}
+-- The join of what is out: what its text means, and what it shows of the books, which is each open rental of the branch, with its terms, its customer and the
+-- title of its film.
+use Rattle.shop_schema.proofs.Common.{◌≡◌, ◌≤◌, ◌==◌, ◌&&◌, ℕ, List, [], ◌∷◌, ◌++◌, map, filter, length, true, cond, refl, sym, ap, subst, ◌∙◌, arith, append-nil, append_assoc, is_none, AllByRecursion, flat_map, filter-append, IsPermutation-refl, Value, Null, or_null, column, Trees, col, inner, Output, overlay, State, map-map, all-filter, IsPermutation-same, HasRows, PicksOne, columns_of, number_value, answers, kept_as_map, or_blank, shown_of, equals, left_pair, joined_rows, Row, is_of, is_row, Customer, Film, Rental, Terms, Books, head, same_test, filter_filter, shop_schema, moment_value, customer_table, customer_columns, rental_columns, terms_columns, out_columns, is_open, out_of, IsHeld, StandsFor, Holds, CopyRows, Customers, Rentals, TermRows, ascending, Key, Binary, Term, Query, Join, left, end, IsQuery, Selects, is_query, joined_query, are_equal}
 use Rattle.std.specs.Prelude.{Bool}
 use Rattle.std.proofs.lemmas.List.{length-append}
 use Rattle.sqlite.specs.declared.types.Value.TheVariants.{Text}
@@ -7,32 +8,51 @@ use Rattle.sqlite.specs.State.{Shown}
 use Rattle.shop_schema.proofs.Lists.{picks_row}
 use Rattle.shop_ledger.proofs.Rising.{of_which, which_rise}
 use Rattle.shop_store.proofs.WithTerms.{rentals_climb}
+use Rattle.view_texts.proofs.Lefts.{by_pair}
 use Rattle.view_texts.proofs.CopyFilms.{copy_films, of_copy}
 use Rattle.view_texts.proofs.Orders.{kept_if}
-use Rattle.view_texts.proofs.OverdueQuery.{outs_query, outs_mean, out_tests, out_shows, out_order, with_copy, with_customer, with_terms, with_rental}
 use Rattle.view_texts.specs.declared.overdue.TheConstants.{SELECT_OUTS}
 use Rattle.sqlite_value.specs.Order as sql
+use Rattle.sqlite_tied.specs.Compute.{everything}
+use Rattle.sqlite.specs.Listing.{understood}
 
--- ---- one row at most
+-- ---- what its text means
 
--- its columns, NULLs where there is none
-pub first_or_blank : ℕ → List sql.Row → sql.Row
-first_or_blank width [] = columns_of width []
-first_or_blank width (r ∷ rows) = r
+-- what is joined to a copy, to a customer, to terms, to a rental, and to a copy that is out
+abbrev pub with_film : Join
+with_film = left 14 (are_equal (col 6 1) (col 5 3) ∷ []) end
 
-first_brings : {Y Z : Type 0} (width : ℕ) (columns : Y → sql.Row) (gives : sql.Row → List Z) (ys : List Y) → length ys ≤ 1
-    → flat_map gives (or_blank width (map columns ys)) ≡ gives (first_or_blank width (map columns ys))
-unfolding first_or_blank
-first_brings width columns gives [] few = append-nil _
-first_brings width columns gives (y ∷ []) few = append-nil _
-first_brings width columns gives (y ∷ z ∷ ys) few = absurd (omega (arith, few))
+abbrev pub with_copy : Join
+with_copy = left 25 (are_equal (col 5 1) (col 1 1) ∷ are_equal (col 5 2) (col 1 2) ∷ []) with_film
 
--- a column of it
-pub column_of : {A : Type 0} (width place : ℕ) (columns : Row A → sql.Row) (show : A → Value) → column (columns_of width []) place ≡ Null → ((row : Row A) → column (columns row) place ≡ show row.it)
-    → (rows : List (Row A)) → column (first_or_blank width (map columns rows)) place ≡ or_null show (head (map (λ (row : Row A). row.it) rows))
-unfolding first_or_blank
-column_of width place columns show blank is [] = blank
-column_of width place columns show blank is (row ∷ rows) = is row
+abbrev pub with_customer : Join
+with_customer = left 23 (are_equal (col 4 1) (col 1 1) ∷ are_equal (col 4 2) (col 2 5) ∷ []) with_copy
+
+abbrev pub with_terms : Join
+with_terms = left 57 (are_equal (col 3 1) (col 1 1) ∷ are_equal (col 3 2) (col 1 3) ∷ []) with_customer
+
+abbrev pub with_rental : Join
+with_rental = left 27 (are_equal (col 2 1) (col 1 1) ∷ are_equal (col 2 2) (col 1 3) ∷ []) with_terms
+
+abbrev pub out_tests : List Term
+out_tests = are_equal (col 1 1) (col 0 0) ∷ []
+
+abbrev pub out_shows : List Term
+out_shows = col 2 3 ∷ col 3 4 ∷ col 4 3 ∷ col 4 4 ∷ col 4 7 ∷ col 6 2 ∷ []
+
+abbrev pub out_order : List (Term × Key)
+out_order = (col 1 3, ascending Binary) ∷ []
+
+abbrev pub outs_query : Query
+outs_query = joined_query (inner 43 with_rental) out_tests out_shows out_order
+
+pub outs_mean : Selects shop_schema SELECT_OUTS.now outs_query
+unfolding understood everything
+outs_mean = record { names = _; is = refl; plain = (refl, refl); unlisted = refl }
+
+pub outs_ask : IsQuery SELECT_OUTS.now
+unfolding everything
+outs_ask = is_query SELECT_OUTS.now (record { parsed = _; is = refl; selects = refl; untimed = refl })
 
 -- ---- a row is alone under its branch and number
 
@@ -67,19 +87,27 @@ each_alike P f g alike (x ∷ xs) all = (λ i. alike x all.0 i ++ each_alike P f
 abbrev pub title_of : List Film → Value
 title_of films = or_null (λ (film : Film). Text film.title) (head films)
 
-abbrev pub terms_row : Books → Row Rental → sql.Row
-terms_row books x = first_or_blank 5 (map terms_columns (filter (is_row x.branch x.number) books.terms))
+abbrev pub terms_there : Books → Row Rental → List Terms
+terms_there books x = map (λ row. row.it) (filter (is_row x.branch x.number) books.terms)
 
-abbrev pub customer_row : Books → Row Rental → sql.Row
-customer_row books x = first_or_blank 10 (map customer_columns (filter (is_row x.branch x.it.customer) books.customers))
+abbrev pub renters : Books → Row Rental → List Customer
+renters books x = map (λ row. row.it) (filter (is_row x.branch x.it.customer) books.customers)
 
 abbrev pub rental_title : Books → Row Rental → Value
 rental_title books x = title_of (copy_films books (filter (is_row x.branch x.it.copy) books.copies))
 
--- what is shown of an open rental, by the rows of its branch
+-- what is shown of an open rental, with its period, its customer and the title
+abbrev pub shown_with : Row Rental → Value → List Customer → Value → sql.Row
+shown_with x period customers title =
+    moment_value x.it.rented ∷ period ∷ or_null (λ (c : Customer). Text c.person.first) (head customers) ∷ or_null (λ (c : Customer). Text c.person.last) (head customers)
+    ∷ or_null (λ (c : Customer). Text c.person.phone) (head customers) ∷ title ∷ []
+
+abbrev pub period_of : List Terms → Value
+period_of terms = or_null (λ (it : Terms). number_value it.period) (head terms)
+
+-- by the rows of its branch
 abbrev pub shown_open : Books → Row Rental → sql.Row
-shown_open books x =
-    moment_value x.it.rented ∷ column (terms_row books x) 3 ∷ column (customer_row books x) 2 ∷ column (customer_row books x) 3 ∷ column (customer_row books x) 6 ∷ rental_title books x ∷ []
+shown_open books x = shown_with x (period_of (terms_there books x)) (renters books x) (rental_title books x)
 
 module _ (b : ℕ) (books : Books) (held : IsHeld books) (db : Trees) (s : StandsFor db books) (x : Row Rental) where
   abbrev params : sql.Row
@@ -91,44 +119,40 @@ module _ (b : ℕ) (books : Books) (held : IsHeld books) (db : Trees) (s : Stand
   abbrev rental : sql.Row
   rental = Null ∷ rental_columns x
 
-  abbrev given : sql.Row → sql.Row → Value → List Output
-  given c3 c4 title = cond (x.branch == b) ((number_value x.number ∷ [], moment_value x.it.rented ∷ column c3 3 ∷ column c4 2 ∷ column c4 3 ∷ column c4 6 ∷ title ∷ []) ∷ []) []
+  abbrev if_mine : sql.Row → List Output
+  if_mine shown = cond (x.branch == b) ((number_value x.number ∷ [], shown) ∷ []) []
 
   -- ---- its copy, and the film of that
 
-  copy_brings : (c3 c4 : sql.Row) → shown_of outs_query (overlay db []) with_copy (params ∷ out ∷ rental ∷ (Null ∷ c3) ∷ (Null ∷ c4) ∷ []) ≡ given c3 c4 (rental_title books x)
+  abbrev shown_by : sql.Row → sql.Row → Value → sql.Row
+  shown_by c3 c4 title = moment_value x.it.rented ∷ column c3 3 ∷ column c4 2 ∷ column c4 3 ∷ column c4 6 ∷ title ∷ []
+
+  copy_brings : (c3 c4 : sql.Row) → shown_of outs_query (overlay db []) with_copy (params ∷ out ∷ rental ∷ (Null ∷ c3) ∷ (Null ∷ c4) ∷ []) ≡ if_mine (shown_by c3 c4 (rental_title books x))
   copy_brings c3 c4 =
       of_copy books db s 1 title_of refl (λ n film. refl)
-      (λ r6. cond (equals (number_value x.branch) (number_value b) && true) ((number_value x.number ∷ [], moment_value x.it.rented ∷ column c3 3 ∷ column c4 2 ∷ column c4 3 ∷ column c4 6 ∷ column r6 2 ∷ []) ∷ []) [])
-      (given c3 c4) (λ c. kept_if x.branch b _ _) (λ r. refl) x.branch (picks_row x.branch books.copies (held.numbers.rows CopyRows x.branch)) x.it.copy
+      (λ r6. cond (equals (number_value x.branch) (number_value b) && true) ((number_value x.number ∷ [], shown_by c3 c4 (column r6 2)) ∷ []) [])
+      (λ title. if_mine (shown_by c3 c4 title)) (λ c. kept_if x.branch b _ _) (λ r. refl) x.branch (picks_row x.branch books.copies (held.numbers.rows CopyRows x.branch)) x.it.copy
 
   -- ---- its customer, its terms, and the rental
 
-  customer_brings : (c3 : sql.Row) → shown_of outs_query (overlay db []) with_customer (params ∷ out ∷ rental ∷ (Null ∷ c3) ∷ []) ≡ given c3 (customer_row books x) (rental_title books x)
+  customer_brings : (c3 : sql.Row) → shown_of outs_query (overlay db []) with_customer (params ∷ out ∷ rental ∷ (Null ∷ c3) ∷ []) ≡ if_mine (shown_with x (column c3 3) (renters books x) (rental_title books x))
   customer_brings c3 =
-      let few = picks_row x.branch books.customers (held.numbers.rows Customers x.branch) x.it.customer in
-      left_pair 10 customer_columns (db 23) books.customers s.customers after (λ r. refl) (λ it. it.branch) (λ it. it.number) (λ it. refl) (λ it. refl) (λ r. refl) (λ r. refl) x.branch x.it.customer few
-      ∙ first_brings 10 customer_columns (λ c4. after (Null ∷ c4)) (filter (is_row x.branch x.it.customer) books.customers) few
-      ∙ copy_brings c3 (customer_row books x)
-    where
-      after : sql.Row → List Output
-      after r4 = shown_of outs_query (overlay db []) with_copy (params ∷ out ∷ rental ∷ (Null ∷ c3) ∷ r4 ∷ [])
+      by_pair (length customer_table.columns) customer_columns (db 23) books.customers s.customers (λ r4. shown_of outs_query (overlay db []) with_copy (params ∷ out ∷ rental ∷ (Null ∷ c3) ∷ r4 ∷ [])) (λ r. refl)
+      (λ row. refl) (λ row. refl) (λ r. refl) (λ r. refl) x.branch (picks_row x.branch books.customers (held.numbers.rows Customers x.branch))
+      (λ rows. if_mine (shown_with x (column c3 3) (map (λ (row : Row Customer). row.it) rows) (rental_title books x))) (copy_brings c3 (columns_of (length customer_table.columns) []))
+      (λ row. copy_brings c3 (customer_columns row)) x.it.customer
 
-  terms_bring : shown_of outs_query (overlay db []) with_terms (params ∷ out ∷ rental ∷ []) ≡ given (terms_row books x) (customer_row books x) (rental_title books x)
+  terms_bring : shown_of outs_query (overlay db []) with_terms (params ∷ out ∷ rental ∷ []) ≡ if_mine (shown_open books x)
   terms_bring =
-      let few = picks_row x.branch books.terms (held.numbers.rows TermRows x.branch) x.number in
-      left_pair 5 terms_columns (db 57) books.terms s.more.terms_are after (λ r. refl) (λ it. it.branch) (λ it. it.number) (λ it. refl) (λ it. refl) (λ r. refl) (λ r. refl) x.branch x.number few
-      ∙ first_brings 5 terms_columns (λ c3. after (Null ∷ c3)) (filter (is_row x.branch x.number) books.terms) few
-      ∙ customer_brings (terms_row books x)
-    where
-      after : sql.Row → List Output
-      after r3 = shown_of outs_query (overlay db []) with_customer (params ∷ out ∷ rental ∷ r3 ∷ [])
+      by_pair 5 terms_columns (db 57) books.terms s.more.rows.0 (λ r3. shown_of outs_query (overlay db []) with_customer (params ∷ out ∷ rental ∷ r3 ∷ [])) (λ r. refl) (λ row. refl) (λ row. refl) (λ r. refl)
+      (λ r. refl) x.branch (picks_row x.branch books.terms (held.numbers.rows TermRows x.branch))
+      (λ rows. if_mine (shown_with x (period_of (map (λ (row : Row Terms). row.it) rows)) (renters books x) (rental_title books x))) (customer_brings (columns_of 5 [])) (λ row. customer_brings (terms_columns row)) x.number
 
   abbrev brought : List Output
   brought = shown_of outs_query (overlay db []) with_rental (params ∷ out ∷ [])
 
   -- a rental of the books is its own row
-  rental_brings : filter (is_row x.branch x.number) books.rentals ≡ x ∷ [] → brought ≡ cond (x.branch == b) ((number_value x.number ∷ [], shown_open books x) ∷ []) []
+  rental_brings : filter (is_row x.branch x.number) books.rentals ≡ x ∷ [] → brought ≡ if_mine (shown_open books x)
   rental_brings alone =
       left_pair 7 rental_columns (db 27) books.rentals s.rentals after (λ r. refl) (λ it. it.branch) (λ it. it.number) (λ it. refl) (λ it. refl) (λ r. refl) (λ r. refl) x.branch x.number
       (picks_row x.branch books.rentals (held.numbers.rows Rentals x.branch) x.number)

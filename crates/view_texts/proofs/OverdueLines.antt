@@ -1,20 +1,20 @@
 -- The rows of the join of what is out by one branch's shop, what is read of them, and the list of those that are overdue.
-use Rattle.shop_schema.proofs.Common.{◌≡◌, ◌+◌, ℕ, List, [], ◌∷◌, ◌++◌, map, filter, codes, refl, sym, ap, ◌∙◌, append-nil, ◌⊎◌, is_none, nat_lt, zip, AllByRecursion, flat_map, Null, or_null, column, State, map-map, all-filter, number_value, same_number, Moment, IsMoment, Row, at, is_row, of, Customer, Film, Rental, Terms, Catalogue, Shop, Books, head, shop_of, termed, is_overdue, film_of, overdue_row, overdue_list, at_one, moment_value, customer_columns, terms_columns, IsRental, IsHeld, Holds, Customers, Rentals, TermRows}
+use Rattle.shop_schema.proofs.Common.{◌≡◌, ◌+◌, ℕ, List, [], ◌∷◌, ◌++◌, map, filter, codes, refl, sym, ap, ◌∙◌, append-nil, ◌⊎◌, is_none, nat_lt, zip, AllByRecursion, flat_map, Null, or_null, column, State, map-map, all-filter, number_value, same_number, Moment, IsMoment, Row, at, is_row, of, Customer, Film, Rental, Terms, Catalogue, Shop, Books, head, shop_of, termed, is_overdue, film_of, overdue_row, overdue_list, at_one, moment_value, IsRental, IsHeld, Holds, Customers, Rentals, TermRows}
 use Rattle.std.specs.Prelude.{Bool}
 use Rattle.sqlite.specs.declared.types.Value.TheVariants.{Text}
 use Rattle.sqlite.specs.State.{Shown}
 use Rattle.shop_model.specs.Calendar.{day_of}
-use Rattle.shop_model.specs.Answers.{overdue_text}
+use Rattle.shop_model.specs.Views.{overdue_text}
 use Rattle.shop_schema.proofs.Lists.{filter_twice}
 use Rattle.shop_schema.proofs.SameRows.{same_moment_value}
 use Rattle.shop_store.proofs.Ascending.{all_of}
 use Rattle.shop_store.proofs.WithTerms.{termed_rows}
 use Rattle.shop_views.specs.declared.overdue_rows.OverdueRow.{OverdueRow}
 use Rattle.shop_views.specs.Overdue.{seen_overdue}
-use Rattle.view_texts.specs.Overdue.{renter_of, shown_out, is_late, IsReal}
+use Rattle.view_texts.specs.Overdue.{shown_out, is_late, IsReal}
 use Rattle.view_texts.proofs.PaymentLines.{rows_at, films_are, one_film}
 use Rattle.view_texts.proofs.PersonLines.{same_words}
-use Rattle.view_texts.proofs.OverdueJoin.{column_of, title_of, terms_row, customer_row, rental_title, shown_open, shows_opens}
+use Rattle.view_texts.proofs.OverdueJoin.{title_of, terms_there, renters, rental_title, period_of, shown_with, shown_open, shows_opens}
 use Rattle.view_texts.proofs.Lefts.{one_at_most}
 use Rattle.view_texts.specs.declared.overdue.TheConstants.{SELECT_OUTS}
 use Rattle.sqlite_value.specs.Order as sql
@@ -29,25 +29,13 @@ module _ (b : ℕ) (books : Books) (held : IsHeld books) where
   -- a rental of the branch, with the terms under its number
   open_is : (x : Row Rental) (t : Terms) → x.branch ≡ b → at x.number (of b books.terms) ≡ t ∷ [] → shown_open books x ≡ shown_out books.catalogue own_shop (x.it, t)
   open_is x t own found =
-      let terms : map (λ (row : Row Terms). row.it) (filter (is_row x.branch x.number) books.terms) ≡ t ∷ [] =
+      let terms : terms_there books x ≡ t ∷ [] =
       ap (λ c. map (λ (row : Row Terms). row.it) (filter (is_row c x.number) books.terms)) own ∙ rows_at b x.number books.terms (held.numbers.rows TermRows b) ∙ found in
-      let customers : map (λ (row : Row Customer). row.it) (filter (is_row x.branch x.it.customer) books.customers) ≡ at x.it.customer own_shop.customers =
+      let customers : renters books x ≡ at x.it.customer own_shop.customers =
       ap (λ c. map (λ (row : Row Customer). row.it) (filter (is_row c x.it.customer) books.customers)) own ∙ rows_at b x.it.customer books.customers (held.numbers.rows Customers b) in
       let title : rental_title books x ≡ title_of (film_of books.catalogue own_shop x.it) =
       ap (λ c. rental_title books (record { branch = c; number = x.number; it = x.it })) own ∙ ap title_of (films_are books held.numbers b x.it) in
-      let period : column (terms_row books x) 3 ≡ number_value t.period =
-      column_of 5 3 terms_columns (λ (it : Terms). number_value it.period) refl (λ row. refl) (filter (is_row x.branch x.number) books.terms)
-      ∙ ap (λ l. or_null (λ (it : Terms). number_value it.period) (head l)) terms in
-      let first : column (customer_row books x) 2 ≡ or_null (λ (c : Customer). Text c.person.first) (renter_of own_shop x.it) =
-      column_of 10 2 customer_columns (λ (c : Customer). Text c.person.first) refl (λ row. refl) (filter (is_row x.branch x.it.customer) books.customers)
-      ∙ ap (λ l. or_null (λ (c : Customer). Text c.person.first) (head l)) customers in
-      let last : column (customer_row books x) 3 ≡ or_null (λ (c : Customer). Text c.person.last) (renter_of own_shop x.it) =
-      column_of 10 3 customer_columns (λ (c : Customer). Text c.person.last) refl (λ row. refl) (filter (is_row x.branch x.it.customer) books.customers)
-      ∙ ap (λ l. or_null (λ (c : Customer). Text c.person.last) (head l)) customers in
-      let phone : column (customer_row books x) 6 ≡ or_null (λ (c : Customer). Text c.person.phone) (renter_of own_shop x.it) =
-      column_of 10 6 customer_columns (λ (c : Customer). Text c.person.phone) refl (λ row. refl) (filter (is_row x.branch x.it.customer) books.customers)
-      ∙ ap (λ l. or_null (λ (c : Customer). Text c.person.phone) (head l)) customers in
-      (λ i. moment_value x.it.rented ∷ period i ∷ first i ∷ last i ∷ phone i ∷ title i ∷ [])
+      (λ i. shown_with x (period_of (terms i)) (customers i) (title i))
 
   -- the branch's open rentals, each with its terms
   abbrev pub opened : List (Rental × Terms)

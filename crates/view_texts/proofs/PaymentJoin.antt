@@ -1,14 +1,48 @@
--- What the payments' join shows of the books: each payment of the branch with its rental's number and the category of the rental's film.
-use Rattle.shop_schema.proofs.Common.{◌≡◌, ◌==◌, ◌&&◌, ℕ, List, [], ◌∷◌, map, filter, true, cond, refl, sym, ap, ◌∙◌, append-nil, option_to_list, flat_map, Value, Null, or_null, column, Trees, col, Output, overlay, State, columns_of, number_value, answers, shown_of, equals, Row, is_of, is_row, Film, Rental, Payment, Books, head, HasNumbers, shop_schema, rental_columns, payment_columns, IsShop, StandsFor, CopyRows, Payments, Rentals}
+-- The payments' join: what its text means, and what it shows of the books, which is each payment of the branch with its rental's number and the category of
+-- the rental's film.
+use Rattle.shop_schema.proofs.Common.{◌≡◌, ◌==◌, ◌&&◌, ℕ, List, [], ◌∷◌, map, filter, true, cond, refl, sym, ap, ◌∙◌, append-nil, option_to_list, flat_map, Value, Null, or_null, column, Trees, col, Output, overlay, State, columns_of, number_value, answers, shown_of, equals, Row, is_of, is_row, Film, Rental, Payment, Books, head, HasNumbers, shop_schema, rental_columns, payment_columns, IsShop, StandsFor, CopyRows, Payments, Rentals, ascending, Key, Binary, Term, Query, Join, inner, left, end, IsQuery, Selects, is_query, joined_query, are_equal}
 use Rattle.sqlite.specs.State.{Shown}
 use Rattle.shop_schema.proofs.Lists.{picks_row}
 use Rattle.view_texts.specs.Payments.{category_in}
 use Rattle.view_texts.proofs.Lefts.{by_pair_option}
 use Rattle.view_texts.proofs.CopyFilms.{copy_films, of_copy, of_no_copy}
 use Rattle.view_texts.proofs.Orders.{counted_rise, kept_if, shows_kept}
-use Rattle.view_texts.proofs.PaymentQuery.{payments_query, payments_mean, payment_tests, payment_shows, with_copy, with_rental}
 use Rattle.view_texts.specs.declared.stores.TheConstants.{SELECT_PAYMENTS}
 use Rattle.sqlite_value.specs.Order as sql
+use Rattle.sqlite_tied.specs.Compute.{everything}
+use Rattle.sqlite.specs.Listing.{understood}
+
+-- ---- what its text means
+
+-- what is joined to a copy, to a rental, and to a payment
+abbrev pub with_film : Join
+with_film = left 14 (are_equal (col 4 1) (col 3 3) ∷ []) end
+
+abbrev pub with_copy : Join
+with_copy = left 25 (are_equal (col 3 1) (col 1 1) ∷ are_equal (col 3 2) (col 2 4) ∷ []) with_film
+
+abbrev pub with_rental : Join
+with_rental = left 27 (are_equal (col 2 1) (col 1 1) ∷ are_equal (col 2 2) (col 1 5) ∷ []) with_copy
+
+abbrev pub payment_tests : List Term
+payment_tests = are_equal (col 1 1) (col 0 0) ∷ []
+
+abbrev pub payment_shows : List Term
+payment_shows = col 1 6 ∷ col 2 2 ∷ col 4 5 ∷ []
+
+abbrev pub payment_order : List (Term × Key)
+payment_order = (col 1 2, ascending Binary) ∷ []
+
+abbrev pub payments_query : Query
+payments_query = joined_query (inner 30 with_rental) payment_tests payment_shows payment_order
+
+pub payments_mean : Selects shop_schema SELECT_PAYMENTS.now payments_query
+unfolding understood everything
+payments_mean = record { names = _; is = refl; plain = (refl, refl); unlisted = refl }
+
+pub payments_ask : IsQuery SELECT_PAYMENTS.now
+unfolding everything
+payments_ask = is_query SELECT_PAYMENTS.now (record { parsed = _; is = refl; selects = refl; untimed = refl })
 
 -- by the rows of the payment's branch: its rental, and the films of some rentals
 abbrev pub rental_rows : Books → Row Payment → List (Row Rental)

@@ -1,11 +1,17 @@
 -- The names of a row's city and country, as they are joined.
-use Rattle.shop_schema.proofs.Common.{◌≡◌, ◌&&◌, ℕ, List, [], ◌∷◌, map, filter, true, refl, sym, ap, ◌∙◌, append-nil, flat_map, Value, Null, column, Trees, Query, Join, or_nulls, Output, overlay, flat_map_same_on, HasRows, columns_of, number_value, shown_of, equals, at, numbered, City, Catalogue, named_columns, city_columns}
+use Rattle.shop_schema.proofs.Common.{◌≡◌, ◌&&◌, ℕ, List, [], ◌∷◌, map, filter, true, refl, sym, ap, ◌∙◌, append-nil, flat_map, Value, Null, column, Trees, Query, Join, left, col, are_equal, or_nulls, Output, overlay, flat_map_same_on, HasRows, columns_of, number_value, shown_of, equals, at, numbered, City, Catalogue, named_columns, city_columns}
 use Rattle.sqlite.specs.declared.types.Value.TheVariants.{Text}
 use Rattle.sqlite_value.specs.Order as sql
 use Rattle.view_texts.specs.Shown.{name_or_null}
 use Rattle.shop_schema.proofs.Numbers.{left_null}
 use Rattle.view_texts.proofs.Lefts.{by_number}
-use Rattle.view_texts.proofs.PeopleQueries.{country_then, city_then}
+
+-- what is joined to a city, and to a row that has a city in this column
+abbrev pub country_then : Join → Join
+country_then more = left 1 (are_equal (col 3 1) (col 2 3) ∷ []) more
+
+abbrev pub city_then : ℕ → Join → Join
+city_then at more = left 10 (are_equal (col 2 1) (col 1 at) ∷ []) (country_then more)
 
 -- `its` is the row, with the city's number in the column `place`; `more` is joined behind; `out` is what the query shows with these two names
 module _ (place : ℕ) (more : Join) (q : Query) (catalogue : Catalogue) (db : Trees) (cities : HasRows 3 (db 10) (map city_columns (numbered catalogue.cities))) (countries : HasRows 2 (db 1) (map named_columns (numbered catalogue.countries)))

@@ -1,6 +1,6 @@
 -- Branches that are listed one after the other.
 use Rattle.shop_schema.proofs.Common.{◌≡◌, ◌==◌, ◌+◌, ◌-◌, ℕ, List, [], ◌∷◌, ◌++◌, map, true, false, Bool, not, length, cond, Option, Some, None, refl, sym, ap, subst, ◌∙◌, arith, append-nil, if◌then◌else◌, flat_map, nat_tests, map-append, at, is_empty, lacks, numbered, Text, Branch, Rental, Payment, Books, head, shop_of, StoreRow, paid_rentals, takings, found_none, found_some, numbered_push}
-use Rattle.shop_model.specs.Answers.{listed_store}
+use Rattle.shop_model.specs.Views.{listed_store}
 use Rattle.std.proofs.lemmas.List.{append_assoc}
 use Rattle.shop_schema.proofs.Lists.{flat_map_push}
 use Rattle.shop_views.specs.Page.{Page, HasTexts}

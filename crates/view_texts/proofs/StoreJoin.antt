@@ -1,5 +1,5 @@
--- What the join of a branch's row shows of the books.
-use Rattle.shop_schema.proofs.Common.{◌≡◌, ◌==◌, ℕ, List, [], ◌∷◌, map, cond, refl, ap, ◌∙◌, Value, Null, or_null, column, Trees, col, end, Output, overlay, State, columns_of, number_value, answers, shown_of, at, numbered, Branch, Staff, Books, head, shop_schema, branch_columns, staff_columns, IsShop, StandsFor}
+-- The join of a branch's row: what its text means, and what it shows of the books.
+use Rattle.shop_schema.proofs.Common.{◌≡◌, ◌==◌, ℕ, List, [], ◌∷◌, map, cond, refl, ap, ◌∙◌, Value, Null, or_null, column, Trees, col, end, Output, overlay, State, columns_of, number_value, answers, shown_of, at, numbered, Branch, Staff, Books, head, shop_schema, branch_columns, staff_columns, IsShop, StandsFor, ascending, Key, Binary, Term, Query, Join, inner, left, IsQuery, Selects, is_query, joined_query, are_equal}
 use Rattle.sqlite.specs.declared.types.Value.TheVariants.{Text}
 use Rattle.sqlite_value.specs.Order as sql
 use Rattle.sqlite.specs.State.{Shown}
@@ -7,9 +7,39 @@ use Rattle.view_texts.specs.Sales.{manager_of, shown_store}
 use Rattle.shop_schema.proofs.Numbers.{numbered_at}
 use Rattle.view_texts.proofs.Lefts.{by_option}
 use Rattle.view_texts.proofs.Orders.{numbered_up, kept_if, shows_kept}
-use Rattle.view_texts.proofs.PersonJoin.{person_brings}
-use Rattle.view_texts.proofs.StoreQuery.{store_query, store_means, store_tests, store_shows, with_manager, with_names}
+use Rattle.view_texts.proofs.PersonJoin.{city_then, person_brings}
 use Rattle.view_texts.specs.declared.stores.TheConstants.{SELECT_STORE}
+use Rattle.sqlite_tied.specs.Compute.{everything}
+use Rattle.sqlite.specs.Listing.{understood}
+
+-- ---- what its text means
+
+-- what is joined behind the country, and to a branch
+abbrev pub with_manager : Join
+with_manager = left 21 (are_equal (col 4 1) (col 1 7) ∷ []) end
+
+abbrev pub with_names : Join
+with_names = city_then 6 with_manager
+
+abbrev pub store_tests : List Term
+store_tests = are_equal (col 1 1) (col 0 0) ∷ []
+
+abbrev pub store_shows : List Term
+store_shows = col 1 1 ∷ col 2 2 ∷ col 3 2 ∷ col 4 3 ∷ col 4 4 ∷ []
+
+abbrev pub store_order : List (Term × Key)
+store_order = (col 1 1, ascending Binary) ∷ []
+
+abbrev pub store_query : Query
+store_query = joined_query (inner 18 with_names) store_tests store_shows store_order
+
+pub store_means : Selects shop_schema SELECT_STORE.now store_query
+unfolding understood everything
+store_means = record { names = _; is = refl; plain = (refl, refl); unlisted = refl }
+
+pub store_asks : IsQuery SELECT_STORE.now
+unfolding everything
+store_asks = is_query SELECT_STORE.now (record { parsed = _; is = refl; selects = refl; untimed = refl })
 
 -- ---- one branch
 

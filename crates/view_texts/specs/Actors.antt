@@ -9,8 +9,7 @@ use Rattle.shop_model.specs.Rows.{numbered}
 use Rattle.shop_model.specs.Values as model
 use Rattle.shop_model.specs.Values.{Actor, Film}
 use Rattle.shop_model.specs.Shop.{Catalogue}
-use Rattle.shop_model.specs.Views.{ActorRow, films_of, categories_by_name}
-use Rattle.shop_model.specs.Answers.{listed_actor}
+use Rattle.shop_model.specs.Views.{ActorRow, films_of, categories_by_name, listed_actor}
 use Rattle.shop_views.specs.Page.{HasTexts}
 use Rattle.shop_views.specs.declared.actors.FilmGroup.{FilmGroup}
 use Rattle.view_texts.specs.declared.actors.ActorPage.{ActorPage}

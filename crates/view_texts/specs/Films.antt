@@ -5,8 +5,7 @@ use Rattle.sqlite_value.specs.Order as sql
 use Rattle.shop_model.specs.Values as model
 use Rattle.shop_model.specs.Values.{Actor, Film}
 use Rattle.shop_model.specs.Shop.{Catalogue}
-use Rattle.shop_model.specs.Views.{FilmRow, full_name, category_name}
-use Rattle.shop_model.specs.Answers.{listed_film}
+use Rattle.shop_model.specs.Views.{FilmRow, full_name, category_name, listed_film}
 use Rattle.shop_views.specs.Names.{name_text}
 use Rattle.shop_views.specs.Films.{film_with}
 use Rattle.shop_views.specs.Page.{HasTexts}

@@ -10,7 +10,7 @@ use Rattle.shop_model.specs.Values.{Film, Customer, Rental, Terms}
 use Rattle.shop_model.specs.Shop.{Catalogue, Shop}
 use Rattle.shop_model.specs.Books.{head}
 use Rattle.shop_model.specs.Stock.{film_of}
-use Rattle.shop_schema.specs.Columns.{moment_value}
+use Rattle.shop_schema.specs.RowValues.{moment_value}
 
 -- ---- what the join shows
 

@@ -5,11 +5,10 @@ ghost use Rattle.std.specs.Prelude.{◌≡◌, List, [], ◌∷◌, ◌++◌, Op
 ghost use Rattle.sqlite.specs.Held.{state};
 ghost use Rattle.sqlite.specs.State.{HasCleanDisk};
 ghost use Rattle.sql_rows.specs.Calls.{StaysSame};
+ghost use Rattle.shop_model.specs.Json.{array};
 ghost use Rattle.shop_model.specs.Books.{Books};
-ghost use Rattle.shop_model.specs.Machine.{ActorsListed};
 ghost use Rattle.shop_model.specs.Values.{Text};
-ghost use Rattle.shop_model.specs.Answers.{listed_actor, shown_text};
-ghost use Rattle.shop_model.specs.Views.{ActorRow as ModelActor, actor_info};
+ghost use Rattle.shop_model.specs.Views.{ActorRow as ModelActor, actor_info, listed_actor};
 ghost use Rattle.shop_schema.specs.Shop.{Holds};
 ghost use Rattle.shop_schema.specs.Held.{IsHeld};
 ghost use Rattle.shop_views.specs.Films.{seen_actor};
@@ -19,7 +18,8 @@ ghost use Rattle.view_texts.specs.Actors.{ActorLine, shown_actor, told_film, tak
 use crate::people::person_name_at;
 use shop_schema::{row_number_at, text_at};
 use shop_values::{ActorNo, CategoryNo, T45, T128};
-use shop_views::{ActorRow, FilmGroup, ListPage, PersonName};
+use shop_views::actors::{ActorRow, FilmGroup};
+use shop_views::{ListPage, PersonName};
 use sql_rows::{StoreFault, TakesRows, each_row, number_or_null_at};
 use sqlite::{Alter, Connection, Row};
 use std::alloc::{AllocError, Global};
@@ -244,7 +244,7 @@ impl TakesRows for ActorPage {
 /// The text of the list with the last actor.
 fn finish(taker: ActorPage) -> Result<String, AllocError>
     ensures { IfOk result (λ s. (actors : List ModelActor) → HasTexts taker.page (map listed_actor actors)
-        → string_bytes s ≡ shown_text (ActorsListed (closed (actors, option_map seen_part taker.actor)))) }
+        → string_bytes s ≡ array (map listed_actor (closed (actors, option_map seen_part taker.actor)))) }
 {
     let ActorPage {
         mut page,
@@ -268,7 +268,7 @@ const SELECT_ACTORS: &str =
 pub fn actor_info<S: Alter>(alloc: Global, conn: &mut Connection<S>) -> Result<String, StoreFault>
     ensures text { HasCleanDisk (state S.Store conn.new)
         → IfOk result (λ s. (books : Books) → Holds (state S.Store conn.old) books → IsHeld books → string_bytes s
-        ≡ shown_text (ActorsListed (actor_info books.catalogue))) }
+        ≡ array (map listed_actor (actor_info books.catalogue))) }
     ensures same { StaysSame S.Store conn.old conn.new result }
 {
     let mut taker = ActorPage {

@@ -5,12 +5,11 @@ ghost use Rattle.std.specs.List.{insert};
 ghost use Rattle.sqlite.specs.Held.{state};
 ghost use Rattle.sqlite.specs.State.{HasCleanDisk};
 ghost use Rattle.sql_rows.specs.Calls.{StaysSame};
+ghost use Rattle.shop_model.specs.Json.{array};
 ghost use Rattle.shop_model.specs.Rows.{set_at};
 ghost use Rattle.shop_model.specs.Values.{Text};
 ghost use Rattle.shop_model.specs.Books.{Books, shop_of};
-ghost use Rattle.shop_model.specs.Machine.{CategoriesListed};
-ghost use Rattle.shop_model.specs.Answers.{shown_text};
-ghost use Rattle.shop_model.specs.Views.{sells_more, insert_by, sorted_by, sales_by_category};
+ghost use Rattle.shop_model.specs.Views.{listed_category, sells_more, insert_by, sorted_by, sales_by_category};
 ghost use Rattle.shop_schema.specs.Shop.{Holds};
 ghost use Rattle.shop_schema.specs.Held.{IsHeld};
 ghost use Rattle.shop_views.specs.Sales.{seen_category};
@@ -20,7 +19,8 @@ ghost use Rattle.view_texts.specs.CategorySums.{seen_sum, with_amount, summed, s
 use crate::stores::SELECT_PAYMENTS;
 use shop_schema::text_at;
 use shop_values::{BranchNo, T45};
-use shop_views::{CategoryRow, ListPage};
+use shop_views::ListPage;
+use shop_views::sales::CategoryRow;
 use sql_rows::{StoreFault, TakesRows, each_row, number_at, number_or_null_at};
 use sqlite::types::ToSql;
 use sqlite::{Alter, Connection, Row};
@@ -202,7 +202,7 @@ fn in_order(alloc: Global, mut sums: Vec<CategorySum>) -> Result<Vec<CategoryRow
 
 /// The text of the list of the rows.
 fn list_text(alloc: Global, rows: &[CategoryRow]) -> Result<String, AllocError>
-    ensures { IfOk result (λ s. string_bytes s ≡ shown_text (CategoriesListed (map seen_category rows.now))) }
+    ensures { IfOk result (λ s. string_bytes s ≡ array (map listed_category (map seen_category rows.now))) }
 {
     let mut page = ListPage::new(alloc);
     for row in rows {
@@ -214,7 +214,7 @@ fn list_text(alloc: Global, rows: &[CategoryRow]) -> Result<String, AllocError>
 /// The text of the list of the categories that have a sum, in their order.
 fn sums_text(alloc: Global, sums: Vec<CategorySum>) -> Result<String, AllocError>
     ensures { IfOk result (λ s. string_bytes s
-        ≡ shown_text (CategoriesListed (sorted_by sells_more (sold (map seen_sum sums.items))))) }
+        ≡ array (map listed_category (sorted_by sells_more (sold (map seen_sum sums.items))))) }
 {
     let rows = in_order(alloc, sums)?;
     list_text(alloc, rows.as_slice())
@@ -230,7 +230,7 @@ pub fn sales_by_film_category<S: Alter>(
 ) -> Result<String, StoreFault>
     ensures text { HasCleanDisk (state S.Store conn.new)
         → IfOk result (λ s. (books : Books) → Holds (state S.Store conn.old) books → IsHeld books → string_bytes s
-        ≡ shown_text (CategoriesListed (sales_by_category books.catalogue (shop_of branch books)))) }
+        ≡ array (map listed_category (sales_by_category books.catalogue (shop_of branch books)))) }
     ensures same { StaysSame S.Store conn.old conn.new result }
 {
     let sums = categories(alloc, conn)?;

@@ -1,16 +1,15 @@
 //! The list of a branch's customers.
 
-ghost use Rattle.std.specs.Prelude.{◌≡◌, List, ◌∷◌, [], IfOk, string_bytes};
+ghost use Rattle.std.specs.Prelude.{◌≡◌, List, ◌∷◌, [], map, IfOk, string_bytes};
 ghost use Rattle.sqlite.specs.Held.{state};
 ghost use Rattle.sqlite.specs.State.{HasCleanDisk};
 ghost use Rattle.sql_rows.specs.Calls.{StaysSame};
+ghost use Rattle.shop_model.specs.Json.{array};
 ghost use Rattle.shop_model.specs.Rows.{Row as ModelRow};
 ghost use Rattle.shop_model.specs.Values.{Customer};
 ghost use Rattle.shop_model.specs.Shop.{Catalogue};
 ghost use Rattle.shop_model.specs.Books.{Books, shop_of};
-ghost use Rattle.shop_model.specs.Machine.{CustomersListed};
-ghost use Rattle.shop_model.specs.Answers.{listed_customer as customer_text, shown_text};
-ghost use Rattle.shop_model.specs.Views.{customer_list};
+ghost use Rattle.shop_model.specs.Views.{customer_list, listed_customer as customer_text};
 ghost use Rattle.shop_schema.specs.Shop.{Holds};
 ghost use Rattle.shop_schema.specs.Held.{IsHeld};
 ghost use Rattle.view_texts.specs.Shown.{shown_customer, listed_customer};
@@ -19,7 +18,7 @@ use crate::pages::{ReadsRows, rows_text};
 use crate::people::person_at;
 use shop_schema::row_number_at;
 use shop_values::BranchNo;
-use shop_views::ListedCustomer;
+use shop_views::people::ListedCustomer;
 use sql_rows::{StoreFault, flag_at};
 use sqlite::types::ToSql;
 use sqlite::{Alter, Connection, Row};
@@ -58,7 +57,7 @@ pub fn customer_list<S: Alter>(
 ) -> Result<String, StoreFault>
     ensures text { HasCleanDisk (state S.Store conn.new)
         → IfOk result (λ s. (books : Books) → Holds (state S.Store conn.old) books → IsHeld books → string_bytes s
-        ≡ shown_text (CustomersListed (customer_list branch books.catalogue (shop_of branch books)))) }
+        ≡ array (map customer_text (customer_list branch books.catalogue (shop_of branch books)))) }
     ensures same { StaysSame S.Store conn.old conn.new result }
 {
     rows_text(

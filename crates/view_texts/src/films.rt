@@ -8,11 +8,10 @@ ghost use Rattle.sqlite.specs.Values.{or_null};
 ghost use Rattle.sqlite.specs.declared.types.Value.TheVariants.{Text as SqlText};
 ghost use Rattle.sqlite_value.specs.Order.{column};
 ghost use Rattle.sql_rows.specs.Rows.{number_value};
+ghost use Rattle.shop_model.specs.Json.{array};
 ghost use Rattle.shop_model.specs.Shop.{Catalogue};
 ghost use Rattle.shop_model.specs.Books.{Books};
-ghost use Rattle.shop_model.specs.Machine.{FilmsListed};
-ghost use Rattle.shop_model.specs.Answers.{listed_film, shown_text};
-ghost use Rattle.shop_model.specs.Views.{FilmRow as ModelFilm, film_list};
+ghost use Rattle.shop_model.specs.Views.{FilmRow as ModelFilm, film_list, listed_film};
 ghost use Rattle.shop_types.specs.Films.{rating_text};
 ghost use Rattle.shop_schema.specs.Shop.{Holds};
 ghost use Rattle.shop_schema.specs.Held.{IsHeld};
@@ -25,7 +24,8 @@ use crate::people::{name_at, person_name_or_null_at};
 use shop_schema::{row_number_at, text_at};
 use shop_types::{Minutes, Rating};
 use shop_values::Rate;
-use shop_views::{ListPage, ListedFilm};
+use shop_views::ListPage;
+use shop_views::films::ListedFilm;
 use sql_rows::{StoreFault, TakesRows, each_row, number_at, number_or_null_at, words_at};
 use sqlite::{Alter, Connection, Row};
 use std::alloc::{AllocError, Global};
@@ -143,7 +143,7 @@ impl TakesRows for FilmPage {
 /// The text of the list with the last film.
 fn finish(taker: FilmPage) -> Result<String, AllocError>
     ensures { IfOk result (λ s. (films : List ModelFilm) → HasTexts taker.page (map listed_film films)
-        → string_bytes s ≡ shown_text (FilmsListed (closed (films, option_map seen_part taker.film)))) }
+        → string_bytes s ≡ array (map listed_film (closed (films, option_map seen_part taker.film)))) }
 {
     let FilmPage { mut page, film, .. } = taker;
     match film {
@@ -163,7 +163,7 @@ const SELECT_FILMS: &str =
 pub fn film_list<S: Alter>(alloc: Global, conn: &mut Connection<S>) -> Result<String, StoreFault>
     ensures text { HasCleanDisk (state S.Store conn.new)
         → IfOk result (λ s. (books : Books) → Holds (state S.Store conn.old) books → IsHeld books → string_bytes s
-        ≡ shown_text (FilmsListed (film_list books.catalogue))) }
+        ≡ array (map listed_film (film_list books.catalogue))) }
     ensures same { StaysSame S.Store conn.old conn.new result }
 {
     let mut taker = FilmPage {

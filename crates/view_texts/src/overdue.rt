@@ -1,18 +1,17 @@
 //! The list of a branch's rentals that are overdue: of the rows of what is out, those whose periods ended on days
 //! before.
 
-ghost use Rattle.std.specs.Prelude.{◌≡◌, List, ◌∷◌, [], if◌then◌else◌, IfOk, string_bytes};
+ghost use Rattle.std.specs.Prelude.{◌≡◌, List, ◌∷◌, [], if◌then◌else◌, map, IfOk, string_bytes};
 ghost use Rattle.sqlite.specs.Held.{state};
 ghost use Rattle.sqlite.specs.State.{HasCleanDisk};
 ghost use Rattle.sqlite_value.specs.Order.{column};
 ghost use Rattle.sql_rows.specs.Rows.{number_value};
 ghost use Rattle.sql_rows.specs.Calls.{StaysSame};
+ghost use Rattle.shop_model.specs.Json.{array};
 ghost use Rattle.shop_model.specs.Values.{Rental, Terms};
 ghost use Rattle.shop_model.specs.Shop.{Catalogue, Shop};
 ghost use Rattle.shop_model.specs.Books.{Books, shop_of};
-ghost use Rattle.shop_model.specs.Machine.{OverdueAre};
-ghost use Rattle.shop_model.specs.Answers.{overdue_text, shown_text};
-ghost use Rattle.shop_model.specs.Views.{overdue_row, overdue_list};
+ghost use Rattle.shop_model.specs.Views.{overdue_row, overdue_list, overdue_text};
 ghost use Rattle.shop_schema.specs.Shop.{Holds};
 ghost use Rattle.shop_schema.specs.Held.{IsHeld};
 ghost use Rattle.shop_views.specs.Overdue.{seen_overdue};
@@ -22,7 +21,7 @@ use crate::pages::{ReadsRows, rows_text};
 use balance_rule::is_overdue;
 use shop_schema::{moment_at, text_at};
 use shop_types::{BranchNo, Moment};
-use shop_views::OverdueRow;
+use shop_views::overdue_rows::OverdueRow;
 use sql_rows::{StoreFault, number_at};
 use sqlite::types::ToSql;
 use sqlite::{Alter, Connection, Row};
@@ -98,7 +97,7 @@ pub fn overdue_list<S: Alter>(
 ) -> Result<String, StoreFault>
     ensures text { HasCleanDisk (state S.Store conn.new)
         → IfOk result (λ s. (books : Books) → Holds (state S.Store conn.old) books → IsHeld books → string_bytes s
-        ≡ shown_text (OverdueAre (overdue_list books.catalogue (shop_of branch books) at))) }
+        ≡ array (map overdue_text (overdue_list books.catalogue (shop_of branch books) at))) }
     ensures same { StaysSame S.Store conn.old conn.new result }
 {
     rows_text(

@@ -1,15 +1,14 @@
 //! The list of a branch's staff.
 
-ghost use Rattle.std.specs.Prelude.{◌≡◌, ℕ, List, ◌∷◌, [], IfOk, string_bytes};
+ghost use Rattle.std.specs.Prelude.{◌≡◌, ℕ, List, ◌∷◌, [], map, IfOk, string_bytes};
 ghost use Rattle.sqlite.specs.Held.{state};
 ghost use Rattle.sqlite.specs.State.{HasCleanDisk};
 ghost use Rattle.sql_rows.specs.Calls.{StaysSame};
+ghost use Rattle.shop_model.specs.Json.{array};
 ghost use Rattle.shop_model.specs.Values.{Staff};
 ghost use Rattle.shop_model.specs.Shop.{Catalogue};
 ghost use Rattle.shop_model.specs.Books.{Books};
-ghost use Rattle.shop_model.specs.Machine.{StaffListed};
-ghost use Rattle.shop_model.specs.Answers.{person_text, shown_text};
-ghost use Rattle.shop_model.specs.Views.{staff_list};
+ghost use Rattle.shop_model.specs.Views.{staff_list, person_text};
 ghost use Rattle.shop_schema.specs.Shop.{Holds};
 ghost use Rattle.view_texts.specs.Shown.{shown_staff, listed_staff};
 
@@ -17,7 +16,7 @@ use crate::pages::{ReadsRows, rows_text};
 use crate::people::person_at;
 use shop_schema::row_number_at;
 use shop_values::BranchNo;
-use shop_views::ListedStaff;
+use shop_views::people::ListedStaff;
 use sql_rows::StoreFault;
 use sqlite::types::ToSql;
 use sqlite::{Alter, Connection, Row};
@@ -54,8 +53,8 @@ pub fn staff_list<S: Alter>(
     branch: BranchNo,
 ) -> Result<String, StoreFault>
     ensures text { HasCleanDisk (state S.Store conn.new)
-        → IfOk result (λ s. (books : Books) → Holds (state S.Store conn.old) books → string_bytes s ≡ shown_text
-        (StaffListed (staff_list branch books.catalogue))) }
+        → IfOk result (λ s. (books : Books) → Holds (state S.Store conn.old) books → string_bytes s
+        ≡ array (map (person_text []) (staff_list branch books.catalogue))) }
     ensures same { StaysSame S.Store conn.old conn.new result }
 {
     rows_text(

@@ -4,13 +4,12 @@ ghost use Rattle.std.specs.Prelude.{◌≡◌, ℕ, List, [], ◌∷◌, ◌++�
 ghost use Rattle.sqlite.specs.Held.{state};
 ghost use Rattle.sqlite.specs.State.{HasCleanDisk};
 ghost use Rattle.sql_rows.specs.Calls.{StaysSame};
+ghost use Rattle.shop_model.specs.Json.{array};
 ghost use Rattle.shop_model.specs.Rows.{at, lacks, numbered};
 ghost use Rattle.shop_model.specs.Values.{Text, Branch};
 ghost use Rattle.shop_model.specs.Shop.{Catalogue};
 ghost use Rattle.shop_model.specs.Books.{Books, head, shop_of};
-ghost use Rattle.shop_model.specs.Machine.{StoresListed};
-ghost use Rattle.shop_model.specs.Answers.{listed_store, shown_text};
-ghost use Rattle.shop_model.specs.Views.{sales_by_store};
+ghost use Rattle.shop_model.specs.Views.{sales_by_store, listed_store};
 ghost use Rattle.shop_schema.specs.Shop.{Holds};
 ghost use Rattle.shop_schema.specs.Held.{IsHeld};
 ghost use Rattle.shop_views.specs.Page.{HasTexts};
@@ -20,7 +19,8 @@ ghost use Rattle.view_texts.specs.Sales.{sum_of, HasSold, shown_store, store_wit
 
 use crate::people::{city_at, person_name_or_null_at};
 use shop_values::BranchNo;
-use shop_views::{ListPage, StoreRow};
+use shop_views::ListPage;
+use shop_views::sales::StoreRow;
 use sql_rows::{StoreFault, TakesRows, each_row, number_at, number_or_null_at};
 use sqlite::types::ToSql;
 use sqlite::{Alter, Connection, Row};
@@ -178,7 +178,7 @@ pub fn sales_by_store<S: Alter>(
 ) -> Result<String, StoreFault>
     ensures text { HasCleanDisk (state S.Store conn.new)
         → IfOk result (λ s. (books : Books) → Holds (state S.Store conn.old) books → IsHeld books → string_bytes s
-        ≡ shown_text (StoresListed (sales_by_store branch books.catalogue (shop_of branch books)))) }
+        ≡ array (map listed_store (sales_by_store branch books.catalogue (shop_of branch books)))) }
     ensures same { StaysSame S.Store conn.old conn.new result }
 {
     let mut page = ListPage::new(alloc);
@@ -213,7 +213,7 @@ fn add_branches<S: Alter>(
 pub fn sales<S: Alter>(alloc: Global, conn: &mut Connection<S>) -> Result<String, StoreFault>
     ensures text { HasCleanDisk (state S.Store conn.new)
         → IfOk result (λ s. (books : Books) → Holds (state S.Store conn.old) books → IsHeld books → string_bytes s
-        ≡ shown_text (StoresListed
+        ≡ array (map listed_store
         (flat_map (λ (it : ℕ × Branch). sales_by_store it.0 books.catalogue (shop_of it.0 books))
         (numbered books.catalogue.branches)))) }
     ensures same { StaysSame S.Store conn.old conn.new result }

@@ -3,6 +3,7 @@ use Rattle.serde_json.specs.View.{view}
 use Rattle.serde_json.proofs.Views.{view-Array}
 use Rattle.shop_views.specs.Lists.{list_of, IsWritten}
 use Rattle.shop_views.proofs.PageLemmas.{AreWritten, one_more, all_written}
+use Rattle.shop_views.proofs.RowTexts.{is_written}
 use Rattle.shop_views.proofs.lists.list_value.Goals as goal
 
 pub loop-row-init : goal.loop-row-init
@@ -17,11 +18,12 @@ push_reserved-requires g c = omega (arith, c.loop-row.invariant.0, c.loop-row.in
 
 pub loop-row-preserved : goal.loop-row-preserved
 loop-row-preserved g c =
-    let inv = c.loop-row.invariant in (
+    let inv = c.loop-row.invariant in
+    let row = c.row-item.result in (
       omega (arith, c.push_reserved.ensures.len, inv.0),
       omega (arith, c.push_reserved.ensures.capacity, inv.1),
       one_more g.R.ListedRow.json g.R.ListedRow.written c.args.rows.now c.loop-row.row-index c.row-item.result _ _ _ c.loop-row-test.true c.row-item.is c.push_reserved.ensures.items
-          c.in_ok-value.ensures inv.2,
+          (is_written _ _ _ c.in_ok-value.ensures (g.met.R.ListedRow.as_written row) (g.met.R.ListedRow.no_float row)) inv.2,
     )
 
 pub returns : goal.returns

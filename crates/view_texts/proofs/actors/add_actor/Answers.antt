@@ -1,5 +1,5 @@
 use Rattle.shop_schema.proofs.Common.{◌++◌, ◌∷◌, [], subst, on_ok_then}
-use Rattle.shop_model.specs.Answers.{listed_actor}
+use Rattle.shop_model.specs.Views.{listed_actor}
 use Rattle.shop_views.specs.Page.{HasTexts}
 use Rattle.view_texts.proofs.actors.add_actor.Goals as goal
 

@@ -1,5 +1,5 @@
 use Rattle.shop_schema.proofs.Common.{map, option_map, IfOk-weaker}
-use Rattle.shop_model.specs.Answers.{listed_actor}
+use Rattle.shop_model.specs.Views.{listed_actor}
 use Rattle.view_texts.specs.Actors.{seen_part, closed}
 use Rattle.view_texts.proofs.ActorLines.{last_actor, no_last_actor}
 use Rattle.view_texts.proofs.actors.finish.Goals as goal

@@ -1,5 +1,5 @@
 use Rattle.shop_model.specs.Rows.{numbered}
-use Rattle.view_texts.proofs.CategoryQuery.{categories_ask}
+use Rattle.view_texts.proofs.CategoryRows.{categories_ask}
 use Rattle.view_texts.proofs.CategoryRows.{shows_categories}
 use Rattle.view_texts.proofs.CategoryLines.{names_none}
 use Rattle.view_texts.proofs.categories.categories.Goals as goal

@@ -1,5 +1,5 @@
 use Rattle.shop_schema.proofs.Common.{map, take}
-use Rattle.shop_model.specs.Answers.{listed_category}
+use Rattle.shop_model.specs.Views.{listed_category}
 use Rattle.shop_views.specs.Page.{HasTexts}
 use Rattle.shop_views.specs.Sales.{seen_category}
 use Rattle.view_texts.proofs.categories.list_text.Given as goal

@@ -1,4 +1,5 @@
-use Rattle.shop_schema.proofs.Common.{◌∙◌, ap, state, same_as, same_err, same_then, was_clean, CategoriesListed, shown_text, sells_more, sorted_by}
+use Rattle.shop_schema.proofs.Common.{◌∙◌, ap, state, same_as, same_err, same_then, was_clean, map, array, sells_more, sorted_by}
+use Rattle.shop_model.specs.Views.{listed_category}
 use Rattle.view_texts.specs.CategorySums.{sold}
 use Rattle.view_texts.proofs.CategorySales.{all_sold}
 use Rattle.view_texts.proofs.Unchanged.{holds_still}
@@ -10,7 +11,7 @@ returns-clause-text g c clean books holds held =
     let still = holds_still (state g.S.Store c.args.conn.now) (state g.S.Store c.categories.new.conn) books (c.in_ok-sums.ensures.same.same early) holds in
     let names = c.in_ok-sums.ensures.sums early books holds in
     let sums = c.in_ok-sums-2.ensures.sums clean books still held books.catalogue.categories names in
-    c.in_ok-sums_text.ensures ∙ ap (λ rows. shown_text (CategoriesListed rows)) (ap (λ l. sorted_by sells_more (sold l)) sums ∙ all_sold c.args.branch books)
+    c.in_ok-sums_text.ensures ∙ ap (λ rows. array (map listed_category rows)) (ap (λ l. sorted_by sells_more (sold l)) sums ∙ all_sold c.args.branch books)
 
 pub returns-in_err-sums-2-clause-same : goal.returns-in_err-sums-2-clause-same
 returns-in_err-sums-2-clause-same g c = same_err (same_then c.in_ok-sums.ensures.same c.with_sales.ensures.same) c.from_residual-in_err-sums-2.ensures.0

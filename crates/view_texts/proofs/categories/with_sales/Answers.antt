@@ -1,7 +1,7 @@
 use Rattle.std.proofs.Common.{map}
 use Rattle.view_texts.specs.Payments.{paid_lines}
 use Rattle.view_texts.specs.CategorySums.{seen_sum}
-use Rattle.view_texts.proofs.PaymentQuery.{payments_ask}
+use Rattle.view_texts.proofs.PaymentJoin.{payments_ask}
 use Rattle.view_texts.proofs.PaymentLines.{shows_lines}
 use Rattle.view_texts.proofs.CategoryLines.{sums_none}
 use Rattle.view_texts.proofs.categories.with_sales.Goals as goal

@@ -1,8 +1,8 @@
 use Rattle.shop_schema.proofs.Common.{refl, ◌∙◌, sym, ap, filter, map, map-map, is_of, Customers, array, IfOk-weaker}
-use Rattle.shop_model.specs.Answers.{listed_customer as customer_text}
+use Rattle.shop_model.specs.Views.{listed_customer as customer_text}
 use Rattle.view_texts.specs.Shown.{shown_customer, listed_customer}
 use Rattle.view_texts.proofs.PageLines.{each_listed}
-use Rattle.view_texts.proofs.PeopleQueries.{customers_ask}
+use Rattle.view_texts.proofs.PeopleJoins.{customers_ask}
 use Rattle.view_texts.proofs.PeopleJoins.{shows_customers}
 use Rattle.view_texts.proofs.PersonLines.{customers_are}
 use Rattle.view_texts.proofs.customers.customer_list.Goals as goal

@@ -1,5 +1,5 @@
 use Rattle.shop_schema.proofs.Common.{map, option_map, IfOk-weaker}
-use Rattle.shop_model.specs.Answers.{listed_film}
+use Rattle.shop_model.specs.Views.{listed_film}
 use Rattle.view_texts.specs.Films.{seen_part, closed}
 use Rattle.view_texts.proofs.FilmLines.{last_film, no_last_film}
 use Rattle.view_texts.proofs.films.finish.Goals as goal

@@ -1,8 +1,8 @@
 use Rattle.shop_schema.proofs.Common.{◌∙◌, refl, ap, array, IfOk-weaker, shop_of, Rental, Terms, overdue_row}
-use Rattle.shop_model.specs.Answers.{overdue_text}
+use Rattle.shop_model.specs.Views.{overdue_text}
 use Rattle.view_texts.specs.Overdue.{shown_out, is_late, IsReal}
 use Rattle.view_texts.proofs.PageLines.{passing_listed}
-use Rattle.view_texts.proofs.OverdueQuery.{outs_ask}
+use Rattle.view_texts.proofs.OverdueJoin.{outs_ask}
 use Rattle.view_texts.proofs.OverdueLines.{opened, shows_outs, all_real, overdue_are}
 use Rattle.view_texts.proofs.overdue.overdue_list.Goals as goal
 

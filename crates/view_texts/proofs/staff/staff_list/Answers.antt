@@ -1,8 +1,8 @@
 use Rattle.shop_schema.proofs.Common.{◌==◌, ◌∙◌, [], ℕ, refl, sym, ap, filter, map-map, array, numbered, Staff, IfOk-weaker}
-use Rattle.shop_model.specs.Answers.{person_text}
+use Rattle.shop_model.specs.Views.{person_text}
 use Rattle.view_texts.specs.Shown.{shown_staff, listed_staff}
 use Rattle.view_texts.proofs.PageLines.{each_listed}
-use Rattle.view_texts.proofs.PeopleQueries.{staff_ask}
+use Rattle.view_texts.proofs.PeopleJoins.{staff_ask}
 use Rattle.view_texts.proofs.PeopleJoins.{shows_staff}
 use Rattle.view_texts.proofs.staff.staff_list.Goals as goal
 

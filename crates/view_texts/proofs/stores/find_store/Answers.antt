@@ -1,5 +1,5 @@
 use Rattle.view_texts.specs.Sales.{store_with}
-use Rattle.view_texts.proofs.StoreQuery.{store_asks}
+use Rattle.view_texts.proofs.StoreJoin.{store_asks}
 use Rattle.view_texts.proofs.StoreJoin.{shows_store}
 use Rattle.view_texts.proofs.SalesLines.{found_is, not_found}
 use Rattle.view_texts.proofs.stores.find_store.Goals as goal

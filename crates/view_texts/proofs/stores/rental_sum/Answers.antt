@@ -1,6 +1,6 @@
 use Rattle.std.proofs.Common.{◌∙◌}
 use Rattle.view_texts.specs.Payments.{paid_lines}
-use Rattle.view_texts.proofs.PaymentQuery.{payments_ask}
+use Rattle.view_texts.proofs.PaymentJoin.{payments_ask}
 use Rattle.view_texts.proofs.PaymentLines.{shows_lines}
 use Rattle.view_texts.proofs.SalesLines.{sold_none, sum_is}
 use Rattle.view_texts.proofs.stores.rental_sum.Goals as goal

@@ -1,5 +1,5 @@
 use Rattle.shop_schema.proofs.Common.{[], map}
-use Rattle.shop_model.specs.Answers.{listed_store}
+use Rattle.shop_model.specs.Views.{listed_store}
 use Rattle.view_texts.specs.Sales.{sales_of_branch}
 use Rattle.view_texts.proofs.stores.sales_by_store.Goals as goal
 

@@ -1,5 +1,5 @@
 use Rattle.shop_schema.proofs.Common.{◌∷◌, [], sym, ap, ◌∙◌, column, flag_value, same_flag, same_number}
-use Rattle.shop_model.specs.Answers.{listed_customer}
+use Rattle.shop_model.specs.Views.{listed_customer}
 use Rattle.view_texts.proofs.PersonLines.{numbered_person}
 use Rattle.view_texts.proofs.customers.CustomersOfReadsRows.read.Goals as goal
 

@@ -1,6 +1,5 @@
 use Rattle.shop_schema.proofs.Common.{◌∷◌, [], Bool, if◌then◌else◌, ap, sym, ◌∙◌, overdue_row}
-use Rattle.shop_model.specs.Views.{OverdueRow}
-use Rattle.shop_model.specs.Answers.{overdue_text}
+use Rattle.shop_model.specs.Views.{OverdueRow, overdue_text}
 use Rattle.view_texts.proofs.overdue.OverdueAtReadsRows.read.Goals as goal
 
 pub returns-then-not-late : goal.returns-then-not-late

@@ -1,5 +1,5 @@
 use Rattle.shop_schema.proofs.Common.{◌∷◌, [], sym, ap, ◌∙◌, column, same_number, PersonRow}
-use Rattle.shop_model.specs.Answers.{person_text}
+use Rattle.shop_model.specs.Views.{person_text}
 use Rattle.view_texts.proofs.PersonLines.{numbered_person}
 use Rattle.view_texts.proofs.staff.StaffOfReadsRows.read.Goals as goal
 
