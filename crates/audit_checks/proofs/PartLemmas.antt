@@ -1,31 +1,25 @@
 -- One branch after another: what each has is what the tables have of it.
-use Rattle.shop_types.proofs.Common.{◌≡◌, ◌&&◌, ◌+◌, ◌<◌, ◌≤◌, ◌==◌, ℕ, suc, List, [], ◌∷◌, map, filter, length, Bool, true, refl, sym, ap, subst, ◌∙◌, arith, get_or, drop, drop-cons, add-one, AllByRecursion, list_all, nat_tests}
+use Rattle.shop_types.proofs.Common.{◌≡◌, ◌&&◌, ◌+◌, ◌<◌, ◌≤◌, ◌==◌, ℕ, suc, List, [], ◌∷◌, map, filter, length, Bool, true, refl, sym, ap, subst, ◌∙◌, arith, get_or, drop, drop-cons, add-one, AllByRecursion, list_all, nat_tests, Table}
 use Rattle.sqlite_trees.specs.Tree.{IsAscending}
 use Rattle.audit_rows.specs.declared.books.OrderedBooks.{OrderedBooks}
 use Rattle.audit_checks.specs.declared.branches.Rest.{Rest}
 use Rattle.audit_rows.specs.declared.rows.CheckedBranch.{CheckedBranch}
-use Rattle.audit_rows.specs.declared.rows.CheckedCustomer.{CheckedCustomer}
-use Rattle.audit_rows.specs.declared.rows.CheckedCopy.{CheckedCopy}
-use Rattle.audit_rows.specs.declared.rows.CheckedRental.{CheckedRental}
-use Rattle.audit_rows.specs.declared.rows.CheckedTerms.{CheckedTerms}
-use Rattle.audit_rows.specs.declared.rows.CheckedPayment.{CheckedPayment}
 use Rattle.audit_rows.specs.declared.rows.CheckedLot.{CheckedLot}
 use Rattle.audit_rows.specs.declared.rows.CheckedKept.{CheckedKept}
 use Rattle.audit_rows.specs.declared.rows.CheckedHeader.{CheckedHeader}
 use Rattle.audit_rows.specs.Lists.{Key, is_below, climbs, front_of, back_of}
 use Rattle.audit_rows.specs.Shops.{is_among}
+use Rattle.audit_rows.specs.Tables.{CheckedOf, checked_key, checked_rows, lent_rows, OfEach, each}
 use Rattle.audit_checks.specs.Parts.{PartRows, branch_rows, front_rows, AreBehind, is_good_part, are_good_from, is_owned, are_rows_owned, are_others_owned, are_consignments_owned}
 use Rattle.audit_rows.specs.Ordered.{AreOrdered}
 use Rattle.audit_rows.proofs.Keys.{both}
+use Rattle.audit_rows.proofs.Tests.{all_parts}
+use Rattle.audit_rows.proofs.OrderedLemmas.{each_passes}
 use Rattle.audit_rows.proofs.Canon.{ascending_from_climbs}
 use Rattle.audit_rows.proofs.GroupLemmas.{IsRest, OwnersRise, FromOn, rest_begins, rest_own, rest_step}
 
 pub record AreRests (books : OrderedBooks) (rest : Rest) (b : ℕ) : Type 0 where
-  pub customers : IsRest (λ (row : CheckedCustomer). row.branch) books.customers.items rest.customers.now b
-  pub copies : IsRest (λ (row : CheckedCopy). row.branch) books.copies.items rest.copies.now b
-  pub rentals : IsRest (λ (row : CheckedRental). row.branch) books.rentals.items rest.rentals.now b
-  pub terms : IsRest (λ (row : CheckedTerms). row.branch) books.terms.items rest.terms.now b
-  pub payments : IsRest (λ (row : CheckedPayment). row.branch) books.payments.items rest.payments.now b
+  pub rows : (t : Table) → IsRest (λ (row : CheckedOf t). row.branch) (checked_rows books t) (lent_rows rest.rows t) b
   pub lots : IsRest (λ (row : CheckedLot). row.branch) books.lots.items rest.lots.now b
   pub kept : IsRest (λ (row : CheckedKept). row.branch) books.kept.items rest.kept.now b
   pub headers : IsRest (λ (row : CheckedHeader). row.source) books.headers.items rest.headers.now b
@@ -56,32 +50,20 @@ module _ {X : Type 0} (key : X → Key) (owner : X → ℕ) (low : (x y : X) →
   pub whole_rest : (n : ℕ) (xs rest : List X) → climbs (map key xs) ≡ true → list_all (λ x. is_among n (owner x)) xs ≡ true → rest ≡ xs → IsRest owner xs rest 0
   whole_rest n xs rest up all e = subst (λ (ys : List X). IsRest owner xs ys 0) (sym e) (rest_begins owner xs (owners_from xs (ascending_from_climbs key xs up)) (from_one n xs all))
 
-pub rests_begin : (books : OrderedBooks) (rest : Rest) → AreOrdered books → is_owned books ≡ true → rest.customers.now ≡ books.customers.items → rest.copies.now ≡ books.copies.items
-    → rest.rentals.now ≡ books.rentals.items → rest.terms.now ≡ books.terms.items → rest.payments.now ≡ books.payments.items → rest.lots.now ≡ books.lots.items → rest.kept.now ≡ books.kept.items
-    → rest.headers.now ≡ books.headers.items → AreRests books rest 0
-rests_begin books rest o owned a b c t d e f g =
+pub rests_begin : (books : OrderedBooks) (rest : Rest) → AreOrdered books → is_owned books ≡ true → OfEach (λ t. lent_rows rest.rows t ≡ checked_rows books t) → rest.lots.now ≡ books.lots.items
+    → rest.kept.now ≡ books.kept.items → rest.headers.now ≡ books.headers.items → AreRests books rest 0
+rests_begin books rest o owned a e f g =
     let n = length books.branches.items in
-    let sides = both (are_rows_owned books && are_others_owned books) (are_consignments_owned books) owned in
-    let two = both (are_rows_owned books) (are_others_owned books) sides.0 in
-    let last = both (list_all (λ (row : CheckedCustomer). is_among n row.branch) books.customers.items && list_all (λ (row : CheckedCopy). is_among n row.branch) books.copies.items
-    && list_all (λ (row : CheckedRental). is_among n row.branch) books.rentals.items && list_all (λ (row : CheckedPayment). is_among n row.branch) books.payments.items)
-    (list_all (λ (row : CheckedTerms). is_among n row.branch) books.terms.items) two.0 in
-    let three = both (list_all (λ (row : CheckedCustomer). is_among n row.branch) books.customers.items && list_all (λ (row : CheckedCopy). is_among n row.branch) books.copies.items
-    && list_all (λ (row : CheckedRental). is_among n row.branch) books.rentals.items) (list_all (λ (row : CheckedPayment). is_among n row.branch) books.payments.items) last.0 in
-    let four = both (list_all (λ (row : CheckedCustomer). is_among n row.branch) books.customers.items && list_all (λ (row : CheckedCopy). is_among n row.branch) books.copies.items)
-    (list_all (λ (row : CheckedRental). is_among n row.branch) books.rentals.items) three.0 in
-    let five = both (list_all (λ (row : CheckedCustomer). is_among n row.branch) books.customers.items) (list_all (λ (row : CheckedCopy). is_among n row.branch) books.copies.items) four.0 in
-    let six = both (list_all (λ (row : CheckedLot). is_among n row.branch) books.lots.items) (list_all (λ (row : CheckedKept). is_among n row.branch) books.kept.items) two.1 in
-    let seven = both (list_all (λ (row : CheckedHeader). is_among n row.source) books.headers.items) (list_all (λ (row : CheckedHeader). is_among n row.addressee) books.headers.items) sides.1 in
+    let all = all_parts (are_rows_owned books) (are_others_owned books ∷ are_consignments_owned books ∷ []) owned in
+    let others = both (list_all (λ (row : CheckedLot). is_among n row.branch) books.lots.items) (list_all (λ (row : CheckedKept). is_among n row.branch) books.kept.items) all.1.0 in
+    let sent = both (list_all (λ (row : CheckedHeader). is_among n row.source) books.headers.items) (list_all (λ (row : CheckedHeader). is_among n row.addressee) books.headers.items) all.1.1.0 in
     record {
-      customers = whole_rest (λ (row : CheckedCustomer). row.branch ∷ row.number ∷ []) (λ row. row.branch) (λ x y h. first_low x.branch y.branch (x.number ∷ []) (y.number ∷ []) h) n books.customers.items rest.customers.now o.customers five.0 a;
-      copies = whole_rest (λ (row : CheckedCopy). row.branch ∷ row.number ∷ []) (λ row. row.branch) (λ x y h. first_low x.branch y.branch (x.number ∷ []) (y.number ∷ []) h) n books.copies.items rest.copies.now o.copies five.1 b;
-      rentals = whole_rest (λ (row : CheckedRental). row.branch ∷ row.number ∷ []) (λ row. row.branch) (λ x y h. first_low x.branch y.branch (x.number ∷ []) (y.number ∷ []) h) n books.rentals.items rest.rentals.now o.rentals four.1 c;
-      terms = whole_rest (λ (row : CheckedTerms). row.branch ∷ row.number ∷ []) (λ row. row.branch) (λ x y h. first_low x.branch y.branch (x.number ∷ []) (y.number ∷ []) h) n books.terms.items rest.terms.now o.terms last.1 t;
-      payments = whole_rest (λ (row : CheckedPayment). row.branch ∷ row.number ∷ []) (λ row. row.branch) (λ x y h. first_low x.branch y.branch (x.number ∷ []) (y.number ∷ []) h) n books.payments.items rest.payments.now o.payments three.1 d;
-      lots = whole_rest (λ (row : CheckedLot). row.branch ∷ row.name) (λ row. row.branch) (λ x y h. first_low x.branch y.branch x.name y.name h) n books.lots.items rest.lots.now o.lots six.0 e;
-      kept = whole_rest (λ (row : CheckedKept). row.branch ∷ row.key) (λ row. row.branch) (λ x y h. first_low x.branch y.branch x.key y.key h) n books.kept.items rest.kept.now o.kept six.1 f;
-      headers = whole_rest (λ (row : CheckedHeader). row.source ∷ row.addressee ∷ row.number ∷ []) (λ row. row.source) (λ x y h. first_low x.source y.source (x.addressee ∷ x.number ∷ []) (y.addressee ∷ y.number ∷ []) h) n books.headers.items rest.headers.now o.headers seven.0 g;
+      rows = λ t.
+          whole_rest checked_key (λ (row : CheckedOf t). row.branch) (λ x y h. first_low x.branch y.branch (x.number ∷ []) (y.number ∷ []) h) n (checked_rows books t) (lent_rows rest.rows t) (o.rows t)
+          (each_passes (λ t. list_all (λ (row : CheckedOf t). is_among n row.branch) (checked_rows books t)) all.0 t) (each (λ t. lent_rows rest.rows t ≡ checked_rows books t) a t);
+      lots = whole_rest (λ (row : CheckedLot). row.branch ∷ row.name) (λ row. row.branch) (λ x y h. first_low x.branch y.branch x.name y.name h) n books.lots.items rest.lots.now o.lots others.0 e;
+      kept = whole_rest (λ (row : CheckedKept). row.branch ∷ row.key) (λ row. row.branch) (λ x y h. first_low x.branch y.branch x.key y.key h) n books.kept.items rest.kept.now o.kept others.1 f;
+      headers = whole_rest (λ (row : CheckedHeader). row.source ∷ row.addressee ∷ row.number ∷ []) (λ row. row.source) (λ x y h. first_low x.source y.source (x.addressee ∷ x.number ∷ []) (y.addressee ∷ y.number ∷ []) h) n books.headers.items rest.headers.now o.headers sent.0 g;
     }
 
 -- ---- the next branch
@@ -97,11 +79,7 @@ module _ {X : Type 0} (owner : X → ℕ) (all : List X) where
 module _ (books : OrderedBooks) (b branch : ℕ) (is : branch ≡ b + 1) (rest : Rest) (r : AreRests books rest b) where
   pub next_part : (part : PartRows) → part ≡ front_rows rest branch → part ≡ branch_rows books branch
   next_part part e = e ∙ (λ i. record {
-    customers = next_own (λ (row : CheckedCustomer). row.branch) books.customers.items b branch rest.customers.now _ is r.customers refl i;
-    copies = next_own (λ (row : CheckedCopy). row.branch) books.copies.items b branch rest.copies.now _ is r.copies refl i;
-    rentals = next_own (λ (row : CheckedRental). row.branch) books.rentals.items b branch rest.rentals.now _ is r.rentals refl i;
-    terms = next_own (λ (row : CheckedTerms). row.branch) books.terms.items b branch rest.terms.now _ is r.terms refl i;
-    payments = next_own (λ (row : CheckedPayment). row.branch) books.payments.items b branch rest.payments.now _ is r.payments refl i;
+    rows = λ t. next_own (λ (row : CheckedOf t). row.branch) (checked_rows books t) b branch (lent_rows rest.rows t) _ is (r.rows t) refl i;
     lots = length (next_own (λ (row : CheckedLot). row.branch) books.lots.items b branch rest.lots.now _ is r.lots refl i);
     kept = length (next_own (λ (row : CheckedKept). row.branch) books.kept.items b branch rest.kept.now _ is r.kept refl i);
     sent = length (next_own (λ (row : CheckedHeader). row.source) books.headers.items b branch rest.headers.now _ is r.headers refl i);
@@ -109,11 +87,7 @@ module _ (books : OrderedBooks) (b branch : ℕ) (is : branch ≡ b + 1) (rest :
 
   pub next_rests : (more : Rest) → AreBehind rest more branch → AreRests books more (b + 1)
   next_rests more h = record {
-    customers = next_rest (λ (row : CheckedCustomer). row.branch) books.customers.items b branch rest.customers.now more.customers.now is r.customers h.customers;
-    copies = next_rest (λ (row : CheckedCopy). row.branch) books.copies.items b branch rest.copies.now more.copies.now is r.copies h.copies;
-    rentals = next_rest (λ (row : CheckedRental). row.branch) books.rentals.items b branch rest.rentals.now more.rentals.now is r.rentals h.rentals;
-    terms = next_rest (λ (row : CheckedTerms). row.branch) books.terms.items b branch rest.terms.now more.terms.now is r.terms h.terms;
-    payments = next_rest (λ (row : CheckedPayment). row.branch) books.payments.items b branch rest.payments.now more.payments.now is r.payments h.payments;
+    rows = λ t. next_rest (λ (row : CheckedOf t). row.branch) (checked_rows books t) b branch (lent_rows rest.rows t) (lent_rows more.rows t) is (r.rows t) (h.rows t);
     lots = next_rest (λ (row : CheckedLot). row.branch) books.lots.items b branch rest.lots.now more.lots.now is r.lots h.lots;
     kept = next_rest (λ (row : CheckedKept). row.branch) books.kept.items b branch rest.kept.now more.kept.now is r.kept h.kept;
     headers = next_rest (λ (row : CheckedHeader). row.source) books.headers.items b branch rest.headers.now more.headers.now is r.headers h.headers;

@@ -1,32 +1,28 @@
 -- What is checked of rows in order is the soundness of the books that have them.
-use Rattle.shop_types.proofs.Common.{◌≡◌, ◌&&◌, ◌+◌, ◌≤◌, ◌==◌, ◌++◌, inl, inr, ℕ, suc, zero, List, [], ◌∷◌, map, filter, length, not, Bool, true, false, cond, refl, sym, ap, subst, ◌∙◌, arith, nat_lt, nat_le, IsPermutation, None, list_all, flat_map, bytes_eq, nat_tests, IsPermutation-map, IsPermutation-refl, IsPermutation-sym, Moment, Row, Owned, at, is_empty, owned_by, numbered_from, IsCounted, AreNumbered, Text, Customer, Rental, Terms, Payment, Arrival, Rules, Kept, has_row, are_different, is_parcel, Books, BookCopy, Line, UnderWay, Consignment, shop_of, as_arrival, as_parcel, head, HasOwners, IsSound, widest, all_lines, is_settled, line_is, at_zero, AreRowsOwned, Table, Customers, CopyRows, Rentals, TermRows, Payments, RowOf, rows_of, is_of}
+use Rattle.shop_types.proofs.Common.{◌≡◌, ◌&&◌, ◌+◌, ◌≤◌, ◌==◌, ◌++◌, inl, inr, ℕ, suc, zero, List, [], ◌∷◌, map, filter, length, not, Bool, true, false, cond, refl, sym, ap, subst, ◌∙◌, arith, nat_lt, nat_le, IsPermutation, None, list_all, flat_map, bytes_eq, nat_tests, IsPermutation-map, IsPermutation-refl, IsPermutation-sym, Moment, Row, Owned, at, is_empty, owned_by, numbered_from, IsCounted, AreNumbered, Text, Arrival, Rules, Kept, has_row, are_different, is_parcel, Books, BookCopy, Line, UnderWay, Consignment, shop_of, as_arrival, as_parcel, head, HasOwners, IsSound, widest, all_lines, is_settled, line_is, at_zero, Table, CopyRows, RowOf, rows_of}
 use Rattle.sqlite_keyed.proofs.ListLemmas.{IsPermutation-flat_map}
 use Rattle.audit_rows.specs.declared.books.OrderedBooks.{OrderedBooks}
 use Rattle.audit_rows.specs.declared.rows.CheckedBranch.{CheckedBranch}
-use Rattle.audit_rows.specs.declared.rows.CheckedCustomer.{CheckedCustomer}
-use Rattle.audit_rows.specs.declared.rows.CheckedCopy.{CheckedCopy}
-use Rattle.audit_rows.specs.declared.rows.CheckedRental.{CheckedRental}
-use Rattle.audit_rows.specs.declared.rows.CheckedTerms.{CheckedTerms}
-use Rattle.audit_rows.specs.declared.rows.CheckedPayment.{CheckedPayment}
 use Rattle.audit_rows.specs.declared.rows.CheckedLot.{CheckedLot}
 use Rattle.audit_rows.specs.declared.rows.CheckedKept.{CheckedKept}
 use Rattle.audit_rows.specs.declared.rows.CheckedHeader.{CheckedHeader}
-use Rattle.audit_rows.specs.Lists.{counts_from, climbs}
-use Rattle.audit_rows.specs.Joins.{Header, Placed, header, header_key, put_line, placed}
-use Rattle.audit_rows.specs.Seen.{seen_copy, seen_rental_row, seen_payment_row, seen_header, seen_placed, seen_line}
+use Rattle.audit_rows.specs.Lists.{counts_from}
+use Rattle.audit_rows.specs.Joins.{Header, Placed, header, put_line, placed}
+use Rattle.audit_rows.specs.Seen.{seen_copy, seen_header, seen_placed, seen_line}
 use Rattle.audit_rows.specs.Shops.{is_among}
 use Rattle.audit_rows.specs.Marked.{AreInCustody}
 use Rattle.audit_checks.specs.Consignments.{is_good_consignment, are_settled, is_pair, pairs_follow}
 use Rattle.audit_checks.specs.Parts.{PartRows, branch_rows, is_good_part, are_good_from, is_owned, are_rows_owned, are_others_owned, are_consignments_owned}
-use Rattle.audit_rows.specs.Ordered.{AreOrdered, HaveOrderedRows, customer_row, terms_row, lot_row, kept_row, lasts_from}
+use Rattle.audit_rows.specs.Ordered.{AreOrdered, HaveOrderedRows, lot_row, kept_row, lasts_from}
+use Rattle.audit_rows.specs.Tables.{CheckedOf, checked_rows, all_tables}
 use Rattle.audit_checks.specs.Checked.{AreChecked}
 use Rattle.audit_rows.proofs.Keys.{both, bytes_eq_symm, different-map, different_from_climbs}
 use Rattle.audit_rows.proofs.Maps.{map-twice, all-map, filter-map, length-map}
-use Rattle.audit_rows.proofs.Tests.{all_congr, all_and, moved, different_congr, all_from, all_from_at, at_all_from, counted_is, is_counted, alone}
+use Rattle.audit_rows.proofs.Tests.{all_congr, all_and, all_parts, moved, different_congr, all_from, all_from_at, at_all_from, counted_is, is_counted, alone}
 use Rattle.audit_rows.proofs.Transfer.{all_along}
 use Rattle.audit_rows.proofs.CustodyLemmas.{custody_of_all, origins_of_rows, origins_of_lines, custody_moved}
 use Rattle.audit_rows.proofs.OfBooks.{of_books}
-use Rattle.audit_rows.proofs.OrderedLemmas.{copies_climb}
+use Rattle.audit_rows.proofs.OrderedLemmas.{each_passes, all_passing, copies_seen, rows_test, rows_climb, headers_climb}
 use Rattle.shop_model.proofs.Soundness.{in_custody}
 use Rattle.audit_rows.proofs.ShopLemmas.{has_row_is}
 use Rattle.audit_rows.proofs.JoinLemmas.{join_sound}
@@ -35,7 +31,7 @@ use Rattle.audit_checks.proofs.PlaceLemmas.{headers_are}
 use Rattle.audit_checks.proofs.CatalogueLemmas.{branch_named, film_named, catalogue_from_rows, rows_from_catalogue}
 use Rattle.audit_rows.proofs.LastLemmas.{last_in, none_before, last_at, lasts_owned, lasts_apart}
 use Rattle.audit_rows.proofs.OwnLemmas.{at_case, none_owned, all_filter, all_from_owners, own_different}
-use Rattle.audit_checks.proofs.BranchLemmas.{BranchFacts, facts_from_part, part_from_facts}
+use Rattle.audit_checks.proofs.BranchLemmas.{BranchFacts, BranchLinks, facts_from_part, part_from_facts}
 
 -- ---- lines
 
@@ -82,20 +78,8 @@ module _ (rows : OrderedBooks) (books : Books) (o : AreOrdered rows) (s : HaveOr
 
   -- ---- branch columns
 
-  own_customers : list_all (λ (row : Row Customer). has_row books.catalogue.branches row.branch) books.customers ≡ list_all (λ (row : CheckedCustomer). is_among count row.branch) rows.customers.items
-  own_customers = moved customer_row books.customers rows.customers.items s.customers _ _ (λ row. branch_is row.branch)
-
-  own_copies : list_all (λ (row : Row BookCopy). has_row books.catalogue.branches row.branch) books.copies ≡ list_all (λ (row : CheckedCopy). is_among count row.branch) rows.copies.items
-  own_copies = ap (list_all (λ (row : Row BookCopy). has_row books.catalogue.branches row.branch)) s.copies ∙ all-map _ seen_copy rows.copies.items ∙ all_congr _ _ (λ row. branch_is row.branch) rows.copies.items
-
-  own_rentals : list_all (λ (row : Row Rental). has_row books.catalogue.branches row.branch) books.rentals ≡ list_all (λ (row : CheckedRental). is_among count row.branch) rows.rentals.items
-  own_rentals = ap (list_all (λ (row : Row Rental). has_row books.catalogue.branches row.branch)) s.rentals ∙ all-map _ seen_rental_row rows.rentals.items ∙ all_congr _ _ (λ row. branch_is row.branch) rows.rentals.items
-
-  own_terms : list_all (λ (row : Row Terms). has_row books.catalogue.branches row.branch) books.terms ≡ list_all (λ (row : CheckedTerms). is_among count row.branch) rows.terms.items
-  own_terms = moved terms_row books.terms rows.terms.items s.terms _ _ (λ row. branch_is row.branch)
-
-  own_payments : list_all (λ (row : Row Payment). has_row books.catalogue.branches row.branch) books.payments ≡ list_all (λ (row : CheckedPayment). is_among count row.branch) rows.payments.items
-  own_payments = ap (list_all (λ (row : Row Payment). has_row books.catalogue.branches row.branch)) s.payments ∙ all-map _ seen_payment_row rows.payments.items ∙ all_congr _ _ (λ row. branch_is row.branch) rows.payments.items
+  own_rows : (t : Table) → list_all (λ (row : Row (RowOf t)). has_row books.catalogue.branches row.branch) (rows_of books t) ≡ list_all (λ (row : CheckedOf t). is_among count row.branch) (checked_rows rows t)
+  own_rows t = rows_test rows books s t _ _ (λ row. branch_is row.branch)
 
   own_lots : list_all (λ (row : Owned Text). has_row books.catalogue.branches row.owner) books.lots ≡ list_all (λ (row : CheckedLot). is_among count row.branch) rows.lots.items
   own_lots = moved lot_row books.lots rows.lots.items s.lots _ _ (λ row. branch_is row.owner)
@@ -120,11 +104,7 @@ module _ (rows : OrderedBooks) (books : Books) (o : AreOrdered rows) (s : HaveOr
       ∙ lasts_owned count 1 (omega arith) rows.branches.items (omega arith)
 
   pub record Owners : Type 0 where
-    pub customers : list_all (λ (row : CheckedCustomer). is_among count row.branch) rows.customers.items ≡ true
-    pub copies : list_all (λ (row : CheckedCopy). is_among count row.branch) rows.copies.items ≡ true
-    pub rentals : list_all (λ (row : CheckedRental). is_among count row.branch) rows.rentals.items ≡ true
-    pub terms : list_all (λ (row : CheckedTerms). is_among count row.branch) rows.terms.items ≡ true
-    pub payments : list_all (λ (row : CheckedPayment). is_among count row.branch) rows.payments.items ≡ true
+    pub tables : (t : Table) → list_all (λ (row : CheckedOf t). is_among count row.branch) (checked_rows rows t) ≡ true
     pub lots : list_all (λ (row : CheckedLot). is_among count row.branch) rows.lots.items ≡ true
     pub kept : list_all (λ (row : CheckedKept). is_among count row.branch) rows.kept.items ≡ true
     pub sources : list_all (λ (row : CheckedHeader). is_among count row.source) rows.headers.items ≡ true
@@ -132,40 +112,30 @@ module _ (rows : OrderedBooks) (books : Books) (o : AreOrdered rows) (s : HaveOr
 
   owners_open : is_owned rows ≡ true → Owners
   owners_open h =
-      let a2 = both (are_rows_owned rows && are_others_owned rows) (are_consignments_owned rows) h in
-      let a1 = both (are_rows_owned rows) (are_others_owned rows) a2.0 in
-      let r4 = both (list_all (λ (row : CheckedCustomer). is_among count row.branch) rows.customers.items && list_all (λ (row : CheckedCopy). is_among count row.branch) rows.copies.items && list_all (λ (row : CheckedRental). is_among count row.branch) rows.rentals.items && list_all (λ (row : CheckedPayment). is_among count row.branch) rows.payments.items) (list_all (λ (row : CheckedTerms). is_among count row.branch) rows.terms.items) a1.0 in
-      let r3 = both (list_all (λ (row : CheckedCustomer). is_among count row.branch) rows.customers.items && list_all (λ (row : CheckedCopy). is_among count row.branch) rows.copies.items && list_all (λ (row : CheckedRental). is_among count row.branch) rows.rentals.items) (list_all (λ (row : CheckedPayment). is_among count row.branch) rows.payments.items) r4.0 in
-      let r2 = both (list_all (λ (row : CheckedCustomer). is_among count row.branch) rows.customers.items && list_all (λ (row : CheckedCopy). is_among count row.branch) rows.copies.items) (list_all (λ (row : CheckedRental). is_among count row.branch) rows.rentals.items) r3.0 in
-      let r1 = both (list_all (λ (row : CheckedCustomer). is_among count row.branch) rows.customers.items) (list_all (λ (row : CheckedCopy). is_among count row.branch) rows.copies.items) r2.0 in
-      let q1 = both (list_all (λ (row : CheckedLot). is_among count row.branch) rows.lots.items) (list_all (λ (row : CheckedKept). is_among count row.branch) rows.kept.items) a1.1 in
-      let c1 = both (list_all (λ (row : CheckedHeader). is_among count row.source) rows.headers.items) (list_all (λ (row : CheckedHeader). is_among count row.addressee) rows.headers.items) a2.1 in
-      record { customers = r1.0; copies = r1.1; rentals = r2.1; terms = r4.1; payments = r3.1; lots = q1.0; kept = q1.1; sources = c1.0; addressees = c1.1 }
-
-  rows_owned : Owners → (t : Table) → AreRowsOwned books.catalogue.branches t (rows_of books t)
-  rows_owned p Customers = own_customers ∙ p.customers
-  rows_owned p CopyRows = own_copies ∙ p.copies
-  rows_owned p Rentals = own_rentals ∙ p.rentals
-  rows_owned p TermRows = own_terms ∙ p.terms
-  rows_owned p Payments = own_payments ∙ p.payments
+      let all = all_parts (are_rows_owned rows) (are_others_owned rows ∷ are_consignments_owned rows ∷ []) h in
+      let others = both (list_all (λ (row : CheckedLot). is_among count row.branch) rows.lots.items) (list_all (λ (row : CheckedKept). is_among count row.branch) rows.kept.items) all.1.0 in
+      let sent = both (list_all (λ (row : CheckedHeader). is_among count row.source) rows.headers.items) (list_all (λ (row : CheckedHeader). is_among count row.addressee) rows.headers.items) all.1.1.0 in
+      record {
+        tables = each_passes (λ t. list_all (λ (row : CheckedOf t). is_among count row.branch) (checked_rows rows t)) all.0;
+        lots = others.0;
+        kept = others.1;
+        sources = sent.0;
+        addressees = sent.1;
+      }
 
   owners_from_rows : is_owned rows ≡ true → HasOwners books.catalogue.branches books
   owners_from_rows h =
       let p = owners_open h in
-      record { rows = rows_owned p; lots = own_lots ∙ p.lots; kept = own_kept ∙ p.kept; sources = own_sources ∙ p.sources; addressees = own_addressees ∙ p.addressees; lasts = own_lasts }
+      record { rows = λ t. own_rows t ∙ p.tables t; lots = own_lots ∙ p.lots; kept = own_kept ∙ p.kept; sources = own_sources ∙ p.sources; addressees = own_addressees ∙ p.addressees; lasts = own_lasts }
 
   rows_from_owners : HasOwners books.catalogue.branches books → is_owned rows ≡ true
   rows_from_owners g =
-      let p0 : list_all (λ (row : CheckedCustomer). is_among count row.branch) rows.customers.items ≡ true = sym own_customers ∙ g.rows Customers in
-      let p1 : list_all (λ (row : CheckedCopy). is_among count row.branch) rows.copies.items ≡ true = sym own_copies ∙ g.rows CopyRows in
-      let p2 : list_all (λ (row : CheckedRental). is_among count row.branch) rows.rentals.items ≡ true = sym own_rentals ∙ g.rows Rentals in
-      let p3 : list_all (λ (row : CheckedPayment). is_among count row.branch) rows.payments.items ≡ true = sym own_payments ∙ g.rows Payments in
-      let t : list_all (λ (row : CheckedTerms). is_among count row.branch) rows.terms.items ≡ true = sym own_terms ∙ g.rows TermRows in
-      let p4 : list_all (λ (row : CheckedLot). is_among count row.branch) rows.lots.items ≡ true = sym own_lots ∙ g.lots in
-      let p5 : list_all (λ (row : CheckedKept). is_among count row.branch) rows.kept.items ≡ true = sym own_kept ∙ g.kept in
-      let p6 : list_all (λ (row : CheckedHeader). is_among count row.source) rows.headers.items ≡ true = sym own_sources ∙ g.sources in
-      let p7 : list_all (λ (row : CheckedHeader). is_among count row.addressee) rows.headers.items ≡ true = sym own_addressees ∙ g.addressees in
-      (λ i. (p0 i && p1 i && p2 i && p3 i && t i) && (p4 i && p5 i) && (p6 i && p7 i))
+      let tables : are_rows_owned rows ≡ true = all_passing _ (λ t. sym (own_rows t) ∙ g.rows t) all_tables in
+      let lots = sym own_lots ∙ g.lots in
+      let kept = sym own_kept ∙ g.kept in
+      let sources = sym own_sources ∙ g.sources in
+      let addressees = sym own_addressees ∙ g.addressees in
+      (λ i. tables i && (lots i && kept i) && (sources i && addressees i))
 
   -- ---- custody
 
@@ -178,13 +148,13 @@ module _ (rows : OrderedBooks) (books : Books) (o : AreOrdered rows) (s : HaveOr
 
   books_from_rows : AreInCustody (map seen_copy rows.copies.items) (map seen_line rows.lines.items) → AreInCustody books.copies (all_lines books)
   books_from_rows h =
-      subst (λ (copies : List (Row BookCopy)). AreInCustody copies (all_lines books)) (sym s.copies)
+      subst (λ (copies : List (Row BookCopy)). AreInCustody copies (all_lines books)) (sym (copies_seen rows books s))
       (custody_moved (map seen_copy rows.copies.items) (map seen_copy rows.copies.items) (map seen_line rows.lines.items) (all_lines books) (IsPermutation-refl _) lines_bag h)
 
   rows_from_books : AreInCustody books.copies (all_lines books) → AreInCustody (map seen_copy rows.copies.items) (map seen_line rows.lines.items)
   rows_from_books h =
       custody_moved (map seen_copy rows.copies.items) (map seen_copy rows.copies.items) (all_lines books) (map seen_line rows.lines.items) (IsPermutation-refl _) (IsPermutation-sym _ _ lines_bag)
-      (subst (λ (copies : List (Row BookCopy)). AreInCustody copies (all_lines books)) s.copies h)
+      (subst (λ (copies : List (Row BookCopy)). AreInCustody copies (all_lines books)) (copies_seen rows books s) h)
 
   -- ---- consignments
 
@@ -208,9 +178,6 @@ module _ (rows : OrderedBooks) (books : Books) (o : AreOrdered rows) (s : HaveOr
   abbrev headers : List Header
   headers = map header by_key
 
-  headers_climb : climbs (map header_key headers) ≡ true
-  headers_climb = ap (λ (hs : List Header). climbs (map header_key hs)) (headers_are rows its s.consignments) ∙ ap climbs (map-twice header_key seen_header rows.headers.items) ∙ o.headers
-
   headers_bag : IsPermutation headers (map header its)
   headers_bag = IsPermutation-map header by_key its s.consignments.all
 
@@ -225,13 +192,13 @@ module _ (rows : OrderedBooks) (books : Books) (o : AreOrdered rows) (s : HaveOr
       → (a b : ℕ) → AreNumbered (λ (it : Consignment). it.source == a && it.addressee == b) (λ it. it.number) its
   numbers_from_rows c h a b =
       subst (IsCounted 1) (numbers_are a b)
-      (numbered_from_pairs headers (map header its) headers_bag headers_climb (placed_so c) (ap pairs_follow (headers_are rows its s.consignments) ∙ h) a b)
+      (numbered_from_pairs headers (map header its) headers_bag (headers_climb rows books s o) (placed_so c) (ap pairs_follow (headers_are rows its s.consignments) ∙ h) a b)
 
   rows_from_numbers : IsCounted 1 (map (λ (it : Consignment). it.place) its) → ((a b : ℕ) → AreNumbered (λ (it : Consignment). it.source == a && it.addressee == b) (λ it. it.number) its)
       → pairs_follow (map seen_header rows.headers.items) ≡ true
   rows_from_numbers c h =
       sym (ap pairs_follow (headers_are rows its s.consignments))
-      ∙ pairs_from_numbered headers (map header its) headers_bag headers_climb (placed_so c) (λ a b. subst (IsCounted 1) (sym (numbers_are a b)) (h a b))
+      ∙ pairs_from_numbered headers (map header its) headers_bag (headers_climb rows books s o) (placed_so c) (λ a b. subst (IsCounted 1) (sym (numbers_are a b)) (h a b))
 
   -- ---- lots and keys of a branch
 
@@ -260,17 +227,13 @@ module _ (rows : OrderedBooks) (books : Books) (o : AreOrdered rows) (s : HaveOr
   parts_are k (x ∷ xs) = ap (λ t. good_at k x && t) (parts_are (k + 1) xs)
 
   abbrev empty_part : PartRows
-  empty_part = record { customers = []; copies = []; rentals = []; terms = []; payments = []; lots = 0; kept = 0; sent = 0 }
+  empty_part = record { rows = λ t. []; lots = 0; kept = 0; sent = 0 }
 
   nothing_owned : is_owned rows ≡ true → (b : ℕ) → is_among count b ≡ false → branch_rows rows b ≡ empty_part
   nothing_owned h b none =
       let p = owners_open h in
       λ i. record {
-        customers = none_owned (λ (row : CheckedCustomer). row.branch) count b none rows.customers.items p.customers i;
-        copies = none_owned (λ (row : CheckedCopy). row.branch) count b none rows.copies.items p.copies i;
-        rentals = none_owned (λ (row : CheckedRental). row.branch) count b none rows.rentals.items p.rentals i;
-        terms = none_owned (λ (row : CheckedTerms). row.branch) count b none rows.terms.items p.terms i;
-        payments = none_owned (λ (row : CheckedPayment). row.branch) count b none rows.payments.items p.payments i;
+        rows = λ t. none_owned (λ (row : CheckedOf t). row.branch) count b none (checked_rows rows t) (p.tables t) i;
         lots = length (none_owned (λ (row : CheckedLot). row.branch) count b none rows.lots.items p.lots i);
         kept = length (none_owned (λ (row : CheckedKept). row.branch) count b none rows.kept.items p.kept i);
         sent = length (none_owned (λ (row : CheckedHeader). row.source) count b none rows.headers.items p.sources i);
@@ -295,12 +258,12 @@ module _ (rows : OrderedBooks) (books : Books) (o : AreOrdered rows) (s : HaveOr
       least : (m : ℕ) → is_among count m ≡ true → 1 ≤ m
       least m h = grind (arith, nat_tests)
 
-  facts : is_owned rows ≡ true → are_good_from rows 1 rows.branches.items ≡ true → (b : ℕ) → BranchFacts rules b books
-  facts owned good b = elim (at_case b rows.branches.items) [
+  facts : is_owned rows ≡ true → are_good_from rows 1 rows.branches.items ≡ true → ((b : ℕ) → BranchLinks b books) → (b : ℕ) → BranchFacts rules b books
+  facts owned good more b = elim (at_case b rows.branches.items) [
     | inl e ↦
-        facts_from_part rows books o s b None (last_is b ∙ ap last_in e) rules (ap (is_good_part rows b None) (nothing_owned owned b (not_there b e)) ∙ nothing_is_good b)
+        facts_from_part rows books o s b None (last_is b ∙ ap last_in e) rules (more b) (ap (is_good_part rows b None) (nothing_owned owned b (not_there b e)) ∙ nothing_is_good b)
     | inr it ↦
-        facts_from_part rows books o s b it.0.last (last_is b ∙ ap last_in it.1) rules
+        facts_from_part rows books o s b it.0.last (last_is b ∙ ap last_in it.1) rules (more b)
         (both (good_at b it.0) true (subst (λ (xs : List CheckedBranch). list_all (good_at b) xs ≡ true) it.1
         (all_from_at good_at 1 rows.branches.items (sym (parts_are 1 rows.branches.items) ∙ good) b b refl (low b it.0 it.1)))).0
   ]
@@ -319,30 +282,27 @@ module _ (rows : OrderedBooks) (books : Books) (o : AreOrdered rows) (s : HaveOr
 
   -- ---- all of it
 
-  numbered : (b : ℕ) → BranchFacts rules b books → (t : Table) → AreNumbered (is_of b) (λ (row : Row (RowOf t)). row.number) (rows_of books t)
-  numbered b part Customers = part.customers
-  numbered b part CopyRows = part.copies
-  numbered b part Rentals = part.rentals
-  numbered b part TermRows = part.terms
-  numbered b part Payments = part.payments
-
   pub sound_from_checks : AreChecked rows books.consignments → IsSound (widest rules) books
   sound_from_checks h =
-      let c2 = both (are_settled (length rows.films.items) (map seen_header rows.headers.items) (map seen_placed rows.lines.items) && pairs_follow (map seen_header rows.headers.items)) (counts_from 1 (map (λ (it : Consignment). it.place) its)) h.consignments in
-      let c1 = both (are_settled (length rows.films.items) (map seen_header rows.headers.items) (map seen_placed rows.lines.items)) (pairs_follow (map seen_header rows.headers.items)) c2.0 in
-      let places = counted_is 1 _ c2.1 in
-      let filled = both (list_all is_filled its) (list_all is_settled its && list_all (has_films (length rows.films.items)) its) (sym settled_is ∙ c1.0) in
+      let sent =
+      all_parts (are_settled (length rows.films.items) (map seen_header rows.headers.items) (map seen_placed rows.lines.items))
+      (pairs_follow (map seen_header rows.headers.items) ∷ counts_from 1 (map (λ (it : Consignment). it.place) its) ∷ []) h.consignments in
+      let places = counted_is 1 _ sent.1.1.0 in
+      let filled = both (list_all is_filled its) (list_all is_settled its && list_all (has_films (length rows.films.items)) its) (sym settled_is ∙ sent.0) in
       let settled = both (list_all is_settled its) (list_all (has_films (length rows.films.items)) its) filled.1 in
       let custody = books_from_rows h.custody in
-      let up = copies_climb rows books o s in
-      let each = facts h.owned h.parts in
+      let up = rows_climb rows books s o CopyRows in
+      let more : (b : ℕ) → BranchLinks b books = λ b. record {
+        arrival_films = arrival_is b ∙ all_filter (has_films (length rows.films.items)) (λ (it : Consignment). it.addressee == b) its settled.1;
+        parcels = parcel_is b ∙ all_filter is_filled (λ (it : Consignment). it.source == b) its filled.0;
+        lots = lots_differ b;
+        keys = keys_differ b;
+      } in
+      let each = facts h.owned h.parts more in
       record {
         catalogue = catalogue_from_rows rows books o s.shared rules h.catalogue;
         owners = owners_from_rows h.owned;
-        numbers = record {
-          rows = λ t b. numbered b (each b) t;
-          consignments = numbers_from_rows places c1.1;
-        };
+        numbers = record { rows = λ t b. (each b).numbers t; consignments = numbers_from_rows places sent.1.0 };
         places = places;
         custody = custody_of_all books.copies (all_lines books) up custody;
         origins = record { rows = origins_of_rows books.copies (all_lines books) up custody; lines = origins_of_lines books.copies (all_lines books) up custody };
@@ -350,20 +310,7 @@ module _ (rows : OrderedBooks) (books : Books) (o : AreOrdered rows) (s : HaveOr
         lasts = ap (are_different (λ (earlier later : Owned Moment). earlier.owner == later.owner)) s.lasts ∙ lasts_apart 1 rows.branches.items;
         held = λ b. (each b).held;
         shops = λ b. (each b).shop;
-        links = λ b. record {
-          customer_cities = (each b).customer_cities;
-          copy_films = (each b).copy_films;
-          rental_copies = (each b).rental_copies;
-          rental_customers = (each b).rental_customers;
-          rental_staff = (each b).rental_staff;
-          payment_customers = (each b).payment_customers;
-          payment_staff = (each b).payment_staff;
-          payment_rentals = (each b).payment_rentals;
-          arrival_films = arrival_is b ∙ all_filter (has_films (length rows.films.items)) (λ (it : Consignment). it.addressee == b) its settled.1;
-          parcels = parcel_is b ∙ all_filter is_filled (λ (it : Consignment). it.source == b) its filled.0;
-          lots = lots_differ b;
-          keys = keys_differ b;
-        };
+        links = λ b. (each b).links;
         terms = λ b. (each b).termed;
       }
 
@@ -379,22 +326,5 @@ module _ (rows : OrderedBooks) (books : Books) (o : AreOrdered rows) (s : HaveOr
         owned = rows_from_owners g.owners;
         consignments = (λ i. settled i && pairs i && places i);
         custody = rows_from_books ((of_books books).0 (in_custody (widest rules) books g));
-        parts = goods (λ b. record {
-          customers = g.numbers.rows Customers b;
-          copies = g.numbers.rows CopyRows b;
-          rentals = g.numbers.rows Rentals b;
-          terms = g.numbers.rows TermRows b;
-          payments = g.numbers.rows Payments b;
-          termed = g.terms b;
-          held = g.held b;
-          shop = g.shops b;
-          customer_cities = (g.links b).customer_cities;
-          copy_films = (g.links b).copy_films;
-          rental_copies = (g.links b).rental_copies;
-          rental_customers = (g.links b).rental_customers;
-          rental_staff = (g.links b).rental_staff;
-          payment_customers = (g.links b).payment_customers;
-          payment_staff = (g.links b).payment_staff;
-          payment_rentals = (g.links b).payment_rentals;
-        });
+        parts = goods (λ b. record { numbers = λ t. g.numbers.rows t b; termed = g.terms b; held = g.held b; shop = g.shops b; links = g.links b });
       }

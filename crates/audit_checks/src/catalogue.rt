@@ -9,10 +9,10 @@ ghost use Rattle.audit_rows.specs.Shops.{is_among};
 ghost use Rattle.audit_checks.specs.Parts.{is_staff_row};
 ghost use Rattle.audit_checks.specs.Catalogues.{managers_from, is_named, is_shared_sized, is_single, is_good_catalogue};
 
-use crate::links::{is_among, is_staff_of};
+use crate::links::is_staff_of;
 use audit_rows::{
     CheckedBranch, CheckedCast, CheckedCity, CheckedFilm, CheckedStaff, Keyed, OrderedBooks,
-    are_distinct,
+    are_distinct, is_among,
 };
 use shop_types::{NoMemory, T45, Token};
 use std::alloc::Global;

@@ -8,8 +8,7 @@ ghost use Rattle.audit_rows.specs.Lists.{counts_from};
 ghost use Rattle.audit_rows.specs.Seen.{seen_header, seen_placed, seen_line};
 ghost use Rattle.audit_checks.specs.Consignments.{is_good_line, are_good_lines, are_settled, follows, pairs_follow};
 
-use crate::links::is_among;
-use audit_rows::{CheckedHeader, CheckedLine, counts, split_group};
+use audit_rows::{CheckedHeader, CheckedLine, counts, is_among, split_group};
 use shop_types::{LineState, NoMemory};
 use std::alloc::Global;
 

@@ -8,13 +8,14 @@ ghost use Rattle.shop_types.specs.Seen.{seen_rental};
 ghost use Rattle.audit_rows.specs.Seen.{shop_copy};
 ghost use Rattle.audit_rows.specs.Shops.{is_held_here};
 
-use audit_rows::{CheckedCopy, CheckedRental};
-use shop_types::{CopyNo, CopyState};
+use audit_rows::CheckedRow;
+use audit_rows::books::CheckedCopy;
+use shop_types::{CopyNo, CopyState, Rental};
 
-fn is_here(row: &CheckedCopy) -> bool
+fn is_here(row: &CheckedRow<CheckedCopy>) -> bool
     ensures { result ≡ is_here (shop_copy row.now) }
 {
-    match row.state {
+    match row.it.state {
         CopyState::Here => true,
         CopyState::Sent => false,
         CopyState::Scrapped => false,
@@ -22,7 +23,7 @@ fn is_here(row: &CheckedCopy) -> bool
 }
 
 /// Whether the copy of that number, which is its place, is here.
-fn is_copy_here(copies: &[CheckedCopy], number: CopyNo) -> bool
+fn is_copy_here(copies: &[CheckedRow<CheckedCopy>], number: CopyNo) -> bool
     ensures { result ≡ list_any is_here (at number (map shop_copy copies.now)) }
 {
     match copies.get(number.get() as usize - 1) {
@@ -32,8 +33,8 @@ fn is_copy_here(copies: &[CheckedCopy], number: CopyNo) -> bool
 }
 
 /// Whether every open rental is of a copy that is here.
-pub fn are_held_here(rentals: &[CheckedRental], copies: &[CheckedCopy]) -> bool
-    ensures { result ≡ list_all (λ row. is_held_here (map shop_copy copies.now) (seen_rental row.rental)) rentals.now }
+pub fn are_held_here(rentals: &[CheckedRow<Rental>], copies: &[CheckedRow<CheckedCopy>]) -> bool
+    ensures { result ≡ list_all (λ row. is_held_here (map shop_copy copies.now) (seen_rental row.it)) rentals.now }
 {
-    rentals.iter().all(|row| row.rental.returned.is_some() || is_copy_here(copies, row.rental.copy))
+    rentals.iter().all(|row| row.it.returned.is_some() || is_copy_here(copies, row.it.copy))
 }

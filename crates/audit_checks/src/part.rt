@@ -1,37 +1,27 @@
 //! Whether what one branch has is sound.
 
-ghost use Rattle.std.specs.Prelude.{◌≡◌, ◌&&◌, ◌==◌, ◌≤◌, true, nat_le, IfOk, map, length};
-ghost use Rattle.audit_checks.specs.Parts.{is_numbered, is_termed, is_sized, is_timely, is_held, is_good_part, rows_of};
+ghost use Rattle.std.specs.Prelude.{◌≡◌, ◌&&◌, ◌==◌, IfOk};
+ghost use Rattle.audit_checks.specs.Parts.{is_termed, is_sized, is_timely, is_held, has_good_rows, is_good_part, rows_of};
 
 use crate::branches::Part;
 use crate::held::are_held_here;
-use crate::links::{have_payers, have_people, have_places};
+use crate::links::have_links;
 use crate::shop::{
     are_created_by, are_held_once, are_paid_by, are_rented_by, payments_rise, rentals_are_apart,
     rentals_rise,
 };
-use audit_rows::{CheckedBranch, OrderedBooks, are_counted};
+use audit_rows::{CheckedBranch, OrderedBooks};
 use shop_types::NoMemory;
 use std::alloc::Global;
 
 /// The most kept commands of a caller, and the most copies of a branch.
 const MOST: usize = 1_000_000;
 
-/// Whether the rows of each kind are numbered 1, 2, ..
-fn are_numbered(part: &Part<'_>) -> bool
-    ensures { result ≡ is_numbered (rows_of part.now) }
-{
-    are_counted(part.customers)
-        && are_counted(part.copies)
-        && are_counted(part.rentals)
-        && are_counted(part.payments)
-}
-
-/// Whether each rental has its terms, and there are no others.
+/// Whether each rental has its terms, and there are no others, where both are numbered 1, 2, ..
 fn are_termed(part: &Part<'_>) -> bool
     ensures { result ≡ is_termed (rows_of part.now) }
 {
-    are_counted(part.terms) && part.terms.len() == part.rentals.len()
+    part.rows.terms.len() == part.rows.rentals.len()
 }
 
 /// Whether there are no more of anything than there may be.
@@ -39,10 +29,10 @@ fn are_few(part: &Part<'_>) -> bool
     ensures { result ≡ is_sized (rows_of part.now) }
 {
     part.kept <= MOST
-        && part.copies.len() <= MOST
-        && part.customers.len() <= part.kept
-        && part.rentals.len() <= part.kept
-        && part.payments.len() <= part.kept
+        && part.rows.copies.len() <= MOST
+        && part.rows.customers.len() <= part.kept
+        && part.rows.rentals.len() <= part.kept
+        && part.rows.payments.len() <= part.kept
         && part.lots <= part.kept
         && part.sent <= part.kept
 }
@@ -51,24 +41,35 @@ fn are_few(part: &Part<'_>) -> bool
 fn are_timely(row: &CheckedBranch, part: &Part<'_>) -> bool
     ensures { result ≡ is_timely row.now.last (rows_of part.now) }
 {
-    are_created_by(row.last, part.customers)
-        && are_rented_by(row.last, part.rentals)
-        && are_paid_by(row.last, part.payments)
-        && rentals_rise(part.rentals)
-        && payments_rise(part.payments)
+    are_created_by(row.last, part.rows.customers)
+        && are_rented_by(row.last, part.rows.rentals)
+        && are_paid_by(row.last, part.rows.payments)
+        && rentals_rise(part.rows.rentals)
+        && payments_rise(part.rows.payments)
+}
+
+/// Whether numbers, sizes and moments are as they have to be, and what the rows name is there.
+fn has_good_rows(books: &OrderedBooks, branch: u32, row: &CheckedBranch, part: &Part<'_>) -> bool
+    ensures { result ≡ has_good_rows books.now branch row.now.last (rows_of part.now) }
+{
+    part.rows.are_counted()
+        && are_termed(part)
+        && are_few(part)
+        && are_timely(row, part)
+        && have_links(books, branch, part)
 }
 
 /// Whether copies that are out are here, each once, and no two rentals are one.
 fn are_held(alloc: Global, part: &Part<'_>) -> Result<bool, NoMemory>
     ensures { IfOk result (λ is. is ≡ is_held (rows_of part.now)) }
 {
-    if !are_held_here(part.rentals, part.copies) {
+    if !are_held_here(part.rows.rentals, part.rows.copies) {
         return Ok(false);
     }
-    if !are_held_once(alloc, part.rentals)? {
+    if !are_held_once(alloc, part.rows.rentals)? {
         return Ok(false);
     }
-    rentals_are_apart(alloc, part.rentals)
+    rentals_are_apart(alloc, part.rows.rentals)
 }
 
 /// Whether what the branch has is sound, as far as it alone can show it.
@@ -81,17 +82,8 @@ pub fn is_good(
 ) -> Result<bool, NoMemory>
     ensures { IfOk result (λ is. is ≡ is_good_part books.now branch row.now.last (rows_of part.now)) }
 {
-    let staff = books.staff.as_slice();
-    if are_numbered(part)
-        && are_termed(part)
-        && are_few(part)
-        && are_timely(row, part)
-        && have_places(books, part)
-        && have_people(staff, branch, part)
-        && have_payers(staff, branch, part)
-    {
-        are_held(alloc, part)
-    } else {
-        Ok(false)
+    if !has_good_rows(books, branch, row, part) {
+        return Ok(false);
     }
+    are_held(alloc, part)
 }

@@ -1,17 +1,20 @@
 //! One branch's shop, over its rows in order of number.
 
-ghost use Rattle.std.specs.Prelude.{◌≡◌, ◌&&◌, ◌++◌, [], ◌∷◌, ◌≤◌, true, nat_le, IfOk, map, length, option_map};
-ghost use Rattle.std.specs.List.{list_any, list_all, AllByRecursion};
+ghost use Rattle.std.specs.Prelude.{◌≡◌, ◌&&◌, [], ◌∷◌, true, IfOk, map};
+ghost use Rattle.std.specs.List.{list_all, AllByRecursion};
 ghost use Rattle.std.specs.Str.{bytes_eq};
-ghost use Rattle.shop_model.specs.Calendar.{IsMoment, is_by, seconds_of, moment_text};
+ghost use Rattle.shop_model.specs.Calendar.{IsMoment, seconds_of};
 ghost use Rattle.shop_model.specs.GoodShop.{is_within, returned_by, rental_by, are_apart};
 ghost use Rattle.shop_model.specs.Links.{are_different};
-ghost use Rattle.shop_types.specs.Seen.{seen_rental, seen_payment};
+ghost use Rattle.shop_types.specs.Seen.{seen_rental};
 ghost use Rattle.audit_rows.specs.Lists.{rises_from};
-ghost use Rattle.audit_rows.specs.Shops.{is_among, rental_key, open_keys, is_held_here};
+ghost use Rattle.audit_rows.specs.Shops.{rental_key, open_keys};
 
-use audit_rows::{CheckedCustomer, CheckedPayment, CheckedRental, Keyed, are_distinct};
-use shop_types::{CopyNo, CustomerNo, Moment, NoMemory, Rental, moment_texts_are_one_to_one};
+use audit_rows::books::CheckedCustomer;
+use audit_rows::{CheckedRow, Keyed, are_distinct};
+use shop_types::{
+    CopyNo, CustomerNo, Moment, NoMemory, Payment, Rental, moment_texts_are_one_to_one,
+};
 use std::alloc::Global;
 use std::cmp::Ordering;
 
@@ -38,36 +41,35 @@ fn is_returned_by(last: Option<Moment>, rented: Moment, returned: Option<Moment>
 }
 
 /// Whether every customer was added by the last moment.
-pub fn are_created_by(last: Option<Moment>, customers: &[CheckedCustomer]) -> bool
-    ensures { result ≡ list_all (λ row. is_within last row.created) customers.now }
+pub fn are_created_by(last: Option<Moment>, customers: &[CheckedRow<CheckedCustomer>]) -> bool
+    ensures { result ≡ list_all (λ row. is_within last row.it.created) customers.now }
 {
-    customers.iter().all(|row| is_within(last, row.created))
+    customers.iter().all(|row| is_within(last, row.it.created))
 }
 
 /// Whether every rental is in order, and by the last moment.
-pub fn are_rented_by(last: Option<Moment>, rentals: &[CheckedRental]) -> bool
-    ensures { result ≡ list_all (λ row. rental_by last (seen_rental row.rental)) rentals.now }
+pub fn are_rented_by(last: Option<Moment>, rentals: &[CheckedRow<Rental>]) -> bool
+    ensures { result ≡ list_all (λ row. rental_by last (seen_rental row.it)) rentals.now }
 {
     rentals.iter().all(|row| {
-        is_within(last, row.rental.rented)
-            && is_returned_by(last, row.rental.rented, row.rental.returned)
+        is_within(last, row.it.rented) && is_returned_by(last, row.it.rented, row.it.returned)
     })
 }
 
 /// Whether every payment was made by the last moment.
-pub fn are_paid_by(last: Option<Moment>, payments: &[CheckedPayment]) -> bool
-    ensures { result ≡ list_all (λ row. is_within last row.payment.paid) payments.now }
+pub fn are_paid_by(last: Option<Moment>, payments: &[CheckedRow<Payment>]) -> bool
+    ensures { result ≡ list_all (λ row. is_within last row.it.paid) payments.now }
 {
-    payments.iter().all(|row| is_within(last, row.payment.paid))
+    payments.iter().all(|row| is_within(last, row.it.paid))
 }
 
 /// Whether no rental begins before the one before it.
-pub fn rentals_rise(rentals: &[CheckedRental]) -> bool
-    ensures { result ≡ rises_from 0 (map (λ row. seconds_of row.rental.rented) rentals.now) }
+pub fn rentals_rise(rentals: &[CheckedRow<Rental>]) -> bool
+    ensures { result ≡ rises_from 0 (map (λ row. seconds_of row.it.rented) rentals.now) }
 {
     let mut last = 0;
     for row in rentals {
-        let seconds = row.rental.rented.seconds();
+        let seconds = row.it.rented.seconds();
         if seconds < last {
             return false;
         }
@@ -77,12 +79,12 @@ pub fn rentals_rise(rentals: &[CheckedRental]) -> bool
 }
 
 /// Whether no payment is made before the one before it.
-pub fn payments_rise(payments: &[CheckedPayment]) -> bool
-    ensures { result ≡ rises_from 0 (map (λ row. seconds_of row.payment.paid) payments.now) }
+pub fn payments_rise(payments: &[CheckedRow<Payment>]) -> bool
+    ensures { result ≡ rises_from 0 (map (λ row. seconds_of row.it.paid) payments.now) }
 {
     let mut last = 0;
     for row in payments {
-        let seconds = row.payment.paid.seconds();
+        let seconds = row.it.paid.seconds();
         if seconds < last {
             return false;
         }
@@ -125,14 +127,14 @@ fn key_of(rental: &Rental) -> RentalKey
     }
 }
 
-fn rental_keys(alloc: Global, rentals: &[CheckedRental]) -> Result<Vec<RentalKey>, NoMemory>
+fn rental_keys(alloc: Global, rentals: &[CheckedRow<Rental>]) -> Result<Vec<RentalKey>, NoMemory>
     ensures keys { IfOk result (λ v. map (λ row. row.copy ∷ row.customer ∷ row.rented) v.items
-        ≡ map (λ row. rental_key (seen_rental row.rental)) rentals.now) }
-    ensures moments { IfOk result (λ _. AllByRecursion (λ row. IsMoment row.rental.rented) rentals.now) }
+        ≡ map (λ row. rental_key (seen_rental row.it)) rentals.now) }
+    ensures moments { IfOk result (λ _. AllByRecursion (λ row. IsMoment row.it.rented) rentals.now) }
 {
     let mut keys = Vec::new(alloc);
     for row in rentals {
-        if keys.push(key_of(&row.rental)).is_err() {
+        if keys.push(key_of(&row.it)).is_err() {
             return Err(NoMemory);
         }
     }
@@ -140,8 +142,8 @@ fn rental_keys(alloc: Global, rentals: &[CheckedRental]) -> Result<Vec<RentalKey
 }
 
 /// Whether no two rentals share moment, copy and customer.
-pub fn rentals_are_apart(alloc: Global, rentals: &[CheckedRental]) -> Result<bool, NoMemory>
-    ensures { IfOk result (λ is. is ≡ are_apart (map (λ row. seen_rental row.rental) rentals.now)) }
+pub fn rentals_are_apart(alloc: Global, rentals: &[CheckedRow<Rental>]) -> Result<bool, NoMemory>
+    ensures { IfOk result (λ is. is ≡ are_apart (map (λ row. seen_rental row.it) rentals.now)) }
 {
     moment_texts_are_one_to_one();
     let mut keys = rental_keys(alloc, rentals)?;
@@ -162,19 +164,14 @@ impl Keyed for OpenKey {
     }
 }
 
-fn open_copies(alloc: Global, rentals: &[CheckedRental]) -> Result<Vec<OpenKey>, NoMemory>
+fn open_copies(alloc: Global, rentals: &[CheckedRow<Rental>]) -> Result<Vec<OpenKey>, NoMemory>
     ensures { IfOk result (λ v. map (λ row. row.copy ∷ []) v.items
-        ≡ open_keys (map (λ row. seen_rental row.rental) rentals.now)) }
+        ≡ open_keys (map (λ row. seen_rental row.it) rentals.now)) }
 {
     let mut keys = Vec::new(alloc);
     for row in rentals {
-        if row.rental.returned.is_none() {
-            if keys
-                .push(OpenKey {
-                    copy: row.rental.copy,
-                })
-                .is_err()
-            {
+        if row.it.returned.is_none() {
+            if keys.push(OpenKey { copy: row.it.copy }).is_err() {
                 return Err(NoMemory);
             }
         }
@@ -183,9 +180,9 @@ fn open_copies(alloc: Global, rentals: &[CheckedRental]) -> Result<Vec<OpenKey>,
 }
 
 /// Whether no copy has two open rentals.
-pub fn are_held_once(alloc: Global, rentals: &[CheckedRental]) -> Result<bool, NoMemory>
+pub fn are_held_once(alloc: Global, rentals: &[CheckedRow<Rental>]) -> Result<bool, NoMemory>
     ensures { IfOk result (λ is. is
-        ≡ are_different bytes_eq (open_keys (map (λ row. seen_rental row.rental) rentals.now))) }
+        ≡ are_different bytes_eq (open_keys (map (λ row. seen_rental row.it) rentals.now))) }
 {
     let mut keys = open_copies(alloc, rentals)?;
     Ok(are_distinct(&mut keys))

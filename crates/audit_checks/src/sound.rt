@@ -5,38 +5,25 @@ ghost use Rattle.std.specs.List.{list_all};
 ghost use Rattle.shop_model.specs.Values.{Rules};
 ghost use Rattle.shop_model.specs.Books.{Books, Consignment};
 ghost use Rattle.shop_model.specs.Sound.{IsSound, widest};
-ghost use Rattle.audit_rows.specs.Lists.{front_of, back_of, counts_from};
 ghost use Rattle.audit_rows.specs.Marked.{AreInCustody};
-ghost use Rattle.audit_rows.specs.Seen.{seen_copy, seen_line, seen_header, seen_placed};
+ghost use Rattle.audit_rows.specs.Seen.{seen_copy, seen_line};
 ghost use Rattle.audit_rows.specs.Shops.{is_among};
+ghost use Rattle.audit_rows.specs.Tables.{OfEach, checked_rows, lent_rows};
 ghost use Rattle.audit_checks.specs.Consignments.{are_settled, pairs_follow};
 ghost use Rattle.audit_checks.specs.Checked.{are_good_consignments, AreChecked};
 ghost use Rattle.audit_checks.specs.Catalogues.{is_good_catalogue};
-ghost use Rattle.audit_checks.specs.Parts.{rows_of, branch_rows, is_good_part, are_good_from, is_owned, are_rows_owned, are_others_owned, are_consignments_owned};
+ghost use Rattle.audit_checks.specs.Parts.{are_good_from, is_owned, are_others_owned, are_consignments_owned};
 ghost use Rattle.audit_rows.specs.Ordered.{AreOrdered, AreConsignmentsOf, HaveOrderedRows};
 
 use crate::branches::{Rest, take_branch};
 use crate::catalogue::is_good_catalogue;
 use crate::consignments::{are_settled, pairs_follow, places_count};
-use crate::links::is_among;
 use crate::part::is_good;
-use audit_rows::{CheckedHeader, OrderedBooks, Owned, are_in_custody};
+use audit_rows::{CheckedHeader, OrderedBooks, are_in_custody, have_owners, is_among};
 use shop_types::NoMemory;
 use std::alloc::Global;
 
 // ---- branch columns
-
-/// Whether every row is of one of so many branches.
-fn have_owners<T: Owned>(rows: &[T], branches: usize) -> bool
-    ensures { result ≡ list_all (λ row. is_among branches (T.owner row)) rows.now }
-{
-    for row in rows {
-        if !is_among(branches, row.owner()) {
-            return false;
-        }
-    }
-    true
-}
 
 /// Whether every consignment is to one of so many branches.
 fn have_addressees(headers: &[CheckedHeader], branches: usize) -> bool
@@ -47,24 +34,7 @@ fn have_addressees(headers: &[CheckedHeader], branches: usize) -> bool
         .all(|row| is_among(branches, row.addressee.get()))
 }
 
-/// Whether the branches of customers, copies, rentals, payments and terms are there.
-fn are_rows_owned(books: &OrderedBooks) -> bool
-    ensures { result ≡ are_rows_owned books.now }
-{
-    let branches = books.branches.len();
-    let customers = books.customers.as_slice();
-    let copies = books.copies.as_slice();
-    let rentals = books.rentals.as_slice();
-    let payments = books.payments.as_slice();
-    let terms = books.terms.as_slice();
-    have_owners(customers, branches)
-        && have_owners(copies, branches)
-        && have_owners(rentals, branches)
-        && have_owners(payments, branches)
-        && have_owners(terms, branches)
-}
-
-/// Whether those of lots and kept commands are there.
+/// Whether the branches of lots and kept commands are there.
 fn are_others_owned(books: &OrderedBooks) -> bool
     ensures { result ≡ are_others_owned books.now }
 {
@@ -87,28 +57,22 @@ fn are_consignments_owned(books: &OrderedBooks) -> bool
 fn are_owned(books: &OrderedBooks) -> bool
     ensures { result ≡ is_owned books.now }
 {
-    are_rows_owned(books) && are_others_owned(books) && are_consignments_owned(books)
+    books.numbered().have_owners(books.branches.len())
+        && are_others_owned(books)
+        && are_consignments_owned(books)
 }
 
 // ---- one branch after another
 
 /// All rows of branches.
 fn whole(books: &OrderedBooks) -> Rest<'_>
-    ensures customers { result.customers.now ≡ books.now.customers.items }
-    ensures copies { result.copies.now ≡ books.now.copies.items }
-    ensures rentals { result.rentals.now ≡ books.now.rentals.items }
-    ensures terms { result.terms.now ≡ books.now.terms.items }
-    ensures payments { result.payments.now ≡ books.now.payments.items }
+    ensures rows { OfEach (λ t. lent_rows result.rows t ≡ checked_rows books.now t) }
     ensures lots { result.lots.now ≡ books.now.lots.items }
     ensures kept { result.kept.now ≡ books.now.kept.items }
     ensures headers { result.headers.now ≡ books.now.headers.items }
 {
     Rest {
-        customers: books.customers.as_slice(),
-        copies: books.copies.as_slice(),
-        rentals: books.rentals.as_slice(),
-        terms: books.terms.as_slice(),
-        payments: books.payments.as_slice(),
+        rows: books.numbered(),
         lots: books.lots.as_slice(),
         kept: books.kept.as_slice(),
         headers: books.headers.as_slice(),

@@ -1,8 +1,20 @@
 -- Tests of lists of rows, and of what the rows are of.
-use Rattle.shop_types.proofs.Common.{◌≡◌, ◌&&◌, ◌||◌, ◌+◌, ◌-◌, ◌≤◌, ◌==◌, ℕ, List, [], ◌∷◌, map, not, Bool, true, false, cond, refl, sym, ap, subst, ◌∙◌, arith, true≢false, nat_le, list_any, list_all, nat_tests, at, IsCounted, are_different, same_if, equal_test}
+use Rattle.shop_types.proofs.Common.{◌≡◌, ◌&&◌, ◌||◌, ◌+◌, ◌-◌, ◌≤◌, ◌==◌, ℕ, List, [], ◌∷◌, map, not, Bool, true, false, cond, refl, sym, ap, subst, ◌∙◌, arith, true≢false, nat_le, list_any, list_all, AllByRecursion, nat_tests, at, IsCounted, are_different, same_if, equal_test}
 use Rattle.audit_rows.proofs.Keys.{both}
 use Rattle.audit_rows.proofs.Maps.{all-map}
 use Rattle.audit_rows.specs.Lists.{counts_from}
+
+-- the parts of a test that is one and another, and another, ..
+abbrev pub all_of : Bool → List Bool → Bool
+all_of a [] = a
+all_of a (b ∷ bs) = all_of (a && b) bs
+
+pub all_parts : (a : Bool) (bs : List Bool) → all_of a bs ≡ true → (a ≡ true) × AllByRecursion (λ b. b ≡ true) bs
+all_parts a [] h = (h, tt)
+all_parts a (b ∷ bs) h =
+    let more = all_parts (a && b) bs h in
+    let here = both a b more.0 in
+    (here.0, (here.1, more.1))
 
 pub all_congr : {X : Type 0} (p q : X → Bool) → ((x : X) → p x ≡ q x) → (xs : List X) → list_all p xs ≡ list_all q xs
 all_congr p q h [] = refl

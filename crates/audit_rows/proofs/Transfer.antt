@@ -1,8 +1,10 @@
 -- Books that are sound stay so in the order of their keys.
-use Rattle.shop_types.proofs.Common.{◌≡◌, ◌&&◌, ◌+◌, ◌≤◌, ◌==◌, ℕ, List, [], ◌∷◌, map, filter, length, Bool, true, false, cond, refl, sym, ap, subst, ◌∙◌, arith, true≢false, IsPermutation, Ordering, bytes_eq, nat_cmp, list_all, flat_map, nat_cmp_total, on_total, nat_eq_equiv, nat_tests, IsPermutation-map, length_permutation, list_any-IsPermutation, Moment, Row, Owned, is_of, owned_by, IsCounted, AreNumbered, total, Text, Branch, Cast, Rules, Here, Scrapped, Kept, OfficeKept, Catalogue, Shop, IsGoodShop, has_row, IsLinkedShop, IsGoodCatalogue, Books, BookCopy, Mark, Line, UnderWay, Missing, Consignment, shop_of, head, unmarked, as_arrival, as_parcel, HasOneHolder, HasOwners, HasTerms, IsSound, is_made_as, is_origin, is_settled, one, copy_is, lines_in, all_lines, AreRowsNumbered, AreRowsOwned, Table, Customers, CopyRows, Rentals, TermRows, Payments, rows_of}
+use Rattle.shop_types.proofs.Common.{◌≡◌, ◌&&◌, ◌+◌, ◌≤◌, ◌==◌, ℕ, List, [], ◌∷◌, map, filter, length, Bool, true, false, cond, refl, sym, ap, subst, ◌∙◌, arith, true≢false, IsPermutation, Ordering, bytes_eq, nat_cmp, list_all, flat_map, nat_cmp_total, on_total, nat_eq_equiv, nat_tests, IsPermutation-map, length_permutation, list_any-IsPermutation, Moment, Row, Owned, owned_by, IsCounted, AreNumbered, total, Text, Branch, Cast, Rules, Here, Scrapped, Kept, OfficeKept, Catalogue, Shop, IsGoodShop, has_row, IsLinkedShop, IsGoodCatalogue, Books, BookCopy, Mark, Line, UnderWay, Missing, Consignment, shop_of, head, as_arrival, as_parcel, HasOneHolder, HasOwners, HasTerms, IsSound, is_made_as, is_origin, is_settled, one, copy_is, lines_in, all_lines, AreRowsNumbered, Table, CopyRows, RowOf, rows_of}
+use Rattle.shop_model.specs.Books.{RowsOf}
 use Rattle.sqlite_keyed.proofs.ListLemmas.{along_permutation, IsPermutation-filter}
 use Rattle.sqlite_keyed.proofs.SortLemmas.{sorted_unique}
 use Rattle.audit_rows.specs.Canons.{IsCanonOf, office_key}
+use Rattle.audit_rows.specs.Tables.{shop_with}
 use Rattle.audit_rows.proofs.Keys.{both, different_along, different-map, bytes_eq_symm}
 use Rattle.audit_rows.proofs.Tests.{all_congr}
 use Rattle.audit_rows.proofs.Canon.{counted_ascends, same_branch, same_items}
@@ -135,18 +137,12 @@ module _ (c b : Books) (canon : IsCanonOf c b) (rules : Rules) (sound : IsSound 
 
   -- the shop of a branch but for the order of its keys and lots, and the last moment
   shop_same : (n : ℕ) → head (owned_by n c.lasts) ≡ head (owned_by n b.lasts) → shop_of n c ≡ record (shop_of n b) { lots = owned_by n c.lots; kept = owned_by n c.kept }
-  shop_same n last = λ i. record {
-    customers = same_items n c.customers b.customers canon.customers_climb canon.customers (sound.numbers.rows Customers n) i;
-    copies = map unmarked (same_items n c.copies b.copies canon.copies_climb canon.copies (sound.numbers.rows CopyRows n) i);
-    rentals = same_items n c.rentals b.rentals canon.rentals_climb canon.rentals (sound.numbers.rows Rentals n) i;
-    terms = same_items n c.terms b.terms canon.terms_climb canon.terms (sound.numbers.rows TermRows n) i;
-    payments = same_items n c.payments b.payments canon.payments_climb canon.payments (sound.numbers.rows Payments n) i;
-    lots = owned_by n c.lots;
-    arrivals = map as_arrival (filter (λ (it : Consignment). it.addressee == n) (consignments_same i));
-    sent = map as_parcel (filter (λ (it : Consignment). it.source == n) (consignments_same i));
-    kept = owned_by n c.kept;
-    last = last i;
-  }
+  shop_same n last = λ i.
+      record (shop_with (λ t. same_items n (rows_of c t) (rows_of b t) (canon.climb t) (canon.rows t) (sound.numbers.rows t n) i) (shop_of n c)) {
+        arrivals = map as_arrival (filter (λ (it : Consignment). it.addressee == n) (consignments_same i));
+        sent = map as_parcel (filter (λ (it : Consignment). it.source == n) (consignments_same i));
+        last = last i;
+      }
 
   no_owner : (p : ℕ → Bool) (n : ℕ) → p n ≡ false → (rows : List (Owned Moment)) → list_all (λ (row : Owned Moment). p row.owner) rows ≡ true → owned_by n rows ≡ []
   no_owner p n h [] all = refl
@@ -174,24 +170,17 @@ module _ (c b : Books) (canon : IsCanonOf c b) (rules : Rules) (sound : IsSound 
   branches_same = ap (λ (k : Catalogue). k.branches) canon.shared
 
   rows_same : (w : Row BookCopy → ℕ) → total w c.copies ≡ total w b.copies
-  rows_same w = sym (total_along w b.copies c.copies canon.copies)
+  rows_same w = sym (total_along w b.copies c.copies (canon.rows CopyRows))
 
   lines_same : all_lines c ≡ all_lines b
   lines_same = ap (flat_map (λ (it : Consignment). it.lines)) consignments_same
 
   made_same : (film : ℕ) (mark : Mark) → is_made_as c.copies film mark ≡ is_made_as b.copies film mark
-  made_same film mark = sym (list_any-IsPermutation (λ (row : Row BookCopy). is_origin row && row.it.film == film && row.it.mark.branch == mark.branch && row.it.mark.copy == mark.copy) b.copies c.copies canon.copies)
-
-  rows_owned : (t : Table) → AreRowsOwned b.catalogue.branches t (rows_of c t)
-  rows_owned Customers = sym (all_along _ b.customers c.customers canon.customers) ∙ sound.owners.rows Customers
-  rows_owned CopyRows = sym (all_along _ b.copies c.copies canon.copies) ∙ sound.owners.rows CopyRows
-  rows_owned Rentals = sym (all_along _ b.rentals c.rentals canon.rentals) ∙ sound.owners.rows Rentals
-  rows_owned TermRows = sym (all_along _ b.terms c.terms canon.terms) ∙ sound.owners.rows TermRows
-  rows_owned Payments = sym (all_along _ b.payments c.payments canon.payments) ∙ sound.owners.rows Payments
+  made_same film mark = sym (list_any-IsPermutation (λ (row : Row BookCopy). is_origin row && row.it.film == film && row.it.mark.branch == mark.branch && row.it.mark.copy == mark.copy) b.copies c.copies (canon.rows CopyRows))
 
   owners : HasOwners b.catalogue.branches c
   owners = record {
-    rows = rows_owned;
+    rows = λ t. sym (all_along _ (rows_of b t) (rows_of c t) (canon.rows t)) ∙ sound.owners.rows t;
     lots = sym (all_along _ b.lots c.lots canon.lots) ∙ sound.owners.lots;
     kept = sym (all_along _ b.kept c.kept canon.kept) ∙ sound.owners.kept;
     lasts = canon.owners;
@@ -199,15 +188,10 @@ module _ (c b : Books) (canon : IsCanonOf c b) (rules : Rules) (sound : IsSound 
     addressees = ap (list_all (λ (it : Consignment). has_row b.catalogue.branches it.addressee)) consignments_same ∙ sound.owners.addressees;
   }
 
-  counted : {A : Type 0} (n : ℕ) (xs ys : List (Row A)) → filter (is_of n) xs ≡ filter (is_of n) ys → AreNumbered (is_of n) (λ (row : Row A). row.number) ys → AreNumbered (is_of n) (λ (row : Row A). row.number) xs
-  counted {A} n xs ys e h = subst (λ (rows : List (Row A)). IsCounted 1 (map (λ (row : Row A). row.number) rows)) (sym e) h
-
   rows_numbered : (t : Table) → AreRowsNumbered t (rows_of c t)
-  rows_numbered Customers n = counted n c.customers b.customers (same_branch n c.customers b.customers canon.customers_climb canon.customers (sound.numbers.rows Customers n)) (sound.numbers.rows Customers n)
-  rows_numbered CopyRows n = counted n c.copies b.copies (same_branch n c.copies b.copies canon.copies_climb canon.copies (sound.numbers.rows CopyRows n)) (sound.numbers.rows CopyRows n)
-  rows_numbered Rentals n = counted n c.rentals b.rentals (same_branch n c.rentals b.rentals canon.rentals_climb canon.rentals (sound.numbers.rows Rentals n)) (sound.numbers.rows Rentals n)
-  rows_numbered TermRows n = counted n c.terms b.terms (same_branch n c.terms b.terms canon.terms_climb canon.terms (sound.numbers.rows TermRows n)) (sound.numbers.rows TermRows n)
-  rows_numbered Payments n = counted n c.payments b.payments (same_branch n c.payments b.payments canon.payments_climb canon.payments (sound.numbers.rows Payments n)) (sound.numbers.rows Payments n)
+  rows_numbered t n =
+      subst (λ (rows : RowsOf t). IsCounted 1 (map (λ (row : Row (RowOf t)). row.number) rows)) (sym (same_branch n (rows_of c t) (rows_of b t) (canon.climb t) (canon.rows t) (sound.numbers.rows t n)))
+      (sound.numbers.rows t n)
 
   -- sound books are sound in the order of their keys, too
   pub stays_sound : IsSound rules c
@@ -224,7 +208,7 @@ module _ (c b : Books) (canon : IsCanonOf c b) (rules : Rules) (sound : IsSound 
         ∙ (λ i. sym (rows_same (λ row. one (copy_is row.it.state Here && test row.it.mark))) i + lines_in UnderWay test (sym lines_same i)
         + (sym (rows_same (λ row. one (copy_is row.it.state Scrapped && test row.it.mark))) i + lines_in Missing test (sym lines_same i)));
     origins = record {
-      rows = all_congr _ _ (λ row. made_same row.it.film row.it.mark) c.copies ∙ sym (all_along (λ (row : Row BookCopy). is_made_as b.copies row.it.film row.it.mark) b.copies c.copies canon.copies) ∙ sound.origins.rows;
+      rows = all_congr _ _ (λ row. made_same row.it.film row.it.mark) c.copies ∙ sym (all_along (λ (row : Row BookCopy). is_made_as b.copies row.it.film row.it.mark) b.copies c.copies (canon.rows CopyRows)) ∙ sound.origins.rows;
       lines = all_congr _ _ (λ (line : Line). made_same line.film line.mark) (all_lines c) ∙ ap (list_all (λ (line : Line). is_made_as b.copies line.film line.mark)) lines_same ∙ sound.origins.lines;
     };
     settled = ap (list_all is_settled) consignments_same ∙ sound.settled;

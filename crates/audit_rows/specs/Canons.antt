@@ -6,7 +6,7 @@ use Rattle.std.specs.Ordering.{nat_cmp}
 use Rattle.shop_model.specs.Calendar.{Moment}
 use Rattle.shop_model.specs.Rows.{Row, Owned, owned_by}
 use Rattle.shop_model.specs.Shop.{OfficeKept}
-use Rattle.shop_model.specs.Books.{Books, Consignment, head}
+use Rattle.shop_model.specs.Books.{Books, Consignment, Table, rows_of, head}
 use Rattle.shop_model.specs.Links.{has_row, are_different}
 use Rattle.audit_rows.specs.Lists.{Key, climbs}
 
@@ -23,16 +23,8 @@ pub record IsCanonOf (c b : Books) : Type 0 where
   pub shared : c.catalogue ≡ record b.catalogue { kept = c.catalogue.kept; casts = c.catalogue.casts }
   pub office_kept : IsPermutation (map office_key b.catalogue.kept) (map office_key c.catalogue.kept)
   pub casts : IsPermutation b.catalogue.casts c.catalogue.casts
-  pub customers : IsPermutation b.customers c.customers
-  pub customers_climb : climbs (map row_key c.customers) ≡ true
-  pub copies : IsPermutation b.copies c.copies
-  pub copies_climb : climbs (map row_key c.copies) ≡ true
-  pub rentals : IsPermutation b.rentals c.rentals
-  pub rentals_climb : climbs (map row_key c.rentals) ≡ true
-  pub terms : IsPermutation b.terms c.terms
-  pub terms_climb : climbs (map row_key c.terms) ≡ true
-  pub payments : IsPermutation b.payments c.payments
-  pub payments_climb : climbs (map row_key c.payments) ≡ true
+  pub rows : (t : Table) → IsPermutation (rows_of b t) (rows_of c t)
+  pub climb : (t : Table) → climbs (map row_key (rows_of c t)) ≡ true
   pub lots : IsPermutation b.lots c.lots
   pub kept : IsPermutation b.kept c.kept
   pub consignments : IsPermutation b.consignments c.consignments

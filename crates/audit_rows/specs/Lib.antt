@@ -1,4 +1,6 @@
 pub mod Lists
+pub mod States
+pub mod Tables
 pub mod Seen
 pub mod Shops
 pub mod Canons

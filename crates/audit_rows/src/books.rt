@@ -1,16 +1,42 @@
 //! The rows of books in the order in which they are checked.
 
-ghost use Rattle.std.specs.Prelude.{◌≡◌, ◌↔◌, ◌&&◌, [], ◌∷◌, IsTrue, map};
-ghost use Rattle.audit_rows.specs.Lists.{climbs};
-ghost use Rattle.audit_rows.specs.Ordered.{AreOrdered, are_shared_ordered, are_callers_ordered, is_stock_ordered, are_consignments_ordered, are_deals_ordered, are_terms_ordered};
+ghost use Rattle.std.specs.Prelude.{◌≡◌, ◌↔◌, ◌&&◌, IsTrue, map};
+ghost use Rattle.std.specs.List.{list_all};
+ghost use Rattle.audit_rows.specs.Lists.{climbs, counts_from, front_of, back_of};
+ghost use Rattle.audit_rows.specs.Ordered.{AreOrdered, are_shared_ordered, are_rows_ordered, are_others_ordered, are_consignments_ordered, is_ordered};
+ghost use Rattle.audit_rows.specs.Shops.{is_among};
+ghost use Rattle.audit_rows.specs.Tables.{OfEach, all_tables, checked_rows, lent_rows, is_in};
 
-use crate::order::climbs;
+use crate::groups::{have_owners, split_branch};
+use crate::order::{are_counted, climbs};
 use crate::rows::{
-    CheckedBranch, CheckedCast, CheckedCity, CheckedCopy, CheckedCustomer, CheckedFilm,
-    CheckedHeader, CheckedKept, CheckedLine, CheckedLot, CheckedPayment, CheckedRental,
-    CheckedStaff, CheckedTerms,
+    CheckedBranch, CheckedCast, CheckedCity, CheckedFilm, CheckedHeader, CheckedKept, CheckedLine,
+    CheckedLot, CheckedRow, CheckedStaff,
 };
-use shop_types::{Key, T45, Token};
+use shop_types::{CityNo, CopyState, FilmNo, Key, Mark, Moment, Payment, Rental, T45, Token};
+
+// ---- what is checked of rows of branches
+
+/// Of a customer.
+#[derive(Clone, Copy, Drop)]
+pub struct CheckedCustomer {
+    pub city: CityNo,
+    pub created: Moment,
+}
+
+/// Of a copy.
+#[derive(Clone, Copy, Drop)]
+pub struct CheckedCopy {
+    pub film: FilmNo,
+    pub state: CopyState,
+    pub mark: Mark,
+}
+
+/// Of the terms of a rental nothing: they are there, under the rental's number.
+#[derive(Clone, Copy, Drop)]
+pub struct CheckedTerms;
+
+// ---- all rows
 
 /// The rows of books: shared rows in the order of their numbers, which are their places, and all others in that of
 /// their keys. Of each row there are the columns that soundness asks about.
@@ -29,12 +55,12 @@ pub struct OrderedBooks {
     pub casts: Vec<CheckedCast>,
     pub branches: Vec<CheckedBranch>,
     pub staff: Vec<CheckedStaff>,
-    pub customers: Vec<CheckedCustomer>,
-    pub copies: Vec<CheckedCopy>,
-    pub rentals: Vec<CheckedRental>,
+    pub customers: Vec<CheckedRow<CheckedCustomer>>,
+    pub copies: Vec<CheckedRow<CheckedCopy>>,
+    pub rentals: Vec<CheckedRow<Rental>>,
     /// The terms of rentals.
-    pub terms: Vec<CheckedTerms>,
-    pub payments: Vec<CheckedPayment>,
+    pub terms: Vec<CheckedRow<CheckedTerms>>,
+    pub payments: Vec<CheckedRow<Payment>>,
     pub lots: Vec<CheckedLot>,
     pub kept: Vec<CheckedKept>,
     /// Consignments by sender, addressee and number.
@@ -42,6 +68,98 @@ pub struct OrderedBooks {
     /// Their lines by sender, addressee, number and line.
     pub lines: Vec<CheckedLine>,
 }
+
+// ---- rows of branches
+
+/// The rows of all branches, or of some, in those tables whose rows have a branch and a number.
+#[derive(Clone, Copy)]
+pub struct NumberedRows<'a> {
+    pub customers: &'a [CheckedRow<CheckedCustomer>],
+    pub copies: &'a [CheckedRow<CheckedCopy>],
+    pub rentals: &'a [CheckedRow<Rental>],
+    pub terms: &'a [CheckedRow<CheckedTerms>],
+    pub payments: &'a [CheckedRow<Payment>],
+}
+
+impl OrderedBooks {
+    /// The rows of all branches.
+    pub fn numbered(&self) -> NumberedRows<'_>
+        ensures { OfEach (λ t. lent_rows result t ≡ checked_rows self.now t) }
+    {
+        NumberedRows {
+            customers: self.customers.as_slice(),
+            copies: self.copies.as_slice(),
+            rentals: self.rentals.as_slice(),
+            terms: self.terms.as_slice(),
+            payments: self.payments.as_slice(),
+        }
+    }
+}
+
+impl<'a> NumberedRows<'a> {
+    /// Whether each table's rows stand in the order of their keys.
+    fn are_ordered(&self) -> bool
+        ensures { result ≡ are_rows_ordered (lent_rows self.now) }
+    {
+        climbs(self.customers)
+            && climbs(self.copies)
+            && climbs(self.rentals)
+            && climbs(self.terms)
+            && climbs(self.payments)
+    }
+
+    /// Whether each table's rows are numbered 1, 2, ..
+    pub fn are_counted(&self) -> bool
+        ensures { result ≡ list_all (λ t. counts_from 1 (map (λ row. row.number) (lent_rows self.now t))) all_tables }
+    {
+        are_counted(self.customers)
+            && are_counted(self.copies)
+            && are_counted(self.rentals)
+            && are_counted(self.terms)
+            && are_counted(self.payments)
+    }
+
+    /// Whether every row is of one of so many branches.
+    pub fn have_owners(&self, branches: usize) -> bool
+        ensures { result
+            ≡ list_all (λ t. list_all (λ row. is_among branches row.branch) (lent_rows self.now t)) all_tables }
+    {
+        have_owners(self.customers, branches)
+            && have_owners(self.copies, branches)
+            && have_owners(self.rentals, branches)
+            && have_owners(self.terms, branches)
+            && have_owners(self.payments, branches)
+    }
+
+    /// The rows in front that are the branch's, and all behind them.
+    pub fn split(self, branch: u32) -> (NumberedRows<'a>, NumberedRows<'a>)
+        ensures front { OfEach (λ t. lent_rows result.0 t ≡ front_of (is_in branch) (lent_rows self.entry t)) }
+        ensures back { OfEach (λ t. lent_rows result.1 t ≡ back_of (is_in branch) (lent_rows self.entry t)) }
+    {
+        let (customers, more_customers) = split_branch(self.customers, branch);
+        let (copies, more_copies) = split_branch(self.copies, branch);
+        let (rentals, more_rentals) = split_branch(self.rentals, branch);
+        let (terms, more_terms) = split_branch(self.terms, branch);
+        let (payments, more_payments) = split_branch(self.payments, branch);
+        let front = NumberedRows {
+            customers,
+            copies,
+            rentals,
+            terms,
+            payments,
+        };
+        let back = NumberedRows {
+            customers: more_customers,
+            copies: more_copies,
+            rentals: more_rentals,
+            terms: more_terms,
+            payments: more_payments,
+        };
+        (front, back)
+    }
+}
+
+// ---- order
 
 /// Whether the keys of casts, and of what head office keeps, climb.
 fn are_shared_ordered(books: &OrderedBooks) -> bool
@@ -52,22 +170,13 @@ fn are_shared_ordered(books: &OrderedBooks) -> bool
     climbs(keys) && climbs(casts)
 }
 
-/// Whether those of customers and kept commands do.
-fn are_callers_ordered(books: &OrderedBooks) -> bool
-    ensures { result ≡ are_callers_ordered books.now }
+/// Whether those of lots and kept commands do.
+fn are_others_ordered(books: &OrderedBooks) -> bool
+    ensures { result ≡ are_others_ordered books.now }
 {
-    let customers = books.customers.as_slice();
-    let kept = books.kept.as_slice();
-    climbs(customers) && climbs(kept)
-}
-
-/// Whether those of copies and lots do.
-fn is_stock_ordered(books: &OrderedBooks) -> bool
-    ensures { result ≡ is_stock_ordered books.now }
-{
-    let copies = books.copies.as_slice();
     let lots = books.lots.as_slice();
-    climbs(copies) && climbs(lots)
+    let kept = books.kept.as_slice();
+    climbs(lots) && climbs(kept)
 }
 
 /// Whether those of consignments and their lines do.
@@ -79,30 +188,19 @@ fn are_consignments_ordered(books: &OrderedBooks) -> bool
     climbs(headers) && climbs(lines)
 }
 
-/// Whether those of rentals and payments do.
-fn are_deals_ordered(books: &OrderedBooks) -> bool
-    ensures { result ≡ are_deals_ordered books.now }
+/// Whether those of all rows do.
+fn is_ordered(books: &OrderedBooks) -> bool
+    ensures { result ≡ is_ordered books.now }
 {
-    let rentals = books.rentals.as_slice();
-    let payments = books.payments.as_slice();
-    climbs(rentals) && climbs(payments)
-}
-
-/// Whether those of the terms of rentals do.
-fn are_terms_ordered(books: &OrderedBooks) -> bool
-    ensures { result ≡ are_terms_ordered books.now }
-{
-    climbs(books.terms.as_slice())
+    are_shared_ordered(books)
+        && books.numbered().are_ordered()
+        && are_others_ordered(books)
+        && are_consignments_ordered(books)
 }
 
 /// Whether the rows of each table stand in the order of their keys, of which no two are the same.
 pub fn are_ordered(books: &OrderedBooks) -> bool
     ensures { IsTrue result ↔ AreOrdered books.now }
 {
-    are_shared_ordered(books)
-        && are_callers_ordered(books)
-        && is_stock_ordered(books)
-        && are_consignments_ordered(books)
-        && are_deals_ordered(books)
-        && are_terms_ordered(books)
+    is_ordered(books)
 }

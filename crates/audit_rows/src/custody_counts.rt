@@ -6,8 +6,9 @@ ghost use Rattle.audit_rows.specs.Seen.{seen_copy, seen_line};
 ghost use Rattle.shop_types.specs.Seen.{seen_state, seen_line_state};
 ghost use Rattle.audit_rows.specs.Marked.{any_mark};
 
+use crate::books::CheckedCopy;
 use crate::places::is_origin;
-use crate::rows::{CheckedCopy, CheckedLine};
+use crate::rows::{CheckedLine, CheckedRow};
 use shop_types::{CopyState, LineState};
 
 fn same_state(state: CopyState, wanted: CopyState) -> bool
@@ -33,7 +34,7 @@ fn same_line_state(state: LineState, wanted: LineState) -> bool
 }
 
 /// How many marks were made.
-pub fn copies_made(copies: &[CheckedCopy]) -> u64
+pub fn copies_made(copies: &[CheckedRow<CheckedCopy>]) -> u64
     ensures counted { result ≡ rows_made any_mark (map seen_copy copies.now) }
     ensures fits { result ≤ length copies.now }
 {
@@ -47,13 +48,13 @@ pub fn copies_made(copies: &[CheckedCopy]) -> u64
 }
 
 /// How many copies are in that state.
-pub fn copies_under(state: CopyState, copies: &[CheckedCopy]) -> u64
+pub fn copies_under(state: CopyState, copies: &[CheckedRow<CheckedCopy>]) -> u64
     ensures counted { result ≡ rows_in (seen_state state) any_mark (map seen_copy copies.now) }
     ensures fits { result ≤ length copies.now }
 {
     let mut found = 0;
     for row in copies {
-        if same_state(row.state, state) {
+        if same_state(row.it.state, state) {
             found += 1;
         }
     }

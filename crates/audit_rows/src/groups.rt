@@ -1,8 +1,10 @@
 //! Rows of a branch, and rows of one group, which stand together where rows are in order.
 
-ghost use Rattle.std.specs.Prelude.{◌≡◌, ℕ, List};
+ghost use Rattle.std.specs.Prelude.{◌≡◌, ◌==◌, ℕ, List};
+ghost use Rattle.std.specs.List.{list_all};
 ghost use Rattle.std.specs.Str.{bytes_eq};
 ghost use Rattle.audit_rows.specs.Lists.{front_of, back_of};
+ghost use Rattle.audit_rows.specs.Shops.{is_among};
 
 /// A row of a branch.
 pub trait Owned: Sized + Drop {
@@ -11,6 +13,38 @@ pub trait Owned: Sized + Drop {
     /// Its branch.
     fn owner(&self) -> u32
         ensures { result ≡ owner self.now };
+}
+
+/// Whether the number is that of one of so many rows.
+pub fn is_among(count: usize, number: u32) -> bool
+    ensures { result ≡ is_among count number }
+{
+    1 <= number && number as usize <= count
+}
+
+/// Whether every row is of one of so many branches.
+pub fn have_owners<T: Owned>(rows: &[T], branches: usize) -> bool
+    ensures { result ≡ list_all (λ row. is_among branches (T.owner row)) rows.now }
+{
+    for row in rows {
+        if !is_among(branches, row.owner()) {
+            return false;
+        }
+    }
+    true
+}
+
+/// The rows in front that are the branch's, and all behind them.
+pub fn split_branch<T: Owned>(rows: &[T], branch: u32) -> (&[T], &[T])
+    ensures front { result.0.now ≡ front_of (λ row. T.owner row == branch) rows.now }
+    ensures back { result.1.now ≡ back_of (λ row. T.owner row == branch) rows.now }
+{
+    for (i, row) in rows.iter().enumerate() {
+        if row.owner() != branch {
+            return rows.split_at(i);
+        }
+    }
+    rows.split_at(rows.len())
 }
 
 /// A row of a group: the first columns of its key.

@@ -1,7 +1,7 @@
 //! Rows of books in the order of their keys, custody, and what books in that order tell of others.
 #![tactic(auto)]
 
-mod books;
+pub mod books;
 mod custody_counts;
 mod groups;
 mod join;
@@ -10,15 +10,14 @@ mod order;
 mod places;
 mod rows;
 
-pub use books::{OrderedBooks, are_ordered};
+pub use books::{NumberedRows, OrderedBooks, are_ordered};
 pub use custody_counts::{copies_made, copies_under, lines_under};
-pub use groups::{Grouped, Owned, split_group};
+pub use groups::{Grouped, Owned, have_owners, is_among, split_branch, split_group};
 pub use join::are_joined;
 pub use laws::{custody_is_of_rows, join_is_exact, sound_books_stay_sound};
 pub use order::{Keyed, Numbered, are_counted, are_distinct, climbs, counts, same_bag, sort_rows};
 pub use places::are_in_custody;
 pub use rows::{
-    CheckedBranch, CheckedCast, CheckedCity, CheckedCopy, CheckedCustomer, CheckedFilm,
-    CheckedHeader, CheckedKept, CheckedLine, CheckedLot, CheckedPayment, CheckedRental,
-    CheckedStaff, CheckedTerms,
+    CheckedBranch, CheckedCast, CheckedCity, CheckedFilm, CheckedHeader, CheckedKept, CheckedLine,
+    CheckedLot, CheckedRow, CheckedStaff,
 };

@@ -11,8 +11,9 @@ ghost use Rattle.audit_rows.specs.Seen.{seen_copy, seen_line};
 ghost use Rattle.shop_types.specs.Seen.{seen_mark, seen_state, seen_line_state};
 ghost use Rattle.audit_rows.specs.Marked.{mark_key, film_key, made_keys, is_copy_placed, is_line_placed, AreInCustody, places_are_single, rows_placed, lines_placed};
 
+use crate::books::CheckedCopy;
 use crate::order::{Keyed, are_among, are_distinct, has_key, sort_rows};
-use crate::rows::{CheckedCopy, CheckedLine};
+use crate::rows::{CheckedLine, CheckedRow};
 use shop_types::{CopyState, FilmNo, LineState, Mark, NoMemory};
 use std::alloc::Global;
 use std::cmp::Ordering;
@@ -52,21 +53,21 @@ impl Keyed for MarkedFilm {
 }
 
 /// Whether the copy's mark was made by its own import.
-pub(crate) fn is_origin(row: &CheckedCopy) -> bool
+pub(crate) fn is_origin(row: &CheckedRow<CheckedCopy>) -> bool
     ensures { result ≡ is_origin (seen_copy row.now) }
 {
-    row.mark.branch.get() == row.branch.get() && row.mark.copy.get() == row.number.get()
+    row.it.mark.branch.get() == row.branch.get() && row.it.mark.copy.get() == row.number
 }
 
 /// The marks that were made.
-fn marks_made(alloc: Global, copies: &[CheckedCopy]) -> Result<Vec<MarkRow>, NoMemory>
+fn marks_made(alloc: Global, copies: &[CheckedRow<CheckedCopy>]) -> Result<Vec<MarkRow>, NoMemory>
     ensures { IfOk result (λ v. map (λ row. mark_key (seen_mark row.mark)) v.items
         ≡ made_keys (map seen_copy copies.now)) }
 {
     let mut marks = Vec::new(alloc);
     for row in copies {
         if is_origin(row) {
-            if marks.push(MarkRow { mark: row.mark }).is_err() {
+            if marks.push(MarkRow { mark: row.it.mark }).is_err() {
                 return Err(NoMemory);
             }
         }
@@ -97,16 +98,19 @@ fn is_line_placed(state: LineState) -> bool
 }
 
 /// The marks of the copies that are a place of theirs, each with its film.
-fn rows_placed(alloc: Global, copies: &[CheckedCopy]) -> Result<Vec<MarkedFilm>, NoMemory>
+fn rows_placed(
+    alloc: Global,
+    copies: &[CheckedRow<CheckedCopy>],
+) -> Result<Vec<MarkedFilm>, NoMemory>
     ensures { IfOk result (λ v. map (λ row. film_key row.film (seen_mark row.mark)) v.items
         ≡ rows_placed (map seen_copy copies.now)) }
 {
     let mut placed = Vec::new(alloc);
     for row in copies {
-        if is_copy_placed(row.state) {
+        if is_copy_placed(row.it.state) {
             let it = MarkedFilm {
-                mark: row.mark,
-                film: row.film,
+                mark: row.it.mark,
+                film: row.it.film,
             };
             if placed.push(it).is_err() {
                 return Err(NoMemory);
@@ -151,7 +155,7 @@ fn marks_of(alloc: Global, placed: &[MarkedFilm]) -> Result<Vec<MarkRow>, NoMemo
 }
 
 /// Whether the mark of each copy is among these, with its film.
-fn copies_among(placed: &[MarkedFilm], copies: &[CheckedCopy]) -> bool
+fn copies_among(placed: &[MarkedFilm], copies: &[CheckedRow<CheckedCopy>]) -> bool
     requires { IsSortedByKey (λ row. film_key row.film (seen_mark row.mark)) (slice_cmp nat_cmp) placed.now }
     ensures { result
         ≡ list_all (λ row. list_any (bytes_eq (film_key row.it.film row.it.mark))
@@ -159,8 +163,8 @@ fn copies_among(placed: &[MarkedFilm], copies: &[CheckedCopy]) -> bool
 {
     for row in copies {
         let wanted = MarkedFilm {
-            mark: row.mark,
-            film: row.film,
+            mark: row.it.mark,
+            film: row.it.film,
         };
         if !has_key(placed, &wanted) {
             return false;
@@ -191,7 +195,7 @@ fn lines_among(placed: &[MarkedFilm], lines: &[CheckedLine]) -> bool
 /// Whether each place is that of a mark that was made, and no mark has two.
 fn have_one_place(
     alloc: Global,
-    copies: &[CheckedCopy],
+    copies: &[CheckedRow<CheckedCopy>],
     placed: &[MarkedFilm],
 ) -> Result<bool, NoMemory>
     ensures { IfOk result (λ is. is
@@ -207,7 +211,7 @@ fn have_one_place(
 /// Whether each mark of a copy or a line is made, has exactly one place, and goes with one film.
 pub fn are_in_custody(
     alloc: Global,
-    copies: &[CheckedCopy],
+    copies: &[CheckedRow<CheckedCopy>],
     lines: &[CheckedLine],
 ) -> Result<bool, NoMemory>
     ensures { IfOk result (λ is. IsTrue is ↔ AreInCustody (map seen_copy copies.now) (map seen_line lines.now)) }

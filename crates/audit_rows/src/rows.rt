@@ -5,9 +5,8 @@ ghost use Rattle.std.specs.Prelude.{◌≡◌, [], ◌∷◌};
 use crate::groups::Owned;
 use crate::order::{Keyed, Numbered};
 use shop_types::{
-    ActorNo, BranchNo, CategoryNo, CityNo, CopyNo, CopyState, CountryNo, CustomerNo, FilmNo, Key,
-    LanguageNo, LineState, LotName, Mark, Moment, Payment, PaymentNo, Rental, RentalNo, StaffNo,
-    Token,
+    ActorNo, BranchNo, CategoryNo, CityNo, CountryNo, FilmNo, Key, LanguageNo, LineState, LotName,
+    Mark, Moment, StaffNo, Token,
 };
 use std::cmp::Ordering;
 
@@ -52,46 +51,12 @@ pub struct CheckedStaff {
 
 // ---- rows of a branch
 
-/// A copy of a branch, with its number there.
+/// A row of a branch, with its number there, and the columns that are checked besides.
 #[derive(Clone, Copy, Drop)]
-pub struct CheckedCopy {
+pub struct CheckedRow<T> {
     pub branch: BranchNo,
-    pub number: CopyNo,
-    pub film: FilmNo,
-    pub state: CopyState,
-    pub mark: Mark,
-}
-
-/// A customer of a branch, with the number there.
-#[derive(Clone, Copy, Drop)]
-pub struct CheckedCustomer {
-    pub branch: BranchNo,
-    pub number: CustomerNo,
-    pub city: CityNo,
-    pub created: Moment,
-}
-
-/// A rental of a branch, with its number there.
-#[derive(Clone, Copy, Drop)]
-pub struct CheckedRental {
-    pub branch: BranchNo,
-    pub number: RentalNo,
-    pub rental: Rental,
-}
-
-/// That there are terms of a rental of a branch, with the rental's number.
-#[derive(Clone, Copy, Drop)]
-pub struct CheckedTerms {
-    pub branch: BranchNo,
-    pub number: RentalNo,
-}
-
-/// A payment at a branch, with its number there.
-#[derive(Clone, Copy, Drop)]
-pub struct CheckedPayment {
-    pub branch: BranchNo,
-    pub number: PaymentNo,
-    pub payment: Payment,
+    pub number: u32,
+    pub it: T,
 }
 
 /// The name of a lot that a branch imported.
@@ -151,48 +116,12 @@ impl Keyed for CheckedCast {
     }
 }
 
-impl Keyed for CheckedCustomer {
+impl<T: Drop> Keyed for CheckedRow<T> {
     ghost key = { λ row. row.branch ∷ row.number ∷ [] };
 
-    fn compare(&self, other: &CheckedCustomer) -> Ordering {
+    fn compare(&self, other: &CheckedRow<T>) -> Ordering {
         let first = self.branch.get().cmp(&other.branch.get());
-        first.then(self.number.get().cmp(&other.number.get()))
-    }
-}
-
-impl Keyed for CheckedCopy {
-    ghost key = { λ row. row.branch ∷ row.number ∷ [] };
-
-    fn compare(&self, other: &CheckedCopy) -> Ordering {
-        let first = self.branch.get().cmp(&other.branch.get());
-        first.then(self.number.get().cmp(&other.number.get()))
-    }
-}
-
-impl Keyed for CheckedRental {
-    ghost key = { λ row. row.branch ∷ row.number ∷ [] };
-
-    fn compare(&self, other: &CheckedRental) -> Ordering {
-        let first = self.branch.get().cmp(&other.branch.get());
-        first.then(self.number.get().cmp(&other.number.get()))
-    }
-}
-
-impl Keyed for CheckedTerms {
-    ghost key = { λ row. row.branch ∷ row.number ∷ [] };
-
-    fn compare(&self, other: &CheckedTerms) -> Ordering {
-        let first = self.branch.get().cmp(&other.branch.get());
-        first.then(self.number.get().cmp(&other.number.get()))
-    }
-}
-
-impl Keyed for CheckedPayment {
-    ghost key = { λ row. row.branch ∷ row.number ∷ [] };
-
-    fn compare(&self, other: &CheckedPayment) -> Ordering {
-        let first = self.branch.get().cmp(&other.branch.get());
-        first.then(self.number.get().cmp(&other.number.get()))
+        first.then(self.number.cmp(&other.number))
     }
 }
 
@@ -240,43 +169,11 @@ impl Keyed for CheckedLine {
 
 // ---- their numbers
 
-impl Numbered for CheckedCustomer {
+impl<T: Drop> Numbered for CheckedRow<T> {
     ghost number = { λ row. row.number };
 
     fn number(&self) -> u32 {
-        self.number.get()
-    }
-}
-
-impl Numbered for CheckedCopy {
-    ghost number = { λ row. row.number };
-
-    fn number(&self) -> u32 {
-        self.number.get()
-    }
-}
-
-impl Numbered for CheckedRental {
-    ghost number = { λ row. row.number };
-
-    fn number(&self) -> u32 {
-        self.number.get()
-    }
-}
-
-impl Numbered for CheckedTerms {
-    ghost number = { λ row. row.number };
-
-    fn number(&self) -> u32 {
-        self.number.get()
-    }
-}
-
-impl Numbered for CheckedPayment {
-    ghost number = { λ row. row.number };
-
-    fn number(&self) -> u32 {
-        self.number.get()
+        self.number
     }
 }
 
@@ -291,39 +188,7 @@ impl Numbered for CheckedLine {
 
 // ---- their branches
 
-impl Owned for CheckedCustomer {
-    ghost owner = { λ row. row.branch };
-
-    fn owner(&self) -> u32 {
-        self.branch.get()
-    }
-}
-
-impl Owned for CheckedCopy {
-    ghost owner = { λ row. row.branch };
-
-    fn owner(&self) -> u32 {
-        self.branch.get()
-    }
-}
-
-impl Owned for CheckedRental {
-    ghost owner = { λ row. row.branch };
-
-    fn owner(&self) -> u32 {
-        self.branch.get()
-    }
-}
-
-impl Owned for CheckedTerms {
-    ghost owner = { λ row. row.branch };
-
-    fn owner(&self) -> u32 {
-        self.branch.get()
-    }
-}
-
-impl Owned for CheckedPayment {
+impl<T: Drop> Owned for CheckedRow<T> {
     ghost owner = { λ row. row.branch };
 
     fn owner(&self) -> u32 {

@@ -1,6 +1,6 @@
 -- The parts of each act are those of its form, both ways.
 use Rattle.shop_schema.proofs.Common.{◌↔◌, ◌≤◌, ℕ, List, map, length, Option, Some, None, refl, sym, subst, arith, leb-true, le-leb, IfSome, Act, AddCustomer, SetActive, Rent, TakeBack, Pay, Import, Dispatch, Receive, Scrap, act_form, IsNumber, IsNumberList, IsAct, AreNumbers, AreBytes}
-use Rattle.shop_schema.specs.RowValues.{IsStockFile}
+use Rattle.shop_schema.specs.Forms.{IsStockFile}
 use Rattle.audit_tables.specs.declared.parts.Part.{Part}
 use Rattle.audit_tables.specs.declared.acts.TheConstants.{ACTS}
 use Rattle.audit_tables.specs.Forms.{IsOneOf, IsActForm}

@@ -42,18 +42,10 @@ flag_found zero rest bytes h e = (0 ∷ [], (false, tt, refl), e)
 flag_found (suc zero) rest bytes h e = (1 ∷ [], (true, tt, refl), e)
 flag_found (suc (suc n)) rest bytes h e = absurd (omega (arith, h))
 
-same_length : (t u r s : List ℕ) → length t ≡ length u → t ++ r ≡ u ++ s → t ≡ u
-same_length [] [] r s n h = refl
-same_length [] (y ∷ u) r s n h = absurd (omega (arith, n))
-same_length (x ∷ t) [] r s n h = absurd (omega (arith, n))
-same_length (x ∷ t) (y ∷ u) r s n h =
-    let head : x ≡ y = cc in
-    let tail : t ++ r ≡ u ++ s = cc in
-    let more = same_length t u r s (omega (arith, n)) tail in
-    (λ i. head i ∷ more i)
-
 pub front_is_moment : (bytes text back piece rest : List ℕ) (m : Moment) → bytes ≡ text ++ back → length text ≡ 19 → piece ≡ moment_text m → bytes ≡ piece ++ rest → text ≡ moment_text m
-front_is_moment bytes text back piece rest m a n b c = same_length text (moment_text m) back rest n (sym a ∙ c ∙ ap (λ (x : List ℕ). x ++ rest) b)
+front_is_moment bytes text back piece rest m a n b c =
+    let same : text ++ back ≡ moment_text m ++ rest = sym a ∙ c ∙ ap (λ (x : List ℕ). x ++ rest) b in
+    (text_ends text (moment_text m) back rest (λ i. number_form (n i) ++ same i)).0
 
 -- ---- one part after another
 

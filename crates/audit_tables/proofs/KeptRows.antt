@@ -6,7 +6,8 @@ use Rattle.shop_schema.specs.Kinds as kind
 use Rattle.shop_schema.specs.Kinds.{Values, columns_of}
 use Rattle.audit_tables.specs.Forms.{IsCommandForm, IsOfficeForm}
 use Rattle.audit_tables.specs.Listed.{FullOf}
-use Rattle.audit_tables.specs.Kept.{OfBranch, OfOffice, any_columns, AnyFits, caller_row, IsOneKept, HasForm}
+use Rattle.audit_tables.specs.Kept.{AnyKept, OfBranch, OfOffice, any_columns, AnyFits, caller_row, IsCallerRow, HasForm}
+use Rattle.audit_tables.specs.declared.kept.CallerRow.{CallerRow}
 use Rattle.audit_tables.proofs.Ranges.{in_range, ranged}
 
 abbrev pub kept_kinds : List Kind
@@ -34,25 +35,28 @@ kept_full v fits form = go v.0 v.1.0 v.1.1.0 v.1.1.1.0 fits form
         }
 
 -- each row of the table has such cells
-pub kept_only : (r : sql.Row) → IsOneKept r → (v : Values kept_kinds) × FitEach kept_kinds v × (columns_of kept_kinds v ≡ r)
-kept_only r (OfBranch row, fits, has) =
-    let high = (in_range row.owner fits.0).1 in
-    ((row.owner, (row.it.command.key, (command_form row.it.command, (row.it.reply, tt)))), (omega (arith, high), (fits.1.key, (tt, (fits.2, tt)))), has)
-kept_only r (OfOffice it, fits, has) = ((0, (it.command.key, (office_command_form it.command, (it.reply, tt)))), (omega arith, (fits.0, (tt, (fits.2, tt)))), has)
+pub kept_only : (x : CallerRow) (r : sql.Row) → IsCallerRow x r → (v : Values kept_kinds) × FitEach kept_kinds v × (columns_of kept_kinds v ≡ r)
+kept_only x r full = go full.it full.fits full.has
+  where
+    go : (it : AnyKept) → AnyFits it → any_columns it ≡ r → (v : Values kept_kinds) × FitEach kept_kinds v × (columns_of kept_kinds v ≡ r)
+    go (OfBranch row) fits has =
+        let high = (in_range row.owner fits.0).1 in
+        ((row.owner, (row.it.command.key, (command_form row.it.command, (row.it.reply, tt)))), (omega (arith, high), (fits.1.key, (tt, (fits.2, tt)))), has)
+    go (OfOffice it) fits has = ((0, (it.command.key, (office_command_form it.command, (it.reply, tt)))), (omega arith, (fits.0, (tt, (fits.2, tt)))), has)
 
 -- and its bytes are of such a form
-pub kept_form : (v : Values kept_kinds) → IsOneKept (columns_of kept_kinds v) → HasForm v.0 v.1.1.0
-kept_form v one = go v.0 v.1.0 v.1.1.0 v.1.1.1.0 one
+pub kept_form : (x : CallerRow) (v : Values kept_kinds) → IsCallerRow x (columns_of kept_kinds v) → HasForm v.0 v.1.1.0
+kept_form x v full = go v.0 v.1.0 v.1.1.0 v.1.1.1.0 full.it full.fits full.has
   where
-    go : (n : ℕ) (t b u : List ℕ) → IsOneKept (number_value n ∷ Text t ∷ Blob b ∷ Text u ∷ []) → HasForm n b
-    go n t b u (OfBranch row, fits, has) =
+    go : (n : ℕ) (t b u : List ℕ) (it : AnyKept) → AnyFits it → any_columns it ≡ number_value n ∷ Text t ∷ Blob b ∷ Text u ∷ [] → HasForm n b
+    go n t b u (OfBranch row) fits has =
         let owner : row.owner ≡ n = cc in
         let form : command_form row.it.command ≡ b = cc in
         let low = (in_range row.owner fits.0).0 in record {
           office = λ e. absurd (omega (arith, low, owner, e));
           branch = λ e. subst IsCommandForm form (row.it.command, fits.1.staff, fits.1.moment, fits.1.act, refl);
         }
-    go n t b u (OfOffice it, fits, has) =
+    go n t b u (OfOffice it) fits has =
         let owner : 0 ≡ n = cc in
         let form : office_command_form it.command ≡ b = cc in record {
           office = λ e. subst IsOfficeForm form (it.command.act, fits.1, refl);

@@ -30,9 +30,3 @@ pub one_at : (One : Row → Type 0) (rows : List Row) (i : ℕ) (d : Row) → i 
 one_at One [] i d low h = absurd (omega (arith, low))
 one_at One (r ∷ rows) zero d low h = h.0
 one_at One (r ∷ rows) (suc i) d low h = one_at One rows i d (omega (arith, low)) h.1
-
-pub none_left : (One : Row → Type 0) (rows : List Row) (i : ℕ) → length rows ≤ i → AllByRecursion One (drop i rows)
-none_left One [] zero h = tt
-none_left One [] (suc i) h = tt
-none_left One (r ∷ rows) zero h = absurd (omega (arith, h))
-none_left One (r ∷ rows) (suc i) h = none_left One rows i (omega (arith, h))

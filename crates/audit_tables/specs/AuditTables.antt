@@ -5,7 +5,7 @@ use Rattle.shop_schema.specs.TableOf.{TableOf}
 use Rattle.shop_schema.specs.RowValues.{IsShared}
 use Rattle.shop_types.specs.Seen.{seen_line_state}
 use Rattle.audit_tables.specs.Columns.{told_columns, IsTold, header_columns, IsHeader, placed_columns, IsPlaced}
-use Rattle.audit_tables.specs.States.{kept_line_state, line_state_again}
+use Rattle.audit_rows.specs.States.{kept_line_state, line_state_again}
 
 -- branches, with their last moments
 abbrev pub branches : TableOf told_columns (IsShared IsTold)

@@ -6,8 +6,7 @@ use Rattle.sqlite_value.specs.Order as sql
 use Rattle.sql_rows.specs.Rows.{number_value, flag_value}
 use Rattle.shop_model.specs.Calendar.{Moment, IsMoment}
 use Rattle.shop_model.specs.Values.{Branch}
-use Rattle.shop_schema.specs.Columns.{moment_value, line_value}
-use Rattle.shop_schema.specs.RowValues.{IsNumber, IsBranch, IsLine, IsPlace}
+use Rattle.shop_schema.specs.RowValues.{IsNumber, IsBranch, IsLine, IsPlace, moment_value, line_value}
 use Rattle.audit_rows.specs.Joins.{Header, Placed}
 
 abbrev pub told_columns : ℕ × (Branch × Option Moment) → sql.Row

@@ -2,8 +2,8 @@
 use Rattle.std.specs.Prelude.{⊤, ◌≡◌, ◌≤◌, ◌+◌, ℕ, Bool, false, List, [], ◌∷◌, ◌++◌, length, slice_get, flat_map, Option, Some, IfSome}
 use Rattle.shop_model.specs.Calendar.{Moment, IsMoment, moment_text}
 use Rattle.shop_model.specs.Values.{Act, Command, OfficeAct}
-use Rattle.shop_schema.specs.Forms.{number_form, text_form, numbers_form, option_form, flag_form, act_form, command_form, office_form}
-use Rattle.shop_schema.specs.RowValues.{IsNumber, IsText, IsKey, IsToken, IsRating, IsFeatures, AreNumbers, AreBytes, IsAct, IsOfficeAct}
+use Rattle.shop_schema.specs.Forms.{number_form, text_form, numbers_form, option_form, flag_form, act_form, command_form, office_form, AreNumbers, AreBytes, IsAct, IsOfficeAct}
+use Rattle.shop_schema.specs.RowValues.{IsNumber, IsText, IsKey, IsToken, IsRating, IsFeatures}
 use Rattle.audit_tables.specs.declared.parts.Part.{Part}
 use Rattle.audit_tables.specs.declared.parts.Part.TheVariants as part
 

@@ -1,13 +1,12 @@
--- Kept commands, each with its caller: which rows are of their table, and what is kept of them.
+-- Kept commands, each with its caller: what is kept of their rows.
 use Rattle.std.specs.Prelude.{◌≡◌, ◌≢◌, ℕ, List}
-use Rattle.sqlite_value.specs.Order as sql
 use Rattle.shop_model.specs.Rows.{Owned}
 use Rattle.shop_model.specs.Shop.{Kept, OfficeKept}
-use Rattle.shop_schema.specs.Columns.{kept_columns, office_kept_columns}
-use Rattle.shop_schema.specs.RowValues.{IsKept, IsOfficeKept}
+use Rattle.shop_schema.specs.Forms.{kept_columns, office_kept_columns, IsKept, IsOfficeKept}
 use Rattle.audit_tables.specs.Forms.{IsCommandForm, IsOfficeForm}
-use Rattle.audit_tables.specs.Listed.{IsRowOf, FullOf}
+use Rattle.audit_tables.specs.Listed.{FullOf}
 use Rattle.audit_tables.specs.declared.kept.CallerRow.{CallerRow}
+use Rattle.sqlite_value.specs.Order as sql
 
 pub data AnyKept : Type 0 where
   OfBranch : Owned Kept → AnyKept
@@ -24,9 +23,6 @@ AnyFits (OfOffice it) = IsOfficeKept it
 abbrev pub caller_row : AnyKept → CallerRow
 caller_row (OfBranch row) = record { caller = row.owner; key = row.it.command.key }
 caller_row (OfOffice it) = record { caller = 0; key = it.command.key }
-
-abbrev pub IsOneKept : sql.Row → Type 0
-IsOneKept = IsRowOf any_columns AnyFits
 
 abbrev pub IsCallerRow : CallerRow → sql.Row → Type 0
 IsCallerRow = FullOf any_columns AnyFits caller_row

@@ -1,7 +1,7 @@
 pub mod Listed
 pub mod Columns
-pub mod States
 pub mod Rows
+pub mod BranchTables
 pub mod Kept
 pub mod TableRows
 pub mod AuditTables

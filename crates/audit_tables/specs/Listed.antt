@@ -9,9 +9,9 @@ AreRows Is [] (row ∷ rows) = ⊥
 AreRows Is (x ∷ xs) [] = ⊥
 AreRows Is (x ∷ xs) (row ∷ rows) = Is x row × AreRows Is xs rows
 
--- the row has the columns of some value of the books
-abbrev pub IsRowOf : {F : Type 0} → (F → Row) → (F → Type 0) → Row → Type 0
-IsRowOf {F} columns Fits r = (it : F) × Fits it × (columns it ≡ r)
+-- something is kept of the row, so that it is one of the table's
+abbrev pub IsListed : {X : Type 0} → (X → Row → Type 0) → Row → Type 0
+IsListed {X} Is r = (x : X) × Is x r
 
 -- the value of which this is kept, and whose columns the row has
 pub record FullOf {X F : Type 0} (columns : F → Row) (Fits : F → Type 0) (small : F → X) (x : X) (r : Row) : Type 0 where

@@ -1,42 +1,30 @@
--- Which rows are of each table, and what is kept of them.
+-- What is kept of the rows of each table but those of branches' numbered rows.
 use Rattle.std.specs.Prelude.{ℕ, Bool, true, false, Option}
-use Rattle.sqlite_value.specs.Order as sql
 use Rattle.shop_model.specs.Calendar.{Moment}
-use Rattle.shop_model.specs.Rows.{Row}
-use Rattle.shop_model.specs.Values.{Text, City, Actor, Film, Branch, Staff, Rental, Payment, Rule, ByCode, ByComment}
-use Rattle.shop_model.specs.Books.{BookCopy}
-use Rattle.shop_schema.specs.Columns.{chain_columns, rule_columns, named_columns, city_columns, actor_columns, film_columns, cast_columns, staff_columns, customer_columns, copy_columns, rental_columns, terms_columns, payment_columns, lot_columns}
-use Rattle.shop_schema.specs.RowValues.{IsName, IsToken, IsShared, IsCity, IsActor, IsFilm, IsCast, IsStaff, IsRow, IsCustomer, IsCopy, IsRental, IsTerms, IsPayment, IsLot}
+use Rattle.shop_model.specs.Values.{Text, Branch, Rule, ByCode, ByComment}
+use Rattle.shop_schema.specs.RowValues.{IsName, IsToken, IsShared, IsCity, IsActor, IsFilm, IsCast, IsStaff, IsLot, chain_columns, rule_columns, named_columns, city_columns, actor_columns, film_columns, cast_columns, staff_columns, customer_columns, copy_columns, rental_columns, terms_columns, payment_columns, lot_columns}
 use Rattle.audit_rows.specs.Joins.{Header, Placed}
-use Rattle.audit_rows.specs.Ordered.{city_row, film_row, cast_row, branch_row, staff_row, customer_row, terms_row, lot_row}
+use Rattle.audit_rows.specs.Ordered.{city_row, film_row, cast_row, branch_row, staff_row, lot_row}
+use Rattle.audit_rows.specs.States.{kept_line_state}
+use Rattle.audit_rows.specs.declared.rows.CheckedBranch.{CheckedBranch}
 use Rattle.audit_rows.specs.declared.rows.CheckedCast.{CheckedCast}
-use Rattle.audit_rows.specs.declared.rows.CheckedCustomer.{CheckedCustomer}
-use Rattle.audit_rows.specs.declared.rows.CheckedCopy.{CheckedCopy}
-use Rattle.audit_rows.specs.declared.rows.CheckedRental.{CheckedRental}
-use Rattle.audit_rows.specs.declared.rows.CheckedTerms.{CheckedTerms}
-use Rattle.audit_rows.specs.declared.rows.CheckedPayment.{CheckedPayment}
+use Rattle.audit_rows.specs.declared.rows.CheckedCity.{CheckedCity}
+use Rattle.audit_rows.specs.declared.rows.CheckedFilm.{CheckedFilm}
+use Rattle.audit_rows.specs.declared.rows.CheckedStaff.{CheckedStaff}
 use Rattle.audit_rows.specs.declared.rows.CheckedLot.{CheckedLot}
 use Rattle.audit_rows.specs.declared.rows.CheckedHeader.{CheckedHeader}
 use Rattle.audit_rows.specs.declared.rows.CheckedLine.{CheckedLine}
-use Rattle.audit_tables.specs.Listed.{IsRowOf, FullOf}
+use Rattle.audit_tables.specs.Listed.{FullOf}
 use Rattle.audit_tables.specs.Columns.{told_columns, IsTold, header_columns, IsHeader, placed_columns, IsPlaced}
-use Rattle.audit_tables.specs.States.{kept_state, kept_line_state}
 use Rattle.audit_tables.specs.declared.shared.ChainRow.{ChainRow}
 use Rattle.audit_tables.specs.declared.shared.RuleRow.{RuleRow}
-use Rattle.audit_tables.specs.declared.shared.NamedRow.{NamedRow}
-use Rattle.audit_tables.specs.declared.shared.NumberedCity.{NumberedCity}
-use Rattle.audit_tables.specs.declared.shared.NumberedActor.{NumberedActor}
-use Rattle.audit_tables.specs.declared.shared.NumberedFilm.{NumberedFilm}
-use Rattle.audit_tables.specs.declared.shared.NumberedBranch.{NumberedBranch}
-use Rattle.audit_tables.specs.declared.shared.NumberedStaff.{NumberedStaff}
+use Rattle.audit_tables.specs.declared.shared.SharedRow.{SharedRow}
+use Rattle.sqlite_value.specs.Order as sql
 
 -- ---- shared rows
 
 abbrev pub chain_row : Text → ChainRow
 chain_row token = record { office_token = token }
-
-abbrev pub IsOneChain : sql.Row → Type 0
-IsOneChain = IsRowOf chain_columns IsToken
 
 abbrev pub IsChainRow : ChainRow → sql.Row → Type 0
 IsChainRow = FullOf chain_columns IsToken chain_row
@@ -51,118 +39,44 @@ rule_row it = record { by_comment = is_comment it }
 abbrev pub AnyRule : Rule → Type 0
 AnyRule it = Unit {0}
 
-abbrev pub IsOneRule : sql.Row → Type 0
-IsOneRule = IsRowOf rule_columns AnyRule
-
 abbrev pub IsRuleRow : RuleRow → sql.Row → Type 0
 IsRuleRow = FullOf rule_columns AnyRule rule_row
-
-abbrev pub named_row : ℕ × Text → NamedRow
-named_row it = record { number = it.0; name = it.1 }
-
-abbrev pub IsOneNamed : sql.Row → Type 0
-IsOneNamed = IsRowOf named_columns (IsShared IsName)
-
-abbrev pub IsNamedRow : NamedRow → sql.Row → Type 0
-IsNamedRow = FullOf named_columns (IsShared IsName) named_row
-
-abbrev pub numbered_city : ℕ × City → NumberedCity
-numbered_city it = record { number = it.0; city = city_row it.1 }
-
-abbrev pub IsOneCity : sql.Row → Type 0
-IsOneCity = IsRowOf city_columns (IsShared IsCity)
-
-abbrev pub IsCityRow : NumberedCity → sql.Row → Type 0
-IsCityRow = FullOf city_columns (IsShared IsCity) numbered_city
-
-abbrev pub numbered_actor : ℕ × Actor → NumberedActor
-numbered_actor it = record { number = it.0 }
-
-abbrev pub IsOneActor : sql.Row → Type 0
-IsOneActor = IsRowOf actor_columns (IsShared IsActor)
-
-abbrev pub IsActorRow : NumberedActor → sql.Row → Type 0
-IsActorRow = FullOf actor_columns (IsShared IsActor) numbered_actor
-
-abbrev pub numbered_film : ℕ × Film → NumberedFilm
-numbered_film it = record { number = it.0; film = film_row it.1 }
-
-abbrev pub IsOneFilm : sql.Row → Type 0
-IsOneFilm = IsRowOf film_columns (IsShared IsFilm)
-
-abbrev pub IsFilmRow : NumberedFilm → sql.Row → Type 0
-IsFilmRow = FullOf film_columns (IsShared IsFilm) numbered_film
-
-abbrev pub IsOneCast : sql.Row → Type 0
-IsOneCast = IsRowOf cast_columns IsCast
 
 abbrev pub IsCastRow : CheckedCast → sql.Row → Type 0
 IsCastRow = FullOf cast_columns IsCast cast_row
 
-abbrev pub numbered_branch : ℕ × (Branch × Option Moment) → NumberedBranch
-numbered_branch it = record { number = it.0; branch = branch_row it.1.1 it.1.0 }
+-- ---- those with a number
 
-abbrev pub IsOneBranch : sql.Row → Type 0
-IsOneBranch = IsRowOf told_columns (IsShared IsTold)
+abbrev pub shared_row : {A X : Type 0} → (A → X) → ℕ × A → SharedRow X
+shared_row small it = record { number = it.0; it = small it.1 }
 
-abbrev pub IsBranchRow : NumberedBranch → sql.Row → Type 0
-IsBranchRow = FullOf told_columns (IsShared IsTold) numbered_branch
+abbrev pub IsSharedRow : {A X : Type 0} → (ℕ × A → sql.Row) → (A → Type 0) → (A → X) → SharedRow X → sql.Row → Type 0
+IsSharedRow columns P small = FullOf columns (IsShared P) (shared_row small)
 
-abbrev pub numbered_staff : ℕ × Staff → NumberedStaff
-numbered_staff it = record { number = it.0; staff = staff_row it.1 }
+-- a country, a language or a category
+abbrev pub IsNamedRow : SharedRow Text → sql.Row → Type 0
+IsNamedRow = IsSharedRow named_columns IsName (λ name. name)
 
-abbrev pub IsOneStaff : sql.Row → Type 0
-IsOneStaff = IsRowOf staff_columns (IsShared IsStaff)
+abbrev pub IsCityRow : SharedRow CheckedCity → sql.Row → Type 0
+IsCityRow = IsSharedRow city_columns IsCity city_row
 
-abbrev pub IsStaffRow : NumberedStaff → sql.Row → Type 0
-IsStaffRow = FullOf staff_columns (IsShared IsStaff) numbered_staff
+-- of an actor nothing is kept but the number
+abbrev pub IsActorRow : SharedRow (Unit {0}) → sql.Row → Type 0
+IsActorRow = IsSharedRow actor_columns IsActor (λ it. tt)
 
--- ---- rows of a branch
+abbrev pub IsFilmRow : SharedRow CheckedFilm → sql.Row → Type 0
+IsFilmRow = IsSharedRow film_columns IsFilm film_row
 
-abbrev pub IsOneCustomer : sql.Row → Type 0
-IsOneCustomer = IsRowOf customer_columns (IsRow IsCustomer)
+abbrev pub told_row : Branch × Option Moment → CheckedBranch
+told_row it = branch_row it.1 it.0
 
-abbrev pub IsCustomerRow : CheckedCustomer → sql.Row → Type 0
-IsCustomerRow = FullOf customer_columns (IsRow IsCustomer) customer_row
+abbrev pub IsBranchRow : SharedRow CheckedBranch → sql.Row → Type 0
+IsBranchRow = IsSharedRow told_columns IsTold told_row
 
-abbrev pub copy_row : Row BookCopy → CheckedCopy
-copy_row row =
-    record { branch = row.branch; number = row.number; film = row.it.film; state = kept_state row.it.state; mark = record { branch = row.it.mark.branch; copy = row.it.mark.copy } }
+abbrev pub IsStaffRow : SharedRow CheckedStaff → sql.Row → Type 0
+IsStaffRow = IsSharedRow staff_columns IsStaff staff_row
 
-abbrev pub IsOneCopy : sql.Row → Type 0
-IsOneCopy = IsRowOf copy_columns (IsRow IsCopy)
-
-abbrev pub IsCopyRow : CheckedCopy → sql.Row → Type 0
-IsCopyRow = FullOf copy_columns (IsRow IsCopy) copy_row
-
-abbrev pub rental_row : Row Rental → CheckedRental
-rental_row row =
-    record { branch = row.branch; number = row.number; rental = record { rented = row.it.rented; copy = row.it.copy; customer = row.it.customer; returned = row.it.returned; staff = row.it.staff } }
-
-abbrev pub IsOneRental : sql.Row → Type 0
-IsOneRental = IsRowOf rental_columns (IsRow IsRental)
-
-abbrev pub IsRentalRow : CheckedRental → sql.Row → Type 0
-IsRentalRow = FullOf rental_columns (IsRow IsRental) rental_row
-
-abbrev pub IsOneTerms : sql.Row → Type 0
-IsOneTerms = IsRowOf terms_columns (IsRow IsTerms)
-
-abbrev pub IsTermsRow : CheckedTerms → sql.Row → Type 0
-IsTermsRow = FullOf terms_columns (IsRow IsTerms) terms_row
-
-abbrev pub payment_row : Row Payment → CheckedPayment
-payment_row row =
-    record { branch = row.branch; number = row.number; payment = record { customer = row.it.customer; staff = row.it.staff; rental = row.it.rental; amount = row.it.amount; paid = row.it.paid } }
-
-abbrev pub IsOnePayment : sql.Row → Type 0
-IsOnePayment = IsRowOf payment_columns (IsRow IsPayment)
-
-abbrev pub IsPaymentRow : CheckedPayment → sql.Row → Type 0
-IsPaymentRow = FullOf payment_columns (IsRow IsPayment) payment_row
-
-abbrev pub IsOneLot : sql.Row → Type 0
-IsOneLot = IsRowOf lot_columns IsLot
+-- ---- lots
 
 abbrev pub IsLotRow : CheckedLot → sql.Row → Type 0
 IsLotRow = FullOf lot_columns IsLot lot_row
@@ -171,9 +85,6 @@ IsLotRow = FullOf lot_columns IsLot lot_row
 
 abbrev pub header_row : Header → CheckedHeader
 header_row h = record { source = h.source; addressee = h.addressee; number = h.number; place = h.place; received = h.received }
-
-abbrev pub IsOneHeader : sql.Row → Type 0
-IsOneHeader = IsRowOf header_columns IsHeader
 
 abbrev pub IsHeaderRow : CheckedHeader → sql.Row → Type 0
 IsHeaderRow = FullOf header_columns IsHeader header_row
@@ -188,9 +99,6 @@ placed_row p = record {
   mark = record { branch = p.line.mark.branch; copy = p.line.mark.copy };
   state = kept_line_state p.line.state;
 }
-
-abbrev pub IsOneLine : sql.Row → Type 0
-IsOneLine = IsRowOf placed_columns IsPlaced
 
 abbrev pub IsLineRow : CheckedLine → sql.Row → Type 0
 IsLineRow = FullOf placed_columns IsPlaced placed_row

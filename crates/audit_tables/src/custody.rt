@@ -1,50 +1,47 @@
 //! Copies and consignments, as they are kept of their tables' rows.
 
 ghost use Rattle.std.specs.Prelude.{refl};
+ghost use Rattle.shop_model.specs.Books.{CopyRows};
+ghost use Rattle.audit_rows.specs.Tables.{checked_row};
+ghost use Rattle.audit_tables.specs.BranchTables.{IsKeptRow};
+ghost use Rattle.audit_tables.specs.TableRows.{full_row, only_row, copy_of, copy_kept, line_of, line_kept};
+ghost use Rattle.audit_tables.specs.Rows.{header_row, IsHeaderRow, placed_row, IsLineRow};
 ghost use Rattle.shop_schema.proofs.ShopTables as table;
 ghost use Rattle.audit_tables.specs.AuditTables as audited;
-ghost use Rattle.audit_tables.specs.TableRows.{full_row, one_row, only_row, copy_of, copy_kept, line_of, line_kept};
-ghost use Rattle.audit_tables.specs.Rows.{copy_row, IsOneCopy, IsCopyRow, header_row, IsOneHeader, IsHeaderRow, placed_row, IsOneLine, IsLineRow};
 
 use crate::listed::Kept;
-use audit_rows::{CheckedCopy, CheckedHeader, CheckedLine};
-use shop_schema::{CopyCells, HeaderCells, LineCells};
+use audit_rows::books::CheckedCopy;
+use audit_rows::{CheckedHeader, CheckedLine, CheckedRow};
+use shop_schema::tables::{CopyCells, HeaderCells, LineCells};
 use shop_types::Mark;
 
-impl Kept for CheckedCopy {
+impl Kept for CheckedRow<CheckedCopy> {
     type Cells = CopyCells;
 
-    ghost one = { IsOneCopy };
-
-    ghost kept = { IsCopyRow };
+    ghost kept = { IsKeptRow CopyRows };
 
     ghost keeps = { copy_of };
 
-    fn keep(cells: CopyCells) -> CheckedCopy {
+    fn keep(cells: CopyCells) -> CheckedRow<CheckedCopy> {
         let (branch, (number, (film, (state, (origin, (copy, ())))))) = cells;
-        CheckedCopy {
+        let mark = Mark {
+            branch: origin,
+            copy,
+        };
+        CheckedRow {
             branch,
-            number,
-            film,
-            state,
-            mark: Mark {
-                branch: origin,
-                copy,
-            },
+            number: number.get(),
+            it: CheckedCopy { film, state, mark },
         }
     }
 
-    ghost rows = { λ p fits. full_row table.copies copy_row p fits (copy_kept p) };
-
-    ghost ones = { one_row table.copies };
+    ghost rows = { λ p fits. full_row table.copies (checked_row CopyRows) p fits (copy_kept p) };
 
     ghost only = { only_row table.copies };
 }
 
 impl Kept for CheckedHeader {
     type Cells = HeaderCells;
-
-    ghost one = { IsOneHeader };
 
     ghost kept = { IsHeaderRow };
 
@@ -63,15 +60,11 @@ impl Kept for CheckedHeader {
 
     ghost rows = { λ p fits. full_row audited.headers header_row p fits refl };
 
-    ghost ones = { one_row audited.headers };
-
     ghost only = { only_row audited.headers };
 }
 
 impl Kept for CheckedLine {
     type Cells = LineCells;
-
-    ghost one = { IsOneLine };
 
     ghost kept = { IsLineRow };
 
@@ -91,8 +84,6 @@ impl Kept for CheckedLine {
     }
 
     ghost rows = { λ p fits. full_row audited.lines placed_row p fits (line_kept p) };
-
-    ghost ones = { one_row audited.lines };
 
     ghost only = { only_row audited.lines };
 }

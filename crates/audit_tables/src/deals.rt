@@ -1,58 +1,55 @@
 //! Rows of branches.
 
 ghost use Rattle.std.specs.Prelude.{refl};
+ghost use Rattle.shop_model.specs.Books.{Customers, Rentals, TermRows, Payments};
+ghost use Rattle.audit_rows.specs.Ordered.{lot_row};
+ghost use Rattle.audit_rows.specs.Tables.{checked_row};
+ghost use Rattle.audit_tables.specs.BranchTables.{IsKeptRow};
+ghost use Rattle.audit_tables.specs.TableRows.{full_row, only_row};
+ghost use Rattle.audit_tables.specs.Rows.{IsLotRow};
 ghost use Rattle.shop_schema.proofs.ShopTables as table;
-ghost use Rattle.audit_rows.specs.Ordered.{customer_row, terms_row, lot_row};
-ghost use Rattle.audit_tables.specs.TableRows.{full_row, one_row, only_row};
-ghost use Rattle.audit_tables.specs.Rows.{IsOneCustomer, IsCustomerRow, rental_row, IsOneRental, IsRentalRow, IsOneTerms, IsTermsRow, payment_row, IsOnePayment, IsPaymentRow, IsOneLot, IsLotRow};
 
 use crate::listed::Kept;
-use audit_rows::{CheckedCustomer, CheckedLot, CheckedPayment, CheckedRental, CheckedTerms};
-use shop_schema::{CustomerCells, LotCells, PaymentCells, RentalCells, TermsCells};
+use audit_rows::books::{CheckedCustomer, CheckedTerms};
+use audit_rows::{CheckedLot, CheckedRow};
+use shop_schema::tables::{CustomerCells, LotCells, PaymentCells, RentalCells, TermsCells};
 use shop_types::{Payment, Rental};
 
-impl Kept for CheckedCustomer {
+impl Kept for CheckedRow<CheckedCustomer> {
     type Cells = CustomerCells;
 
-    ghost one = { IsOneCustomer };
+    ghost kept = { IsKeptRow Customers };
 
-    ghost kept = { IsCustomerRow };
+    ghost keeps = { λ p. checked_row Customers (table.customers.from p) };
 
-    ghost keeps = { λ p. customer_row (table.customers.from p) };
-
-    fn keep(cells: CustomerCells) -> CheckedCustomer {
+    fn keep(cells: CustomerCells) -> CheckedRow<CheckedCustomer> {
         let (branch, (number, (_first, (_last, (_address, (_postal, (_phone, more))))))) = cells;
         let (city, (_active, (created, _behind))) = more;
-        CheckedCustomer {
+        CheckedRow {
             branch,
-            number,
-            city,
-            created,
+            number: number.get(),
+            it: CheckedCustomer { city, created },
         }
     }
 
-    ghost rows = { λ p fits. full_row table.customers customer_row p fits refl };
-
-    ghost ones = { one_row table.customers };
+    ghost rows = { λ p fits. full_row table.customers (checked_row Customers) p fits refl };
 
     ghost only = { only_row table.customers };
 }
 
-impl Kept for CheckedRental {
+impl Kept for CheckedRow<Rental> {
     type Cells = RentalCells;
 
-    ghost one = { IsOneRental };
+    ghost kept = { IsKeptRow Rentals };
 
-    ghost kept = { IsRentalRow };
+    ghost keeps = { λ p. checked_row Rentals (table.rentals.from p) };
 
-    ghost keeps = { λ p. rental_row (table.rentals.from p) };
-
-    fn keep(cells: RentalCells) -> CheckedRental {
+    fn keep(cells: RentalCells) -> CheckedRow<Rental> {
         let (branch, (number, (rented, (copy, (customer, (returned, (staff, ()))))))) = cells;
-        CheckedRental {
+        CheckedRow {
             branch,
-            number,
-            rental: Rental {
+            number: number.get(),
+            it: Rental {
                 rented,
                 copy,
                 customer,
@@ -62,49 +59,45 @@ impl Kept for CheckedRental {
         }
     }
 
-    ghost rows = { λ p fits. full_row table.rentals rental_row p fits refl };
-
-    ghost ones = { one_row table.rentals };
+    ghost rows = { λ p fits. full_row table.rentals (checked_row Rentals) p fits refl };
 
     ghost only = { only_row table.rentals };
 }
 
-impl Kept for CheckedTerms {
+impl Kept for CheckedRow<CheckedTerms> {
     type Cells = TermsCells;
 
-    ghost one = { IsOneTerms };
+    ghost kept = { IsKeptRow TermRows };
 
-    ghost kept = { IsTermsRow };
+    ghost keeps = { λ p. checked_row TermRows (table.terms.from p) };
 
-    ghost keeps = { λ p. terms_row (table.terms.from p) };
-
-    fn keep(cells: TermsCells) -> CheckedTerms {
+    fn keep(cells: TermsCells) -> CheckedRow<CheckedTerms> {
         let (branch, (number, _terms)) = cells;
-        CheckedTerms { branch, number }
+        CheckedRow {
+            branch,
+            number: number.get(),
+            it: CheckedTerms,
+        }
     }
 
-    ghost rows = { λ p fits. full_row table.terms terms_row p fits refl };
-
-    ghost ones = { one_row table.terms };
+    ghost rows = { λ p fits. full_row table.terms (checked_row TermRows) p fits refl };
 
     ghost only = { only_row table.terms };
 }
 
-impl Kept for CheckedPayment {
+impl Kept for CheckedRow<Payment> {
     type Cells = PaymentCells;
 
-    ghost one = { IsOnePayment };
+    ghost kept = { IsKeptRow Payments };
 
-    ghost kept = { IsPaymentRow };
+    ghost keeps = { λ p. checked_row Payments (table.payments.from p) };
 
-    ghost keeps = { λ p. payment_row (table.payments.from p) };
-
-    fn keep(cells: PaymentCells) -> CheckedPayment {
+    fn keep(cells: PaymentCells) -> CheckedRow<Payment> {
         let (branch, (number, (customer, (staff, (rental, (amount, (paid, ()))))))) = cells;
-        CheckedPayment {
+        CheckedRow {
             branch,
-            number,
-            payment: Payment {
+            number: number.get(),
+            it: Payment {
                 customer,
                 staff,
                 rental,
@@ -114,17 +107,13 @@ impl Kept for CheckedPayment {
         }
     }
 
-    ghost rows = { λ p fits. full_row table.payments payment_row p fits refl };
-
-    ghost ones = { one_row table.payments };
+    ghost rows = { λ p fits. full_row table.payments (checked_row Payments) p fits refl };
 
     ghost only = { only_row table.payments };
 }
 
 impl Kept for CheckedLot {
     type Cells = LotCells;
-
-    ghost one = { IsOneLot };
 
     ghost kept = { IsLotRow };
 
@@ -136,8 +125,6 @@ impl Kept for CheckedLot {
     }
 
     ghost rows = { λ p fits. full_row table.lots lot_row p fits refl };
-
-    ghost ones = { one_row table.lots };
 
     ghost only = { only_row table.lots };
 }

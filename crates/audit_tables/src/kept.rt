@@ -1,12 +1,13 @@
 //! Kept commands, each with its caller.
 
 ghost use Rattle.std.specs.Prelude.{◌↔◌, IsTrue};
-ghost use Rattle.audit_tables.specs.Kept.{HasForm, IsOneKept, IsCallerRow};
+ghost use Rattle.audit_tables.specs.Kept.{HasForm, IsCallerRow};
 
 use crate::acts::is_command;
 use crate::listed::Listed;
 use crate::office::is_office_command;
-use shop_schema::{KeptCells, read_cells};
+use shop_schema::read_cells;
+use shop_schema::tables::KeptCells;
 use shop_types::Key;
 use sql_rows::StoreFault;
 use sqlite::Row;
@@ -30,8 +31,6 @@ fn has_form(caller: u32, form: &[u8]) -> bool
 }
 
 impl Listed for CallerRow {
-    ghost is_one = { IsOneKept };
-
     ghost is_row = { IsCallerRow };
 
     fn read(row: &Row) -> Result<Option<CallerRow>, StoreFault> {

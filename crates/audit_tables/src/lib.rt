@@ -14,7 +14,4 @@ mod texts;
 
 pub use kept::CallerRow;
 pub use listed::{Kept, Listed, read_rows};
-pub use shared::{
-    ChainRow, NamedRow, NumberedActor, NumberedBranch, NumberedCity, NumberedFilm, NumberedStaff,
-    RuleRow,
-};
+pub use shared::{ChainRow, RuleRow, SharedRow};

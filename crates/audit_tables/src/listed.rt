@@ -3,7 +3,7 @@
 ghost use Rattle.std.specs.Prelude.{◌≡◌, IfOk, IfSome, IfNone};
 ghost use Rattle.std.specs.List.{AllByRecursion};
 ghost use Rattle.sqlite_value.specs.Order.{Row as SqlRow};
-ghost use Rattle.audit_tables.specs.Listed.{AreRows};
+ghost use Rattle.audit_tables.specs.Listed.{AreRows, IsListed};
 
 use shop_schema::{Cells, read_cells};
 use shop_types::NoMemory;
@@ -13,25 +13,20 @@ use std::alloc::Global;
 
 /// What is kept of a row of some table.
 pub trait Listed: Sized + Drop {
-    // the row is one of the table's
-    ghost is_one: { SqlRow → Type 0 };
-
-    // this is kept of the row
+    // this is kept of the row, which is one of the table's
     ghost is_row: { Self → SqlRow → Type 0 };
 
     /// What is kept of the row, or nothing where it is none of the table's. But for memory, that doesn't fail.
     fn read(row: &Row) -> Result<Option<Self>, StoreFault>
         ensures found { IfOk result (λ o. IfSome o (λ x. is_row x row.now)) }
-        ensures one { IfOk result (λ o. IfSome o (λ x. is_one row.now)) }
-        ensures none { IfOk result (λ o. IfNone o (¬ is_one row.now)) };
+        ensures none { IfOk result (λ o. IfNone o (¬ IsListed is_row row.now)) };
 }
 
 /// What is kept of each of the rows, in their order, or nothing where one of them is no row of the table. What can't
 /// be read wants memory.
 pub fn read_rows<T: Listed>(alloc: Global, rows: &[Row]) -> Result<Option<Vec<T>>, NoMemory>
     ensures found { IfOk result (λ o. IfSome o (λ all. AreRows T.Listed.is_row all.items rows.now)) }
-    ensures ones { IfOk result (λ o. IfSome o (λ all. AllByRecursion T.Listed.is_one rows.now)) }
-    ensures none { IfOk result (λ o. IfNone o (¬ AllByRecursion T.Listed.is_one rows.now)) }
+    ensures none { IfOk result (λ o. IfNone o (¬ AllByRecursion (IsListed T.Listed.is_row) rows.now)) }
 {
     let mut all = Vec::new(alloc);
     for row in rows {
@@ -52,10 +47,7 @@ pub fn read_rows<T: Listed>(alloc: Global, rows: &[Row]) -> Result<Option<Vec<T>
 pub trait Kept: Sized + Drop {
     type Cells: Cells;
 
-    // the row is one of the table's
-    ghost one: { SqlRow → Type 0 };
-
-    // this is kept of the row
+    // this is kept of the row, which is one of the table's
     ghost kept: { Self → SqlRow → Type 0 };
 
     // what is kept of these cells
@@ -66,14 +58,11 @@ pub trait Kept: Sized + Drop {
 
     ghost rows: { (p : Self.Cells) → Self.Cells.fits p → kept (keeps p) (Self.Cells.columns p) };
 
-    ghost ones: { (p : Self.Cells) → Self.Cells.fits p → one (Self.Cells.columns p) };
-
-    ghost only: { (r : SqlRow) → one r → (p : Self.Cells) × Self.Cells.fits p × (Self.Cells.columns p ≡ r) };
+    ghost only: { (x : Self) (r : SqlRow) → kept x r
+        → (p : Self.Cells) × Self.Cells.fits p × (Self.Cells.columns p ≡ r) };
 }
 
 impl<T: Kept> Listed for T {
-    ghost is_one = { T.Kept.one };
-
     ghost is_row = { T.Kept.kept };
 
     fn read(row: &Row) -> Result<Option<T>, StoreFault> {

@@ -2,8 +2,7 @@
 //! taken.
 
 ghost use Rattle.std.specs.Prelude.{◌≡◌, ◌≢◌, ◌↔◌, ◌++◌, IsTrue, ℕ, List, IfSome, IfNone, length, map};
-ghost use Rattle.shop_schema.specs.Forms.{number_form, text_form};
-ghost use Rattle.shop_schema.specs.RowValues.{AreNumbers, AreBytes};
+ghost use Rattle.shop_schema.specs.Forms.{number_form, text_form, AreNumbers, AreBytes};
 ghost use Rattle.audit_tables.specs.Forms.{IsPartForm, IsForm, IsOneOf, form_of_each};
 
 use crate::texts::{are_features, is_key, is_rating, is_text, is_utf8};

@@ -1,15 +1,15 @@
-//! Shared rows, each with its number.
+//! Shared rows.
 
 ghost use Rattle.std.specs.Prelude.{refl};
+ghost use Rattle.audit_rows.specs.Ordered.{cast_row, city_row, film_row, staff_row};
+ghost use Rattle.audit_tables.specs.TableRows.{full_row, only_row};
+ghost use Rattle.audit_tables.specs.Rows.{chain_row, IsChainRow, rule_row, IsRuleRow, IsNamedRow, IsCityRow, IsActorRow, IsFilmRow, IsCastRow, IsBranchRow, IsStaffRow, shared_row, told_row};
 ghost use Rattle.shop_schema.proofs.ShopTables as table;
-ghost use Rattle.audit_rows.specs.Ordered.{cast_row};
 ghost use Rattle.audit_tables.specs.AuditTables as audited;
-ghost use Rattle.audit_tables.specs.TableRows.{full_row, one_row, only_row};
-ghost use Rattle.audit_tables.specs.Rows.{chain_row, IsOneChain, IsChainRow, rule_row, IsOneRule, IsRuleRow, named_row, IsOneNamed, IsNamedRow, numbered_city, IsOneCity, IsCityRow, numbered_actor, IsOneActor, IsActorRow, numbered_film, IsOneFilm, IsFilmRow, IsOneCast, IsCastRow, numbered_branch, IsOneBranch, IsBranchRow, numbered_staff, IsOneStaff, IsStaffRow};
 
 use crate::listed::Kept;
 use audit_rows::{CheckedBranch, CheckedCast, CheckedCity, CheckedFilm, CheckedStaff};
-use shop_schema::{
+use shop_schema::tables::{
     ActorCells, BranchCells, CastCells, ChainCells, CityCells, FilmCells, NamedCells, RuleCells,
     StaffCells,
 };
@@ -27,51 +27,15 @@ pub struct RuleRow {
     pub by_comment: bool,
 }
 
-/// A country, a language or a category.
+/// A shared row with its number, and what is kept of it.
 #[derive(Drop)]
-pub struct NamedRow {
+pub struct SharedRow<T> {
     pub number: u32,
-    pub name: T45,
-}
-
-/// A city, with the country that it is in.
-#[derive(Drop)]
-pub struct NumberedCity {
-    pub number: u32,
-    pub city: CheckedCity,
-}
-
-/// An actor. The name isn't kept.
-#[derive(Drop)]
-pub struct NumberedActor {
-    pub number: u32,
-}
-
-/// A film, with its language and category.
-#[derive(Drop)]
-pub struct NumberedFilm {
-    pub number: u32,
-    pub film: CheckedFilm,
-}
-
-/// A branch, with its last moment.
-#[derive(Drop)]
-pub struct NumberedBranch {
-    pub number: u32,
-    pub branch: CheckedBranch,
-}
-
-/// A member of staff.
-#[derive(Drop)]
-pub struct NumberedStaff {
-    pub number: u32,
-    pub staff: CheckedStaff,
+    pub it: T,
 }
 
 impl Kept for ChainRow {
     type Cells = ChainCells;
-
-    ghost one = { IsOneChain };
 
     ghost kept = { IsChainRow };
 
@@ -84,15 +48,11 @@ impl Kept for ChainRow {
 
     ghost rows = { λ p fits. full_row table.chain chain_row p fits refl };
 
-    ghost ones = { one_row table.chain };
-
     ghost only = { only_row table.chain };
 }
 
 impl Kept for RuleRow {
     type Cells = RuleCells;
-
-    ghost one = { IsOneRule };
 
     ghost kept = { IsRuleRow };
 
@@ -108,110 +68,91 @@ impl Kept for RuleRow {
 
     ghost rows = { λ p fits. full_row table.chain_rule rule_row p fits refl };
 
-    ghost ones = { one_row table.chain_rule };
-
     ghost only = { only_row table.chain_rule };
 }
 
-impl Kept for NamedRow {
+impl Kept for SharedRow<T45> {
     type Cells = NamedCells<0>;
-
-    ghost one = { IsOneNamed };
 
     ghost kept = { IsNamedRow };
 
-    ghost keeps = { λ p. named_row (table.named.from p) };
+    ghost keeps = { λ p. shared_row (λ name. name) (table.named.from p) };
 
-    fn keep(cells: NamedCells<0>) -> NamedRow {
+    fn keep(cells: NamedCells<0>) -> SharedRow<T45> {
         let (number, (name, ())) = cells;
-        NamedRow {
+        SharedRow {
             number: number.get(),
-            name,
+            it: name,
         }
     }
 
-    ghost rows = { λ p fits. full_row table.named named_row p fits refl };
-
-    ghost ones = { one_row table.named };
+    ghost rows = { λ p fits. full_row table.named (shared_row (λ name. name)) p fits refl };
 
     ghost only = { only_row table.named };
 }
 
-impl Kept for NumberedCity {
+impl Kept for SharedRow<CheckedCity> {
     type Cells = CityCells;
-
-    ghost one = { IsOneCity };
 
     ghost kept = { IsCityRow };
 
-    ghost keeps = { λ p. numbered_city (table.cities.from p) };
+    ghost keeps = { λ p. shared_row city_row (table.cities.from p) };
 
-    fn keep(cells: CityCells) -> NumberedCity {
+    fn keep(cells: CityCells) -> SharedRow<CheckedCity> {
         let (number, (_name, (country, ()))) = cells;
-        NumberedCity {
+        SharedRow {
             number: number.get(),
-            city: CheckedCity { country },
+            it: CheckedCity { country },
         }
     }
 
-    ghost rows = { λ p fits. full_row table.cities numbered_city p fits refl };
-
-    ghost ones = { one_row table.cities };
+    ghost rows = { λ p fits. full_row table.cities (shared_row city_row) p fits refl };
 
     ghost only = { only_row table.cities };
 }
 
-impl Kept for NumberedActor {
+impl Kept for SharedRow<()> {
     type Cells = ActorCells;
-
-    ghost one = { IsOneActor };
 
     ghost kept = { IsActorRow };
 
-    ghost keeps = { λ p. numbered_actor (table.actors.from p) };
+    ghost keeps = { λ p. shared_row (λ it. tt) (table.actors.from p) };
 
-    fn keep(cells: ActorCells) -> NumberedActor {
+    fn keep(cells: ActorCells) -> SharedRow<()> {
         let (number, (_first, (_last, ()))) = cells;
-        NumberedActor {
+        SharedRow {
             number: number.get(),
+            it: (),
         }
     }
 
-    ghost rows = { λ p fits. full_row table.actors numbered_actor p fits refl };
-
-    ghost ones = { one_row table.actors };
+    ghost rows = { λ p fits. full_row table.actors (shared_row (λ it. tt)) p fits refl };
 
     ghost only = { only_row table.actors };
 }
 
-impl Kept for NumberedFilm {
+impl Kept for SharedRow<CheckedFilm> {
     type Cells = FilmCells;
-
-    ghost one = { IsOneFilm };
 
     ghost kept = { IsFilmRow };
 
-    ghost keeps = { λ p. numbered_film (table.films.from p) };
+    ghost keeps = { λ p. shared_row film_row (table.films.from p) };
 
-    fn keep(cells: FilmCells) -> NumberedFilm {
+    fn keep(cells: FilmCells) -> SharedRow<CheckedFilm> {
         let (number, (_title, (_description, (language, (category, _priced))))) = cells;
-        NumberedFilm {
+        SharedRow {
             number: number.get(),
-            film: CheckedFilm { language, category },
+            it: CheckedFilm { language, category },
         }
     }
 
-    ghost rows = { λ p fits. full_row table.films numbered_film p fits refl };
-
-    ghost ones = { one_row table.films };
+    ghost rows = { λ p fits. full_row table.films (shared_row film_row) p fits refl };
 
     ghost only = { only_row table.films };
 }
 
 impl Kept for CheckedCast {
     type Cells = CastCells;
-
-    ghost one = { IsOneCast };
 
     ghost kept = { IsCastRow };
 
@@ -224,26 +165,22 @@ impl Kept for CheckedCast {
 
     ghost rows = { λ p fits. full_row table.casts cast_row p fits refl };
 
-    ghost ones = { one_row table.casts };
-
     ghost only = { only_row table.casts };
 }
 
-impl Kept for NumberedBranch {
+impl Kept for SharedRow<CheckedBranch> {
     type Cells = BranchCells;
-
-    ghost one = { IsOneBranch };
 
     ghost kept = { IsBranchRow };
 
-    ghost keeps = { λ p. numbered_branch (audited.branches.from p) };
+    ghost keeps = { λ p. shared_row told_row (audited.branches.from p) };
 
-    fn keep(cells: BranchCells) -> NumberedBranch {
+    fn keep(cells: BranchCells) -> SharedRow<CheckedBranch> {
         let (number, (token, (_address, (_postal, (_phone, more))))) = cells;
         let (city, (manager, (last, ()))) = more;
-        NumberedBranch {
+        SharedRow {
             number: number.get(),
-            branch: CheckedBranch {
+            it: CheckedBranch {
                 token,
                 city,
                 manager,
@@ -252,34 +189,28 @@ impl Kept for NumberedBranch {
         }
     }
 
-    ghost rows = { λ p fits. full_row audited.branches numbered_branch p fits refl };
-
-    ghost ones = { one_row audited.branches };
+    ghost rows = { λ p fits. full_row audited.branches (shared_row told_row) p fits refl };
 
     ghost only = { only_row audited.branches };
 }
 
-impl Kept for NumberedStaff {
+impl Kept for SharedRow<CheckedStaff> {
     type Cells = StaffCells;
-
-    ghost one = { IsOneStaff };
 
     ghost kept = { IsStaffRow };
 
-    ghost keeps = { λ p. numbered_staff (table.staff.from p) };
+    ghost keeps = { λ p. shared_row staff_row (table.staff.from p) };
 
-    fn keep(cells: StaffCells) -> NumberedStaff {
+    fn keep(cells: StaffCells) -> SharedRow<CheckedStaff> {
         let (number, (branch, (_first, (_last, (_address, (_postal, (_phone, more))))))) = cells;
         let (city, _gone) = more;
-        NumberedStaff {
+        SharedRow {
             number: number.get(),
-            staff: CheckedStaff { branch, city },
+            it: CheckedStaff { branch, city },
         }
     }
 
-    ghost rows = { λ p fits. full_row table.staff numbered_staff p fits refl };
-
-    ghost ones = { one_row table.staff };
+    ghost rows = { λ p fits. full_row table.staff (shared_row staff_row) p fits refl };
 
     ghost only = { only_row table.staff };
 }

@@ -1,26 +1,21 @@
 -- The counts of books are those of rows in order.
 use Rattle.std.proofs.Common.{is_none}
-use Rattle.shop_schema.proofs.Common.{◌≡◌, ◌+◌, ◌==◌, ℕ, List, [], ◌∷◌, ◌++◌, map, filter, length, Bool, refl, sym, ap, subst, ◌∙◌, arith, IsPermutation, flat_map, fold, map-map, Row, Owned, is_of, numbered_from, Customer, Branch, Kept, OfficeKept, Books, Consignment, Pair, count_pair, pairs_of, branch_counts, counts_of, is_open, out_of}
-use Rattle.audit_rows.specs.Ordered.{HaveOrderedRows, customer_row, kept_row, branch_row, without_last}
+use Rattle.shop_schema.proofs.Common.{◌≡◌, ◌+◌, ◌==◌, ℕ, List, [], ◌∷◌, ◌++◌, map, filter, length, Bool, refl, sym, ap, subst, ◌∙◌, arith, IsPermutation, flat_map, fold, map-map, Row, Owned, of, numbered_from, Branch, Kept, OfficeKept, Books, Customers, CopyRows, Rentals, Payments, rows_of, Consignment, Pair, count_pair, pairs_of, branch_counts, counts_of, is_open, out_of}
+use Rattle.shop_model.specs.Books.{Table, RowOf}
+use Rattle.shop_types.specs.declared.rental.Rental.{Rental}
+use Rattle.audit_rows.specs.Ordered.{HaveOrderedRows, kept_row, branch_row, without_last}
 use Rattle.audit_rows.specs.Joins.{header}
-use Rattle.audit_rows.specs.Seen.{seen_copy, seen_rental_row, seen_payment_row, seen_header, seen_placed}
+use Rattle.audit_rows.specs.Seen.{seen_rental_row, seen_header, seen_placed}
+use Rattle.audit_rows.specs.Tables.{is_in, checked_row, checked_rows}
 use Rattle.audit_rows.specs.declared.books.OrderedBooks.{OrderedBooks}
-use Rattle.audit_rows.specs.declared.rows.CheckedRental.{CheckedRental}
+use Rattle.audit_rows.specs.declared.rows.CheckedRow.{CheckedRow}
 use Rattle.audit_rows.specs.declared.rows.CheckedHeader.{CheckedHeader}
 use Rattle.audit_rows.proofs.JoinLemmas.{join_sound}
-use Rattle.audit_rows.proofs.Maps.{filter-map, length-map}
+use Rattle.audit_rows.proofs.Maps.{filter-map, length-map, many_kept}
+use Rattle.audit_rows.proofs.OrderedLemmas.{rentals_seen}
 use Rattle.books_audit.specs.Read.{counters_in, outs_in, pairs_in, counts_of_branch}
 use Rattle.books_audit.proofs.PairLemmas.{pairs_along}
 use Rattle.std.specs.Prelude.{None}
-
--- so many of the rows, and so many of what is kept of them
-many_kept : {X Y A : Type 0} (f : X → Y) (g : X → A) (q : Y → Bool) (xs : List X) (ys : List Y) → map f xs ≡ ys → length (map g (filter (λ x. q (f x)) xs)) ≡ length (filter q ys)
-many_kept f g q xs ys e =
-    length-map g (filter (λ x. q (f x)) xs) ∙ sym (length-map f (filter (λ x. q (f x)) xs)) ∙ ap length (sym (filter-map q f xs)) ∙ ap (λ l. length (filter q l)) e
-
-many_seen : {X Y A : Type 0} (f : Y → X) (g : X → A) (p : X → Bool) (xs : List X) (ys : List Y) → xs ≡ map f ys → length (map g (filter p xs)) ≡ length (filter (λ y. p (f y)) ys)
-many_seen f g p xs ys e =
-    length-map g (filter p xs) ∙ ap (λ l. length (filter p l)) e ∙ ap length (filter-map p f ys) ∙ length-map f (filter (λ y. p (f y)) ys)
 
 by_numbers : {X Y C : Type 0} (f : ℕ × X → List C) (g : ℕ × Y → List C) → ((n : ℕ) (x : X) (y : Y) → f (n, x) ≡ g (n, y)) → (k : ℕ) (xs : List X) (ys : List Y) → length xs ≡ length ys → flat_map f (numbered_from k xs) ≡ flat_map g (numbered_from k ys)
 by_numbers f g h k [] [] e = refl
@@ -42,12 +37,15 @@ counted_headers pairs (it ∷ its) (x ∷ headers) h =
 module _ (rows : OrderedBooks) (c : Books) (has : HaveOrderedRows rows c) where
   one_branch : (b : ℕ) (it : Branch) → branch_counts c (b, it) ≡ counts_of_branch rows b
   one_branch b it = λ i.
-      record { caller = b; kind = 0; last = many_kept customer_row (λ (row : Row Customer). row.it) (λ x. x.branch == b) c.customers rows.customers.items has.customers i }
-      ∷ record { caller = b; kind = 1; last = many_seen seen_copy (λ row. row.it) (is_of b) c.copies rows.copies.items has.copies i }
-      ∷ record { caller = b; kind = 2; last = many_seen seen_rental_row (λ row. row.it) (is_of b) c.rentals rows.rentals.items has.rentals i }
-      ∷ record { caller = b; kind = 3; last = many_seen seen_payment_row (λ row. row.it) (is_of b) c.payments rows.payments.items has.payments i }
+      record { caller = b; kind = 0; last = many Customers i }
+      ∷ record { caller = b; kind = 1; last = many CopyRows i }
+      ∷ record { caller = b; kind = 2; last = many Rentals i }
+      ∷ record { caller = b; kind = 3; last = many Payments i }
       ∷ record { caller = b; kind = 4; last = many_kept kept_row (λ (row : Owned Kept). row.it) (λ x. x.branch == b) c.kept rows.kept.items has.kept i }
       ∷ []
+    where
+      many : (t : Table) → length (of b (rows_of c t)) ≡ length (filter (is_in b) (checked_rows rows t))
+      many t = many_kept (checked_row t) (λ (row : Row (RowOf t)). row.it) (is_in b) (rows_of c t) (checked_rows rows t) (has.rows t)
 
   pub branch_count : length c.catalogue.branches ≡ length rows.branches.items
   branch_count = sym (length-map (branch_row None) c.catalogue.branches) ∙ ap length has.shared.branches ∙ length-map without_last rows.branches.items
@@ -62,8 +60,8 @@ module _ (rows : OrderedBooks) (c : Books) (has : HaveOrderedRows rows c) where
 
   pub outs_same : (counts_of c).outs ≡ outs_in rows
   outs_same =
-      ap (λ l. map out_of (filter is_open l)) has.rentals ∙ ap (map out_of) (filter-map is_open seen_rental_row rows.rentals.items)
-      ∙ map-map out_of seen_rental_row (filter (λ (x : CheckedRental). is_none x.rental.returned) rows.rentals.items)
+      ap (λ l. map out_of (filter is_open l)) (rentals_seen rows c has) ∙ ap (map out_of) (filter-map is_open seen_rental_row rows.rentals.items)
+      ∙ map-map out_of seen_rental_row (filter (λ (x : CheckedRow Rental). is_none x.it.returned) rows.rentals.items)
 
   -- its consignments in the order of their keys are the headers
   pub pairs_same : IsPermutation (pairs_in rows) (counts_of c).pairs

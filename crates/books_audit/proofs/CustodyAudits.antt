@@ -1,11 +1,10 @@
 -- What was read of rows is all that they stand for.
 use Rattle.std.proofs.Common.{IfOk}
-use Rattle.shop_schema.proofs.Common.{◌≡◌, ◌&&◌, ◌+◌, List, map, false, refl, sym, subst, ◌∙◌, true≢false, IsPermutation, Result, Ok, Err, AllByRecursion, IsPermutation-map, IsPermutation-refl, IsPermutation-trans, IsPermutation-sym, map-map, Row, Here, Scrapped, BookCopy, Line, UnderWay, Missing, one, is_origin, copy_is, line_is, copy_columns, IsRow, IsCopy, Audit}
+use Rattle.shop_schema.proofs.Common.{◌≡◌, ◌&&◌, ◌+◌, List, map, false, refl, sym, subst, ◌∙◌, true≢false, IsPermutation, Result, Ok, Err, AllByRecursion, IsPermutation-map, IsPermutation-refl, IsPermutation-trans, IsPermutation-sym, map-map, Row, Here, Scrapped, BookCopy, CopyRows, Line, UnderWay, Missing, one, is_origin, copy_is, line_is, copy_columns, IsRow, IsCopy, Audit}
 use Rattle.sqlite_value.specs.Order as sql
 use Rattle.shop_schema.proofs.OneRow.{same_row}
 use Rattle.shop_schema.proofs.ShopTables as table
 use Rattle.audit_rows.specs.Joins.{Placed}
-use Rattle.audit_rows.specs.declared.rows.CheckedCopy.{CheckedCopy}
 use Rattle.audit_rows.specs.declared.rows.CheckedLine.{CheckedLine}
 use Rattle.audit_rows.specs.Marked.{AreInCustody, any_mark}
 use Rattle.audit_rows.specs.Seen.{seen_copy, seen_placed, seen_line}
@@ -14,16 +13,16 @@ use Rattle.audit_rows.proofs.Standing.{same_rows}
 use Rattle.audit_rows.proofs.Transfer.{total_along}
 use Rattle.audit_tables.specs.AuditTables as audited
 use Rattle.audit_tables.specs.Columns.{placed_columns, IsPlaced}
-use Rattle.audit_tables.specs.Listed.{AreRows}
-use Rattle.audit_tables.specs.Rows.{copy_row, IsOneCopy, IsCopyRow, placed_row, IsOneLine, IsLineRow}
-use Rattle.audit_tables.specs.States.{state_again, line_state_again}
+use Rattle.audit_tables.specs.Listed.{AreRows, IsListed}
+use Rattle.audit_tables.specs.Rows.{placed_row, IsLineRow}
+use Rattle.audit_tables.specs.BranchTables.{IsKeptRow}
+use Rattle.audit_rows.specs.States.{line_state_again}
+use Rattle.audit_rows.specs.Tables.{CheckedOf, checked_row}
+use Rattle.audit_rows.proofs.OrderedLemmas.{copy_again}
 use Rattle.books_audit.specs.Audited.{StandFor, Stand, lines_of, CountsCustody, IsCustodyAudit, AuditsRows}
 use Rattle.books_audit.proofs.FullLists.{fulls, seen_all, ones}
 
--- ---- copies and lines are told by what is kept of them
-
-pub copy_again : (it : Row BookCopy) → seen_copy (copy_row it) ≡ it
-copy_again it = λ i. record it { it = record it.it { state = state_again it.it.state i } }
+-- ---- lines are told by what is kept of them
 
 pub placed_again : (p : Placed) → seen_placed (placed_row p) ≡ p
 placed_again p = λ i. record p { line = record p.line { state = line_state_again p.line.state i } }
@@ -49,13 +48,13 @@ module _ (copy_rows line_rows : List sql.Row) where
     nothing = λ _. record { made = refl; here = refl; transit = refl; gone = refl };
   }
 
-  pub no_copies : ¬ AllByRecursion IsOneCopy copy_rows → ¬ Stand copy_rows line_rows
-  no_copies none (copies, lines, h) = none (ones copy_columns (IsRow IsCopy) copies copy_rows h.copy_values h.copies_are)
+  pub no_copies : ¬ AllByRecursion (IsListed (IsKeptRow CopyRows)) copy_rows → ¬ Stand copy_rows line_rows
+  no_copies none (copies, lines, h) = none (ones copy_columns (IsRow IsCopy) (checked_row CopyRows) copies copy_rows h.copy_values h.copies_are)
 
-  pub no_lines : ¬ AllByRecursion IsOneLine line_rows → ¬ Stand copy_rows line_rows
-  no_lines none (copies, lines, h) = none (ones placed_columns IsPlaced lines line_rows h.line_values h.lines_are)
+  pub no_lines : ¬ AllByRecursion (IsListed IsLineRow) line_rows → ¬ Stand copy_rows line_rows
+  no_lines none (copies, lines, h) = none (ones placed_columns IsPlaced placed_row lines line_rows h.line_values h.lines_are)
 
-  module _ (xs : List CheckedCopy) (ys : List CheckedLine) (p : AreRows IsCopyRow xs copy_rows) (q : AreRows IsLineRow ys line_rows) where
+  module _ (xs : List (CheckedOf CopyRows)) (ys : List CheckedLine) (p : AreRows (IsKeptRow CopyRows) xs copy_rows) (q : AreRows IsLineRow ys line_rows) where
     abbrev copies : List (Row BookCopy)
     copies = map seen_copy xs
 
@@ -64,9 +63,9 @@ module _ (copy_rows line_rows : List sql.Row) where
 
     stands : StandFor copy_rows line_rows copies placed
     stands =
-        let c = fulls copy_columns (IsRow IsCopy) copy_row xs xs copy_rows p (IsPermutation-refl xs) in
+        let c = fulls copy_columns (IsRow IsCopy) (checked_row CopyRows) xs xs copy_rows p (IsPermutation-refl xs) in
         let l = fulls placed_columns IsPlaced placed_row ys ys line_rows q (IsPermutation-refl ys) in
-        let cs = seen_all seen_copy copy_row copy_again c.its c.keeps in
+        let cs = seen_all seen_copy (checked_row CopyRows) copy_again c.its c.keeps in
         let ls = seen_all seen_placed placed_row placed_again l.its l.keeps in record {
           copies_are = subst (λ k. IsPermutation copy_rows (map copy_columns k)) cs c.has;
           copy_values = subst (AllByRecursion (IsRow IsCopy)) cs c.fit;

@@ -1,11 +1,12 @@
 -- Tables that were read, and whose rows are in order, stand for books that have these rows.
-use Rattle.shop_schema.proofs.Common.{◌≡◌, ◌==◌, ◌&&◌, ◌<◌, ◌^◌, ℕ, List, [], ◌∷◌, map, length, None, Option, refl, sym, ap, subst, ◌∙◌, IsPermutation, AllByRecursion, flat_map, bytes_eq, IsPermutation-map, IsPermutation-trans, IsPermutation-sym, map-id, map-map, IsPermutation-flat_map, Moment, Owned, owned_by, Text, Cast, Branch, Rule, Kept, OfficeKept, Books, Consignment, head, chain_columns, named_columns, city_columns, actor_columns, film_columns, cast_columns, staff_columns, customer_columns, copy_columns, rental_columns, terms_columns, rule_columns, payment_columns, lot_columns, consignment_columns, line_rows, IsName, IsToken, IsCity, IsActor, IsFilm, IsCast, IsStaff, IsRow, IsCustomer, IsCopy, IsRental, IsTerms, IsPayment, IsLot, IsConsignment, IsLast, Customers, CopyRows, Rentals, TermRows, Payments, rows_of, AreRowValues}
-use Rattle.shop_model.specs.Books.{Table}
+use Rattle.shop_schema.proofs.Common.{◌≡◌, ◌==◌, ◌&&◌, ◌<◌, ◌^◌, ℕ, List, [], ◌∷◌, map, length, None, Option, refl, sym, ap, subst, ◌∙◌, IsPermutation, AllByRecursion, all_of, flat_map, bytes_eq, IsPermutation-map, IsPermutation-trans, IsPermutation-sym, map-id, map-map, IsPermutation-flat_map, Moment, Owned, owned_by, Text, Cast, Branch, Rule, Kept, OfficeKept, Books, Consignment, head, Catalogue, chain_columns, named_columns, city_columns, actor_columns, film_columns, cast_columns, staff_columns, rule_columns, lot_columns, consignment_columns, line_rows, IsName, IsToken, IsCity, IsActor, IsFilm, IsCast, IsStaff, IsRow, IsRowOf, IsLot, IsConsignment, IsLast, RowsOf, rows_of, AreRowValues}
+use Rattle.shop_model.specs.Books.{Table, opening}
 use Rattle.audit_rows.specs.Lists.{climbs}
 use Rattle.audit_rows.specs.Canons.{row_key, office_key}
 use Rattle.audit_rows.specs.Joins.{header, placed}
-use Rattle.audit_rows.specs.Seen.{seen_copy, seen_rental_row, seen_payment_row, seen_header, seen_placed}
-use Rattle.audit_rows.specs.Ordered.{AreOrdered, HaveOrderedRows, HaveSharedRows, city_row, film_row, cast_row, branch_row, without_last, staff_row, customer_row, terms_row, lot_row, kept_row, lasts_from}
+use Rattle.audit_rows.specs.Seen.{seen_header, seen_placed}
+use Rattle.audit_rows.specs.Tables.{all_tables, each, with_all, checked_row, checked_rows}
+use Rattle.audit_rows.specs.Ordered.{AreOrdered, HaveOrderedRows, HaveSharedRows, city_row, film_row, cast_row, branch_row, without_last, staff_row, lot_row, kept_row, lasts_from}
 use Rattle.audit_rows.specs.declared.books.OrderedBooks.{OrderedBooks}
 use Rattle.audit_rows.specs.declared.rows.CheckedBranch.{CheckedBranch}
 use Rattle.audit_rows.specs.declared.rows.CheckedCast.{CheckedCast}
@@ -15,17 +16,20 @@ use Rattle.audit_rows.proofs.JoinLemmas.{join_sound}
 use Rattle.audit_rows.proofs.Maps.{length-map}
 use Rattle.audit_rows.proofs.Standing.{all_moved}
 use Rattle.audit_tables.specs.Columns.{told_columns, IsTold, header_columns, IsHeader, placed_columns, IsPlaced}
-use Rattle.audit_tables.specs.Rows.{chain_row, rule_row, AnyRule, named_row, numbered_city, numbered_actor, numbered_film, numbered_branch, numbered_staff, copy_row, rental_row, payment_row, header_row, placed_row}
-use Rattle.books_audit.proofs.CustodyAudits.{copy_again, placed_again}
+use Rattle.audit_tables.specs.Rows.{chain_row, rule_row, AnyRule, told_row, header_row, placed_row}
+use Rattle.audit_tables.specs.BranchTables.{place_of, row_columns}
+use Rattle.books_audit.proofs.CustodyAudits.{placed_again}
 use Rattle.audit_tables.specs.declared.shared.RuleRow.{RuleRow}
 use Rattle.books_audit.specs.declared.tables.TableRows.{TableRows}
+use Rattle.books_audit.specs.declared.tables.TheConstants.{CHAIN, COUNTRIES, LANGUAGES, CATEGORIES, CITIES, ACTORS, FILMS, CASTS, BRANCHES, STAFF, LOTS, CONSIGNMENTS, LINES, KEPT, RULE}
+use Rattle.books_audit.specs.Tables.{rows_in}
 use Rattle.books_audit.specs.Audits.{HaveRowsOf, HaveKeys, HaveBooks, AreInOrder, same_row}
 use Rattle.books_audit.specs.ReadInOrder.{AreReadInOrder}
 use Rattle.books_audit.proofs.FullLists.{Fulls, full_rows, seen_all}
-use Rattle.books_audit.proofs.SharedLists.{SharedOf, shared_of, told_row, tell, lasts_fit, branches_fit}
+use Rattle.books_audit.proofs.SharedLists.{SharedOf, shared_of, tell, lasts_fit, branches_fit}
 use Rattle.books_audit.proofs.KeptRows.{KeptOf, kept_of}
 use Rattle.books_audit.proofs.Canonical.{apart, row_test, consignments_apart, consignments_fit, by_place, same_by_place, sorted_by_place}
-use Rattle.books_audit.proofs.InOrder.{are_ordered, in_order}
+use Rattle.books_audit.proofs.InOrder.{rows_read, are_ordered, in_order}
 use Rattle.books_audit.proofs.SameConsignments.{as_placed}
 
 one_token : (its : List Text) (t : List ℕ) → map chain_row its ≡ record { office_token = t } ∷ [] → its ≡ t ∷ []
@@ -47,45 +51,37 @@ module _ (tables : TableRows) (rows : OrderedBooks) (read : AreReadInOrder table
 
   -- of what the rows of each table are kept
   record Values : Type 0 where
-    countries : SharedOf named_columns IsName (λ (t : Text). t) tables.countries.items rows.countries.items
-    languages : SharedOf named_columns IsName (λ (t : Text). t) tables.languages.items rows.languages.items
-    categories : SharedOf named_columns IsName (λ (t : Text). t) tables.categories.items rows.categories.items
-    cities : SharedOf city_columns IsCity city_row tables.cities.items rows.cities.items
-    actors : SharedOf actor_columns IsActor (λ it. tt) tables.actors.items read.actor_marks
-    films : SharedOf film_columns IsFilm film_row tables.films.items rows.films.items
-    branches : SharedOf told_columns IsTold told_row tables.branches.items rows.branches.items
-    staff : SharedOf staff_columns IsStaff staff_row tables.staff.items rows.staff.items
-    chain : Fulls chain_columns IsToken chain_row (record { office_token = rows.office_token } ∷ []) tables.chain.items
-    rules : Fulls rule_columns AnyRule rule_row (read.rule_row ∷ []) tables.rule.items
-    casts : Fulls cast_columns IsCast cast_row rows.casts.items tables.casts.items
-    customers : Fulls customer_columns (IsRow IsCustomer) customer_row rows.customers.items tables.customers.items
-    rentals : Fulls rental_columns (IsRow IsRental) rental_row rows.rentals.items tables.rentals.items
-    terms : Fulls terms_columns (IsRow IsTerms) terms_row rows.terms.items tables.terms.items
-    payments : Fulls payment_columns (IsRow IsPayment) payment_row rows.payments.items tables.payments.items
-    lots : Fulls lot_columns IsLot lot_row rows.lots.items tables.lots.items
-    copies : Fulls copy_columns (IsRow IsCopy) copy_row rows.copies.items tables.copies.items
-    headers : Fulls header_columns IsHeader header_row rows.headers.items tables.consignments.items
-    lines : Fulls placed_columns IsPlaced placed_row rows.lines.items tables.lines.items
+    countries : SharedOf named_columns IsName (λ (t : Text). t) (rows_in tables COUNTRIES) rows.countries.items
+    languages : SharedOf named_columns IsName (λ (t : Text). t) (rows_in tables LANGUAGES) rows.languages.items
+    categories : SharedOf named_columns IsName (λ (t : Text). t) (rows_in tables CATEGORIES) rows.categories.items
+    cities : SharedOf city_columns IsCity city_row (rows_in tables CITIES) rows.cities.items
+    actors : SharedOf actor_columns IsActor (λ it. tt) (rows_in tables ACTORS) read.actor_marks
+    films : SharedOf film_columns IsFilm film_row (rows_in tables FILMS) rows.films.items
+    branches : SharedOf told_columns IsTold told_row (rows_in tables BRANCHES) rows.branches.items
+    staff : SharedOf staff_columns IsStaff staff_row (rows_in tables STAFF) rows.staff.items
+    chain : Fulls chain_columns IsToken chain_row (record { office_token = rows.office_token } ∷ []) (rows_in tables CHAIN)
+    rules : Fulls rule_columns AnyRule rule_row (read.rule_row ∷ []) (rows_in tables RULE)
+    casts : Fulls cast_columns IsCast cast_row rows.casts.items (rows_in tables CASTS)
+    by_table : (t : Table) → Fulls (row_columns t) (IsRow (IsRowOf t)) (checked_row t) (checked_rows rows t) (rows_in tables (place_of t))
+    lots : Fulls lot_columns IsLot lot_row rows.lots.items (rows_in tables LOTS)
+    headers : Fulls header_columns IsHeader header_row rows.headers.items (rows_in tables CONSIGNMENTS)
+    lines : Fulls placed_columns IsPlaced placed_row rows.lines.items (rows_in tables LINES)
 
   of : Values
   of = record {
-    countries = shared_of named_columns IsName named_row (λ x. x.number) (λ x. x.name) (λ t. t) (λ it. refl) (λ it. refl) read.countries;
-    languages = shared_of named_columns IsName named_row (λ x. x.number) (λ x. x.name) (λ t. t) (λ it. refl) (λ it. refl) read.languages;
-    categories = shared_of named_columns IsName named_row (λ x. x.number) (λ x. x.name) (λ t. t) (λ it. refl) (λ it. refl) read.categories;
-    cities = shared_of city_columns IsCity numbered_city (λ x. x.number) (λ x. x.city) city_row (λ it. refl) (λ it. refl) read.cities;
-    actors = shared_of actor_columns IsActor numbered_actor (λ x. x.number) (λ x. tt) (λ it. tt) (λ it. refl) (λ it. refl) read.actors;
-    films = shared_of film_columns IsFilm numbered_film (λ x. x.number) (λ x. x.film) film_row (λ it. refl) (λ it. refl) read.films;
-    branches = shared_of told_columns IsTold numbered_branch (λ x. x.number) (λ x. x.branch) told_row (λ it. refl) (λ it. refl) read.branches;
-    staff = shared_of staff_columns IsStaff numbered_staff (λ x. x.number) (λ x. x.staff) staff_row (λ it. refl) (λ it. refl) read.staff;
+    countries = shared_of named_columns IsName (λ t. t) read.countries;
+    languages = shared_of named_columns IsName (λ t. t) read.languages;
+    categories = shared_of named_columns IsName (λ t. t) read.categories;
+    cities = shared_of city_columns IsCity city_row read.cities;
+    actors = shared_of actor_columns IsActor (λ it. tt) read.actors;
+    films = shared_of film_columns IsFilm film_row read.films;
+    branches = shared_of told_columns IsTold told_row read.branches;
+    staff = shared_of staff_columns IsStaff staff_row read.staff;
     chain = full_rows chain_columns IsToken chain_row read.chain;
     rules = full_rows rule_columns AnyRule rule_row read.rule;
     casts = full_rows cast_columns IsCast cast_row read.casts.rows;
-    customers = full_rows customer_columns (IsRow IsCustomer) customer_row read.customers.rows;
-    rentals = full_rows rental_columns (IsRow IsRental) rental_row read.rentals.rows;
-    terms = full_rows terms_columns (IsRow IsTerms) terms_row read.terms.rows;
-    payments = full_rows payment_columns (IsRow IsPayment) payment_row read.payments.rows;
+    by_table = λ t. full_rows (row_columns t) (IsRow (IsRowOf t)) (checked_row t) (rows_read tables rows read t).rows;
     lots = full_rows lot_columns IsLot lot_row read.lots.rows;
-    copies = full_rows copy_columns (IsRow IsCopy) copy_row read.copies.rows;
     headers = full_rows header_columns IsHeader header_row read.headers.rows;
     lines = full_rows placed_columns IsPlaced placed_row read.lines.rows;
   }
@@ -93,36 +89,33 @@ module _ (tables : TableRows) (rows : OrderedBooks) (read : AreReadInOrder table
   rule : (it : Rule) × (of.rules.its ≡ it ∷ [])
   rule = one_rule of.rules.its read.rule_row of.rules.keeps
 
-  kept : KeptOf tables.kept.items rows.office_keys.items rows.kept.items
-  kept = kept_of tables.kept.items rows.office_keys.items rows.kept.items read.kept.branches read.kept.rows
+  kept : KeptOf (rows_in tables KEPT) rows.office_keys.items rows.kept.items
+  kept = kept_of (rows_in tables KEPT) rows.office_keys.items rows.kept.items read.kept.branches read.kept.rows
 
   -- the books
   pub canonical : Books
-  canonical = record {
-    catalogue = record {
-      office_token = rows.office_token;
-      kept = kept.office;
-      casts = of.casts.its;
-      countries = of.countries.items;
-      cities = of.cities.items;
-      languages = of.languages.items;
-      categories = of.categories.items;
-      actors = of.actors.items;
-      films = of.films.items;
-      branches = map (λ (it : Branch × Option Moment). it.0) of.branches.items;
-      staff = of.staff.items;
-      rule = rule.0;
-    };
-    customers = of.customers.its;
-    copies = of.copies.its;
-    rentals = of.rentals.its;
-    terms = of.terms.its;
-    payments = of.payments.its;
-    lots = of.lots.its;
-    consignments = by_place by_key;
-    kept = kept.kept;
-    lasts = lasts_from 1 rows.branches.items;
-  }
+  canonical =
+      let catalogue : Catalogue
+      = record {
+        office_token = rows.office_token;
+        kept = kept.office;
+        casts = of.casts.its;
+        countries = of.countries.items;
+        cities = of.cities.items;
+        languages = of.languages.items;
+        categories = of.categories.items;
+        actors = of.actors.items;
+        films = of.films.items;
+        branches = map (λ (it : Branch × Option Moment). it.0) of.branches.items;
+        staff = of.staff.items;
+        rule = rule.0;
+      } in
+      with_all (λ t. (of.by_table t).its) (record (opening catalogue) { lots = of.lots.its; consignments = by_place by_key; kept = kept.kept; lasts = lasts_from 1 rows.branches.items })
+
+  -- what holds of the rows of each table
+  of_rows : (P : (t : Table) → RowsOf t → Type 0) → ((t : Table) → P t (of.by_table t).its) → (t : Table) → P t (rows_of canonical t)
+  unfolding canonical
+  of_rows P h = each (λ t. P t (rows_of canonical t)) (all_of (λ t. P t (of.by_table t).its) h all_tables)
 
   pub consignments_are : canonical.consignments ≡ by_place by_key
   unfolding canonical
@@ -148,11 +141,7 @@ module _ (tables : TableRows) (rows : OrderedBooks) (read : AreReadInOrder table
   unfolding canonical
   have_rows = record {
     shared = have_shared;
-    customers = of.customers.keeps;
-    copies = seen_all seen_copy copy_row copy_again of.copies.its of.copies.keeps;
-    rentals = seen_all seen_rental_row rental_row (λ it. refl) of.rentals.its of.rentals.keeps;
-    terms = of.terms.keeps;
-    payments = seen_all seen_payment_row payment_row (λ it. refl) of.payments.its of.payments.keeps;
+    rows = of_rows (λ t its. map (checked_row t) its ≡ checked_rows rows t) (λ t. (of.by_table t).keeps);
     lots = of.lots.keeps;
     kept = kept.kept_keys;
     consignments = record { by_key = by_key; joined = read.joined.1; all = same_by_place by_key; in_order = sorted_by_place by_key };
@@ -181,7 +170,7 @@ module _ (tables : TableRows) (rows : OrderedBooks) (read : AreReadInOrder table
   have_all : HaveRowsOf tables canonical
   unfolding canonical
   have_all = record {
-    chain = subst (λ l. IsPermutation tables.chain.items (map chain_columns l)) (one_token of.chain.its rows.office_token of.chain.keeps) of.chain.has;
+    chain = subst (λ l. IsPermutation (rows_in tables CHAIN) (map chain_columns l)) (one_token of.chain.its rows.office_token of.chain.keeps) of.chain.has;
     countries = of.countries.has;
     languages = of.languages.has;
     categories = of.categories.has;
@@ -189,18 +178,14 @@ module _ (tables : TableRows) (rows : OrderedBooks) (read : AreReadInOrder table
     actors = of.actors.has;
     films = of.films.has;
     casts = of.casts.has;
-    branches = subst (IsPermutation tables.branches.items) (sym (tell 1 of.branches.items (lasts_from 1 rows.branches.items) (λ m low. ap (λ (l : List CheckedBranch). head (owned_by m (lasts_from 1 l))) (sym of.branches.keeps)))) of.branches.has;
+    branches = subst (IsPermutation (rows_in tables BRANCHES)) (sym (tell 1 of.branches.items (lasts_from 1 rows.branches.items) (λ m low. ap (λ (l : List CheckedBranch). head (owned_by m (lasts_from 1 l))) (sym of.branches.keeps)))) of.branches.has;
     staff = of.staff.has;
-    customers = of.customers.has;
-    copies = of.copies.has;
-    rentals = of.rentals.has;
-    terms = of.terms.has;
-    payments = of.payments.has;
+    rows = of_rows (λ t its. IsPermutation (rows_in tables (place_of t)) (map (row_columns t) its)) (λ t. (of.by_table t).has);
     lots = of.lots.has;
-    consignments = IsPermutation-trans _ _ _ (subst (IsPermutation tables.consignments.items) (ap (map header_columns) header_list ∙ map-map header_columns header by_key) of.headers.has) (IsPermutation-map consignment_columns _ _ (same_by_place by_key));
-    lines = IsPermutation-trans _ _ _ (subst (IsPermutation tables.lines.items) (ap (map placed_columns) line_list ∙ as_placed by_key) of.lines.has) (IsPermutation-flat_map line_rows _ _ (same_by_place by_key));
+    consignments = IsPermutation-trans _ _ _ (subst (IsPermutation (rows_in tables CONSIGNMENTS)) (ap (map header_columns) header_list ∙ map-map header_columns header by_key) of.headers.has) (IsPermutation-map consignment_columns _ _ (same_by_place by_key));
+    lines = IsPermutation-trans _ _ _ (subst (IsPermutation (rows_in tables LINES)) (ap (map placed_columns) line_list ∙ as_placed by_key) of.lines.has) (IsPermutation-flat_map line_rows _ _ (same_by_place by_key));
     kept = kept.has;
-    rule = subst (λ l. IsPermutation tables.rule.items (map rule_columns l)) rule.1 of.rules.has;
+    rule = subst (λ l. IsPermutation (rows_in tables RULE) (map rule_columns l)) rule.1 of.rules.has;
   }
 
   have_keys : HaveKeys canonical
@@ -208,11 +193,7 @@ module _ (tables : TableRows) (rows : OrderedBooks) (read : AreReadInOrder table
   have_keys = record {
     casts = apart (λ (a b : Cast). a.film == b.film && a.actor == b.actor) (λ x. x.film ∷ x.actor ∷ []) (λ x y. cast_test x y) of.casts.its
         (ap climbs (sym (map-map (λ (x : CheckedCast). x.film ∷ x.actor ∷ []) cast_row of.casts.its) ∙ ap (map (λ (x : CheckedCast). x.film ∷ x.actor ∷ [])) of.casts.keeps) ∙ ordered.casts);
-    customers = apart same_row row_key row_test of.customers.its order.customers;
-    copies = apart same_row row_key row_test of.copies.its order.copies;
-    rentals = apart same_row row_key row_test of.rentals.its order.rentals;
-    terms = apart same_row row_key row_test of.terms.its order.terms;
-    payments = apart same_row row_key row_test of.payments.its order.payments;
+    rows = λ t. apart same_row row_key row_test (rows_of canonical t) (order.rows t);
     lots = apart (λ (a b : Owned Text). a.owner == b.owner && bytes_eq a.it b.it) (λ x. x.owner ∷ x.it) (λ x y. refl) of.lots.its
         (ap climbs (sym (map-map (λ (x : CheckedLot). x.branch ∷ x.name) lot_row of.lots.its) ∙ ap (map (λ (x : CheckedLot). x.branch ∷ x.name)) of.lots.keeps) ∙ ordered.lots);
     consignments = consignments_apart order.by_key (by_place by_key) (IsPermutation-sym _ _ order.joined) order.headers;
@@ -223,14 +204,6 @@ module _ (tables : TableRows) (rows : OrderedBooks) (read : AreReadInOrder table
     where
       cast_test : (x y : Cast) → (x.film == y.film && x.actor == y.actor) ≡ bytes_eq (x.film ∷ x.actor ∷ []) (y.film ∷ y.actor ∷ [])
       cast_test x y = row_test {A = Cast} (record { branch = x.film; number = x.actor; it = x }) (record { branch = y.film; number = y.actor; it = y })
-
-  values_fit : (t : Table) → AreRowValues t (rows_of canonical t)
-  unfolding canonical
-  values_fit Customers = of.customers.fit
-  values_fit CopyRows = of.copies.fit
-  values_fit Rentals = of.rentals.fit
-  values_fit TermRows = of.terms.fit
-  values_fit Payments = of.payments.fit
 
   pub stands : HaveBooks tables canonical
   unfolding canonical
@@ -250,7 +223,7 @@ module _ (tables : TableRows) (rows : OrderedBooks) (read : AreReadInOrder table
         branches = (subst (λ n. n < 2 ^ 32) (sym (length-map (λ (it : Branch × Option Moment). it.0) of.branches.items)) of.branches.fit.0, branches_fit of.branches.items of.branches.fit.1);
         staff = of.staff.fit;
       };
-      rows = values_fit;
+      rows = of_rows AreRowValues (λ t. (of.by_table t).fit);
       lots = of.lots.fit;
       consignments = all_moved IsConsignment _ _ (same_by_place by_key) fitting;
       kept = kept.kept_fit;

@@ -1,9 +1,10 @@
 -- Lists of what was kept of a table's rows, in another order, are kept of values whose columns are the table's, and the rows of values are the table's.
-use Rattle.shop_schema.proofs.Common.{◌≡◌, ◌≤◌, ◌+◌, ℕ, List, [], ◌∷◌, map, length, refl, sym, ap, subst, ◌∙◌, arith, IsPermutation, AllByRecursion, IsPermutation-map, IsPermutation-refl, IsPermutation-trans, IsPermutation-sym, map-map, IsCounted, numbered_from, numbered, IsShared, AreShared}
+use Rattle.shop_schema.proofs.Common.{◌≡◌, ◌≤◌, ◌+◌, ℕ, List, [], ◌∷◌, map, length, refl, sym, ap, subst, ◌∙◌, arith, IsPermutation, AllByRecursion, all_map, all_weaker, IsPermutation-map, IsPermutation-refl, IsPermutation-trans, IsPermutation-sym, map-map, IsCounted, numbered_from, numbered, IsShared, AreShared}
 use Rattle.sqlite_value.specs.Order as sql
 use Rattle.audit_rows.proofs.JoinLemmas.{unmapped_bag}
+use Rattle.audit_rows.proofs.Maps.{map-undone}
 use Rattle.audit_rows.proofs.Standing.{all_moved}
-use Rattle.audit_tables.specs.Listed.{AreRows, IsRowOf, FullOf}
+use Rattle.audit_tables.specs.Listed.{AreRows, IsListed, FullOf}
 use Rattle.audit_tables.proofs.Ranges.{ranged}
 use Rattle.books_audit.specs.ReadLists.{RowsRead}
 
@@ -39,20 +40,15 @@ module _ {X F : Type 0} (columns : F → sql.Row) (Fits : F → Type 0) (small :
 
 -- where what is kept tells the value, the values are those that it tells
 pub seen_all : {X F : Type 0} (seen : X → F) (small : F → X) → ((it : F) → seen (small it) ≡ it) → (its : List F) {xs : List X} → map small its ≡ xs → its ≡ map seen xs
-seen_all {X} {F} seen small again its keeps = sym (itself its) ∙ sym (map-map seen small its) ∙ ap (map seen) keeps
-  where
-    itself : (its : List F) → map (λ it. seen (small it)) its ≡ its
-    itself [] = refl
-    itself (it ∷ its) = λ i. again it i ∷ itself its i
+seen_all seen small again its keeps = sym (map-undone seen small again its) ∙ ap (map seen) keeps
 
 -- the rows of values are all of the table
-module _ {F : Type 0} (columns : F → sql.Row) (Fits : F → Type 0) where
-  all_ones : (its : List F) → AllByRecursion Fits its → AllByRecursion (IsRowOf columns Fits) (map columns its)
-  all_ones [] h = tt
-  all_ones (it ∷ its) h = ((it, h.0, refl), all_ones its h.1)
-
-  pub ones : (its : List F) (rows : List sql.Row) → AllByRecursion Fits its → IsPermutation rows (map columns its) → AllByRecursion (IsRowOf columns Fits) rows
-  ones its rows h p = all_moved (IsRowOf columns Fits) (map columns its) rows (IsPermutation-sym _ _ p) (all_ones its h)
+module _ {X F : Type 0} (columns : F → sql.Row) (Fits : F → Type 0) (small : F → X) where
+  pub ones : (its : List F) (rows : List sql.Row) → AllByRecursion Fits its → IsPermutation rows (map columns its) → AllByRecursion (IsListed (FullOf columns Fits small)) rows
+  ones its rows h p =
+      let One = IsListed (FullOf columns Fits small) in
+      all_moved One (map columns its) rows (IsPermutation-sym _ _ p)
+      (all_map One columns its (all_weaker Fits (λ it. One (columns it)) (λ it fits. (small it, record { it = it; has = refl; fits = fits; keeps = refl })) its h))
 
 -- ---- shared rows
 
@@ -62,8 +58,7 @@ module _ {A : Type 0} where
   counted_from k (it ∷ its) h = λ i. (sym h.0 i, it.1) ∷ counted_from (k + 1) its h.1 i
 
   pub shared_fit : (P : A → Type 0) (its : List (ℕ × A)) → AllByRecursion (IsShared P) its → AllByRecursion P (map (λ (it : ℕ × A). it.1) its)
-  shared_fit P [] h = tt
-  shared_fit P (it ∷ its) h = (h.0.1, shared_fit P its h.1)
+  shared_fit P its h = all_map P (λ it. it.1) its (all_weaker (IsShared P) (λ it. P it.1) (λ it fits. fits.1) its h)
 
   -- numbers that count are those of places
   pub shared_rows : (columns : ℕ × A → sql.Row) (rows : List sql.Row) (its : List (ℕ × A)) → IsCounted 1 (map (λ (it : ℕ × A). it.0) its) → IsPermutation rows (map columns its)

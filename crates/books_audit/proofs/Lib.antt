@@ -14,10 +14,9 @@ pub mod Exhibited
 pub mod TermKeys
 pub mod CanonCounts
 pub mod OneAudit
-pub mod WholeTexts
+pub mod Places
 pub mod Told
 pub mod CustodyAudits
-pub mod Counted
 pub mod Splits
 pub mod StandKeyed
 pub mod StandPlaces

@@ -1,5 +1,5 @@
 -- One canonical set of books decides an audit.
-use Rattle.shop_schema.proofs.Common.{◌≡◌, ◌↔◌, ◌+◌, ℕ, List, [], ◌∷◌, map, refl, sym, ap, subst, ◌∙◌, IsTrue, true≢false, IsPermutation, flat_map, IsPermutation-refl, IsPermutation-sym, map-map, map-flat_map, flat_map_same_on, IsPermutation-flat_map, numbered_from, Rules, Books, Line, Consignment, IsSound, widest, all_lines, Audit}
+use Rattle.shop_schema.proofs.Common.{◌≡◌, ◌↔◌, ◌+◌, ℕ, List, [], ◌∷◌, map, refl, sym, ap, subst, ◌∙◌, IsTrue, true≢false, IsPermutation, flat_map, IsPermutation-refl, IsPermutation-sym, map-map, map-flat_map, flat_map_same_on, IsPermutation-flat_map, numbered_from, Rules, Books, CopyRows, Line, Consignment, IsSound, widest, all_lines, Audit}
 use Rattle.audit_rows.proofs.Transfer.{stays_sound}
 use Rattle.books_audit.specs.declared.tables.TableRows.{TableRows}
 use Rattle.books_audit.specs.Audits.{StandsForBooks, AreInOrder, Counts, IsAuditOf}
@@ -15,13 +15,14 @@ use Rattle.audit_rows.specs.Seen.{seen_copy, seen_line, seen_header, seen_placed
 use Rattle.audit_rows.specs.Ordered.{HaveOrderedRows}
 use Rattle.audit_rows.specs.declared.books.OrderedBooks.{OrderedBooks}
 use Rattle.audit_rows.proofs.JoinLemmas.{join_sound}
+use Rattle.audit_rows.proofs.OrderedLemmas.{copies_seen}
 use Rattle.books_audit.specs.Audited.{CountsCustody}
 
 module _ (tables : TableRows) (c : Books) (stands : StandsForBooks tables c) (order : AreInOrder c) where
   same_counts : (audit : Audit) → Counts audit c → (b : Books) → StandsForBooks tables b → Counts audit b
   same_counts audit k b t =
       let canon = one_canon tables c b stands.without_counts t.without_counts order in
-      counts_moved audit b.copies c.copies (all_lines b) (all_lines c) canon.copies (IsPermutation-flat_map (λ (it : Consignment). it.lines) b.consignments c.consignments canon.consignments) k
+      counts_moved audit b.copies c.copies (all_lines b) (all_lines c) (canon.rows CopyRows) (IsPermutation-flat_map (λ (it : Consignment). it.lines) b.consignments c.consignments canon.consignments) k
 
   -- where canonical books stand, an audit says what holds of them
   pub audit_by : (audit : Audit) → ((rules : Rules) → IsTrue audit.sound ↔ IsSound (widest rules) c) → Counts audit c → IsAuditOf tables audit
@@ -68,7 +69,7 @@ module _ (tables : TableRows) (rows : OrderedBooks) (read : AreReadInOrder table
   all_stand = record { without_counts = stands tables rows read; counts = counts_in_rows tables rows c has have }
 
   counted : (audit : Audit) → CountsCustody audit (map seen_copy rows.copies.items) (map seen_line rows.lines.items) → Counts audit c
-  counted audit = counts_moved audit c.copies (map seen_copy rows.copies.items) (all_lines c) (map seen_line rows.lines.items) (subst (IsPermutation c.copies) has.copies (IsPermutation-refl c.copies)) (IsPermutation-sym _ _ lines_are)
+  counted audit = counts_moved audit c.copies (map seen_copy rows.copies.items) (all_lines c) (map seen_line rows.lines.items) (subst (IsPermutation c.copies) (copies_seen rows c has) (IsPermutation-refl c.copies)) (IsPermutation-sym _ _ lines_are)
 
   pub audit_of_rows : (audit : Audit) → AuditsOrdered rows audit → IsAuditOf tables audit
   audit_of_rows audit a =

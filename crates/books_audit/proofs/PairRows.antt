@@ -1,5 +1,5 @@
 -- Consignments in the order of their keys, counted one after another: those of a pair of branches stand together.
-use Rattle.shop_schema.proofs.Common.{◌≡◌, ◌∙◌, ◌+◌, ◌<◌, ◌==◌, ◌&&◌, ℕ, List, [], ◌∷◌, ◌++◌, map, length, drop, get_or, drop-cons, add-one, suc, true, false, refl, sym, ap, subst, arith, AllByRecursion, and_parts, same_if, same_test, nat_tests, append-nil, map_push, Pair, is_pair, count_pair}
+use Rattle.shop_schema.proofs.Common.{◌≡◌, ◌∙◌, ◌+◌, ◌<◌, ◌==◌, ◌&&◌, ℕ, List, [], ◌∷◌, ◌++◌, map, length, drop, get_or, drop-cons, add-one, suc, true, false, refl, sym, ap, subst, arith, AllByRecursion, all-append, and_parts, same_if, same_test, nat_tests, append-nil, map_push, Pair, is_pair, count_pair}
 use Rattle.audit_rows.specs.Lists.{Key, is_below, climbs_above}
 use Rattle.audit_rows.specs.declared.rows.CheckedHeader.{CheckedHeader}
 use Rattle.audit_rows.proofs.Keys.{both, below_trans, below_apart}
@@ -8,7 +8,6 @@ use Rattle.books_audit.specs.Read.{pairs_among}
 use Rattle.books_audit.specs.Triples.{seen_pair}
 use Rattle.books_audit.proofs.PairLemmas.{counted_here, counted_later}
 use Rattle.books_audit.proofs.Canonical.{two}
-use Rattle.books_audit.proofs.Splits.{all_more}
 
 abbrev pub Below : ℕ → ℕ → List Pair → Type 0
 Below s a = AllByRecursion (λ (p : Pair). is_below (p.source ∷ p.addressee ∷ []) (s ∷ a ∷ []) ≡ true)
@@ -37,7 +36,7 @@ other_above s a n t b m h other = grind (arith, nat_tests)
 
 module _ (s a t b : ℕ) (ps : List Pair) (low : Below s a ps) (up : is_below (s ∷ a ∷ []) (t ∷ b ∷ []) ≡ true) (n : ℕ) where
   pub all_below : Below t b (ps ++ record { source = s; addressee = a; last = n } ∷ [])
-  all_below = all_more _ ps (record { source = s; addressee = a; last = n }) (lower s a t b ps up low) up
+  all_below = all-append _ ps _ (lower s a t b ps up low) (up, tt)
 
   -- the first of the next pair
   pub next_pair : count_pair t b (ps ++ record { source = s; addressee = a; last = n } ∷ []) ≡ (ps ++ record { source = s; addressee = a; last = n } ∷ []) ++ record { source = t; addressee = b; last = 1 } ∷ []

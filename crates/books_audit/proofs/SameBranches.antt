@@ -5,6 +5,8 @@ use Rattle.audit_rows.proofs.ShopLemmas.{has_row_is}
 use Rattle.audit_tables.specs.AuditTables as audited
 use Rattle.audit_tables.specs.Columns.{told_columns, IsTold}
 use Rattle.books_audit.specs.declared.tables.TableRows.{TableRows}
+use Rattle.books_audit.specs.declared.tables.TheConstants.{BRANCHES}
+use Rattle.books_audit.specs.Tables.{rows_in}
 use Rattle.books_audit.specs.Audits.{HaveBooks}
 use Rattle.books_audit.proofs.SameBooks.{one_shared}
 
@@ -74,7 +76,7 @@ module _ (tables : TableRows) (c b : Books) (s : HaveBooks tables c) (t : HaveBo
   told_same : told c.lasts 1 c.catalogue.branches ≡ told b.lasts 1 b.catalogue.branches
   told_same =
       one_shared IsTold audited.branches (told_shared c.lasts s.values.lasts c.catalogue.branches s.values.catalogue.branches) (told_shared b.lasts t.values.lasts b.catalogue.branches t.values.catalogue.branches)
-      (subst (IsPermutation tables.branches.items) (as_told c.lasts 1 c.catalogue.branches) s.rows.branches) (subst (IsPermutation tables.branches.items) (as_told b.lasts 1 b.catalogue.branches) t.rows.branches)
+      (subst (IsPermutation (rows_in tables BRANCHES)) (as_told c.lasts 1 c.catalogue.branches) s.rows.branches) (subst (IsPermutation (rows_in tables BRANCHES)) (as_told b.lasts 1 b.catalogue.branches) t.rows.branches)
 
   pub branches : c.catalogue.branches ≡ b.catalogue.branches
   branches = sym (untold c.lasts 1 c.catalogue.branches) ∙ ap (map (λ (it : Branch × Option Moment). it.0)) told_same ∙ untold b.lasts 1 b.catalogue.branches

@@ -1,7 +1,8 @@
 -- Of two books for which the same tables stand, the one in the order of its keys is the other in that order.
-use Rattle.shop_schema.proofs.Common.{sym, ap, ◌∙◌, list_all, Moment, Owned, has_row, Books, IsName, IsCity, IsActor, IsFilm, IsStaff, Customers, CopyRows, Rentals, TermRows, Payments}
+use Rattle.shop_schema.proofs.Common.{sym, ap, ◌∙◌, list_all, Moment, Owned, has_row, Books, IsName, IsCity, IsActor, IsFilm, IsStaff}
 use Rattle.shop_schema.proofs.ShopTables as table
 use Rattle.audit_rows.specs.Canons.{IsCanonOf}
+use Rattle.audit_tables.specs.BranchTables.{table_of}
 use Rattle.books_audit.specs.declared.tables.TableRows.{TableRows}
 use Rattle.books_audit.specs.Audits.{HaveBooks, AreInOrder}
 use Rattle.books_audit.proofs.SameBooks.{one_shared, one_bag, one_value}
@@ -31,16 +32,8 @@ one_canon tables c b s t o =
       };
       office_kept = kept.office_keys tables c b s t;
       casts = one_bag table.casts g.casts f.casts t.rows.casts s.rows.casts;
-      customers = one_bag table.customers (t.values.rows Customers) (s.values.rows Customers) t.rows.customers s.rows.customers;
-      customers_climb = o.customers;
-      copies = one_bag table.copies (t.values.rows CopyRows) (s.values.rows CopyRows) t.rows.copies s.rows.copies;
-      copies_climb = o.copies;
-      rentals = one_bag table.rentals (t.values.rows Rentals) (s.values.rows Rentals) t.rows.rentals s.rows.rentals;
-      rentals_climb = o.rentals;
-      terms = one_bag table.terms (t.values.rows TermRows) (s.values.rows TermRows) t.rows.terms s.rows.terms;
-      terms_climb = o.terms;
-      payments = one_bag table.payments (t.values.rows Payments) (s.values.rows Payments) t.rows.payments s.rows.payments;
-      payments_climb = o.payments;
+      rows = λ n. one_bag (table_of n) (t.values.rows n) (s.values.rows n) (t.rows.rows n) (s.rows.rows n);
+      climb = o.rows;
       lots = one_bag table.lots t.values.lots s.values.lots t.rows.lots s.rows.lots;
       kept = kept.kept tables c b s t;
       consignments = sent.consignments tables c b s t o.by_key o.joined o.headers o.lines;

@@ -1,5 +1,5 @@
 -- Two books for which the same tables stand have the same consignments.
-use Rattle.shop_schema.proofs.Common.{◌≡◌, ◌≤◌, ◌+◌, ℕ, List, [], ◌∷◌, ◌++◌, map, length, true, Some, sym, subst, ◌∙◌, arith, IsPermutation, AllByRecursion, flat_map, IsPermutation-sym, IsPermutation-trans, IsPermutation-map, map-map, map-flat_map, flat_map_same_on, IsPermutation-flat_map, numbered, numbered_from, Books, Line, Consignment, consignment_columns, line_rows, IsNumber, IsLine, IsConsignment}
+use Rattle.shop_schema.proofs.Common.{◌≡◌, ◌≤◌, ◌+◌, ℕ, List, [], ◌∷◌, ◌++◌, map, length, true, Some, sym, subst, ◌∙◌, arith, IsPermutation, AllByRecursion, all-append, all_map, all_weaker, flat_map, IsPermutation-sym, IsPermutation-trans, IsPermutation-map, map-map, map-flat_map, flat_map_same_on, IsPermutation-flat_map, numbered, numbered_from, Books, Line, Consignment, consignment_columns, line_rows, IsNumber, IsLine, IsConsignment}
 use Rattle.shop_schema.proofs.OneRow.{same_row}
 use Rattle.audit_rows.specs.Lists.{climbs, is_below}
 use Rattle.audit_rows.specs.Joins.{Header, header_key, placed_key, header, placed, put_line}
@@ -10,6 +10,8 @@ use Rattle.audit_tables.specs.AuditTables as audited
 use Rattle.audit_tables.specs.Columns.{header_columns, IsHeader, placed_columns, IsPlaced}
 use Rattle.audit_tables.proofs.Ranges.{ranged}
 use Rattle.books_audit.specs.declared.tables.TableRows.{TableRows}
+use Rattle.books_audit.specs.declared.tables.TheConstants.{CONSIGNMENTS, LINES}
+use Rattle.books_audit.specs.Tables.{rows_in}
 use Rattle.books_audit.specs.Audits.{HaveBooks}
 
 pub as_headers : (its : List Consignment) → map header_columns (map header its) ≡ map consignment_columns its
@@ -21,12 +23,7 @@ as_placed its = map-flat_map placed_columns placed its ∙ flat_map_same_on _ _ 
 -- ---- their rows are such as the program can hold
 
 pub headers_fit : (its : List Consignment) → AllByRecursion IsConsignment its → AllByRecursion IsHeader (map header its)
-headers_fit [] h = tt
-headers_fit (it ∷ its) h = (record { source = h.0.source; addressee = h.0.addressee; number = h.0.number; place = h.0.place }, headers_fit its h.1)
-
-all_joined : {X : Type 0} (P : X → Type 0) (xs ys : List X) → AllByRecursion P xs → AllByRecursion P ys → AllByRecursion P (xs ++ ys)
-all_joined P [] ys h k = k
-all_joined P (x ∷ xs) ys h k = (h.0, all_joined P xs ys h.1 k)
+headers_fit its h = all_map IsHeader header its (all_weaker IsConsignment (λ it. IsHeader (header it)) (λ it fits. record { source = fits.source; addressee = fits.addressee; number = fits.number; place = fits.place }) its h)
 
 lines_of_one : (h : Header) (k : ℕ) (ls : List Line) → IsNumber h.source → IsNumber h.addressee → IsNumber h.number → 1 ≤ k → k + length ls ≤ 4_294_967_296 → AllByRecursion IsLine ls
     → AllByRecursion IsPlaced (map (put_line h) (numbered_from k ls))
@@ -37,13 +34,13 @@ lines_of_one h k (l ∷ ls) s a n low high all =
 pub lines_fit : (its : List Consignment) → AllByRecursion IsConsignment its → AllByRecursion IsPlaced (flat_map placed its)
 lines_fit [] h = tt
 lines_fit (it ∷ its) h =
-    all_joined IsPlaced (placed it) (flat_map placed its) (lines_of_one (header it) 1 it.lines h.0.source h.0.addressee h.0.number (omega arith) (let few = h.0.few in omega (arith, few)) h.0.lines) (lines_fit its h.1)
+    all-append IsPlaced (placed it) (flat_map placed its) (lines_of_one (header it) 1 it.lines h.0.source h.0.addressee h.0.number (omega arith) (let few = h.0.few in omega (arith, few)) h.0.lines) (lines_fit its h.1)
 
-pub header_rows : (tables : TableRows) (b : Books) → HaveBooks tables b → IsPermutation tables.consignments.items (map header_columns (map header b.consignments))
-header_rows tables b t = subst (IsPermutation tables.consignments.items) (sym (as_headers b.consignments)) t.rows.consignments
+pub header_rows : (tables : TableRows) (b : Books) → HaveBooks tables b → IsPermutation (rows_in tables CONSIGNMENTS) (map header_columns (map header b.consignments))
+header_rows tables b t = subst (IsPermutation (rows_in tables CONSIGNMENTS)) (sym (as_headers b.consignments)) t.rows.consignments
 
-pub placed_rows : (tables : TableRows) (b : Books) → HaveBooks tables b → IsPermutation tables.lines.items (map placed_columns (flat_map placed b.consignments))
-placed_rows tables b t = subst (IsPermutation tables.lines.items) (sym (as_placed b.consignments)) t.rows.lines
+pub placed_rows : (tables : TableRows) (b : Books) → HaveBooks tables b → IsPermutation (rows_in tables LINES) (map placed_columns (flat_map placed b.consignments))
+placed_rows tables b t = subst (IsPermutation (rows_in tables LINES)) (sym (as_placed b.consignments)) t.rows.lines
 
 some_same : (a b : List Consignment) → Some a ≡ Some b → a ≡ b
 some_same a b h = cc
@@ -51,12 +48,12 @@ some_same a b h = cc
 module _ (tables : TableRows) (c b : Books) (s : HaveBooks tables c) (t : HaveBooks tables b) where
   headers : IsPermutation (map header b.consignments) (map header c.consignments)
   headers =
-      same_rows header_columns IsHeader (same_row audited.headers) tables.consignments.items (map header b.consignments) (map header c.consignments) (headers_fit b.consignments t.values.consignments)
+      same_rows header_columns IsHeader (same_row audited.headers) (rows_in tables CONSIGNMENTS) (map header b.consignments) (map header c.consignments) (headers_fit b.consignments t.values.consignments)
       (headers_fit c.consignments s.values.consignments) (header_rows tables b t) (header_rows tables c s)
 
   lines : IsPermutation (flat_map placed b.consignments) (flat_map placed c.consignments)
   lines =
-      same_rows placed_columns IsPlaced (same_row audited.lines) tables.lines.items (flat_map placed b.consignments) (flat_map placed c.consignments) (lines_fit b.consignments t.values.consignments)
+      same_rows placed_columns IsPlaced (same_row audited.lines) (rows_in tables LINES) (flat_map placed b.consignments) (flat_map placed c.consignments) (lines_fit b.consignments t.values.consignments)
       (lines_fit c.consignments s.values.consignments) (placed_rows tables b t) (placed_rows tables c s)
 
   -- where those of the one stand in the order of their keys, they are those of the other

@@ -1,5 +1,5 @@
 -- Two books for which the same tables stand have the same kept commands of branches, and the same keys of head office's.
-use Rattle.shop_schema.proofs.Common.{◌≡◌, ◌==◌, ℕ, List, [], ◌∷◌, map, not, Bool, true, false, refl, ap, subst, arith, IsTrue, IsPermutation, pos, AllByRecursion, nat_tests, IsPermutation-map, IsPermutation-trans, IsPermutation-sym, Value, Int, column, map-map, Owned, Kept, OfficeKept, same_command, Books, kept_columns, office_kept_columns, kept_rows, command_form, IsKept, IsNumber}
+use Rattle.shop_schema.proofs.Common.{◌≡◌, ◌==◌, ℕ, List, [], ◌∷◌, map, not, Bool, true, false, refl, ap, subst, arith, IsTrue, IsPermutation, pos, AllByRecursion, all_weaker, nat_tests, IsPermutation-map, IsPermutation-trans, IsPermutation-sym, Value, Int, column, map-map, Owned, Kept, OfficeKept, same_command, Books, kept_columns, office_kept_columns, kept_rows, command_form, IsKept, IsNumber}
 use Rattle.sqlite.specs.declared.types.Value.TheVariants.{Text}
 use Rattle.sqlite_value.specs.Order as sql
 use Rattle.shop_schema.proofs.OneToOne.{command_equal, forms_are_one_to_one}
@@ -9,10 +9,6 @@ use Rattle.books_audit.specs.declared.tables.TableRows.{TableRows}
 use Rattle.books_audit.specs.Audits.{HaveBooks}
 
 -- ---- the rows of branches and of head office in one table
-
-mapped : {X : Type 0} (P Q : X → Type 0) → ((x : X) → P x → Q x) → (xs : List X) → AllByRecursion P xs → AllByRecursion Q xs
-mapped P Q f [] all = tt
-mapped P Q f (x ∷ xs) all = (f x all.0, mapped P Q f xs all.1)
 
 -- the caller is head office
 by_office : sql.Row → Bool
@@ -57,10 +53,10 @@ module _ (ks ls : List (Owned Kept)) (os ps : List OfficeKept) (k : AllByRecursi
   same_kept =
       same_bag_of kept_columns IsKept one_kept ks ls k l
       (first_bag (λ r. not (by_office r)) (map kept_columns ks) (map office_kept_columns os) (map kept_columns ls) (map office_kept_columns ps)
-      (mapped (λ r. by_office r ≡ false) (λ r. not (by_office r) ≡ true) (λ r h. ap not h) _ (of_branches ks k))
-      (mapped (λ r. by_office r ≡ true) (λ r. not (by_office r) ≡ false) (λ r h. ap not h) _ (of_office os))
-      (mapped (λ r. by_office r ≡ false) (λ r. not (by_office r) ≡ true) (λ r h. ap not h) _ (of_branches ls l))
-      (mapped (λ r. by_office r ≡ true) (λ r. not (by_office r) ≡ false) (λ r h. ap not h) _ (of_office ps)) both)
+      (all_weaker (λ r. by_office r ≡ false) (λ r. not (by_office r) ≡ true) (λ r h. ap not h) _ (of_branches ks k))
+      (all_weaker (λ r. by_office r ≡ true) (λ r. not (by_office r) ≡ false) (λ r h. ap not h) _ (of_office os))
+      (all_weaker (λ r. by_office r ≡ false) (λ r. not (by_office r) ≡ true) (λ r h. ap not h) _ (of_branches ls l))
+      (all_weaker (λ r. by_office r ≡ true) (λ r. not (by_office r) ≡ false) (λ r h. ap not h) _ (of_office ps)) both)
 
   pub same_office_keys : IsPermutation (map office_key os) (map office_key ps)
   same_office_keys =

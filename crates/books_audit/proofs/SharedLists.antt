@@ -1,15 +1,15 @@
 -- Tables of shared rows stand for lists.
-use Rattle.shop_schema.proofs.Common.{◌≡◌, ◌<◌, ◌≤◌, ◌+◌, ◌-◌, ◌==◌, ◌^◌, ◌++◌, ℕ, List, [], ◌∷◌, map, length, false, Option, Some, None, refl, sym, ap, subst, ◌∙◌, arith, IsPermutation, IfSome, if◌then◌else◌, AllByRecursion, nat_tests, map-map, Moment, IsMoment, Owned, IsCounted, numbered, numbered_from, at, owned_by, Branch, head, branch_columns, IsShared, AreShared, IsLast, IsBranch}
+use Rattle.shop_schema.proofs.Common.{◌≡◌, ◌<◌, ◌≤◌, ◌+◌, ◌-◌, ◌==◌, ◌^◌, ◌++◌, ℕ, List, [], ◌∷◌, map, length, false, Option, Some, None, refl, sym, ap, subst, ◌∙◌, arith, IsPermutation, length_permutation, IfSome, if◌then◌else◌, AllByRecursion, all_map, all_weaker, nat_tests, map-map, Moment, IsMoment, Owned, IsCounted, numbered, numbered_from, at, owned_by, Branch, head, branch_columns, IsShared, AreShared, IsLast, IsBranch}
 use Rattle.sqlite_value.specs.Order as sql
-use Rattle.audit_tables.specs.Listed.{FullOf}
+use Rattle.audit_tables.specs.Rows.{shared_row, told_row, IsSharedRow}
+use Rattle.audit_tables.specs.declared.shared.SharedRow.{SharedRow}
 use Rattle.audit_tables.specs.Columns.{told_columns, IsTold}
-use Rattle.audit_rows.specs.Ordered.{branch_row, last_of, lasts_from}
+use Rattle.audit_rows.specs.Ordered.{last_of, lasts_from}
 use Rattle.audit_rows.specs.declared.rows.CheckedBranch.{CheckedBranch}
 use Rattle.audit_rows.proofs.LastLemmas.{last_at, last_in}
 use Rattle.books_audit.specs.ReadLists.{PlacesRead}
 use Rattle.books_audit.proofs.FullLists.{fulls, shared_rows, shared_fit}
 use Rattle.audit_rows.proofs.Maps.{length-map}
-use Rattle.books_audit.proofs.Counted.{as_many}
 
 pub record SharedOf {A S : Type 0} (columns : ℕ × A → sql.Row) (P : A → Type 0) (seen : A → S) (table : List sql.Row) (kept : List S) : Type 0 where
   pub items : List A
@@ -17,19 +17,14 @@ pub record SharedOf {A S : Type 0} (columns : ℕ × A → sql.Row) (P : A → T
   pub fit : AreShared P items
   pub keeps : map seen items ≡ kept
 
-same_map : {X Y : Type 0} (f g : X → Y) → ((x : X) → f x ≡ g x) → (xs : List X) → map f xs ≡ map g xs
-same_map f g h [] = refl
-same_map f g h (x ∷ xs) = λ i. h x i ∷ same_map f g h xs i
-
-module _ {A X S : Type 0} (columns : ℕ × A → sql.Row) (P : A → Type 0) (small : ℕ × A → X) (number : X → ℕ) (keep : X → S) (seen : A → S)
-    (numbers : (it : ℕ × A) → number (small it) ≡ it.0) (keeps_are : (it : ℕ × A) → keep (small it) ≡ seen it.1) where
-  pub shared_of : {table : List sql.Row} {kept : List S} → PlacesRead (FullOf columns (IsShared P) small) number keep table kept → SharedOf columns P seen table kept
+module _ {A S : Type 0} (columns : ℕ × A → sql.Row) (P : A → Type 0) (seen : A → S) where
+  pub shared_of : {table : List sql.Row} {kept : List S} → PlacesRead (IsSharedRow columns P seen) (λ row. row.number) (λ row. row.it) table kept → SharedOf columns P seen table kept
   shared_of {table} {kept} r =
-      let f = fulls columns (IsShared P) small r.found r.sorted table r.are_rows r.same in
-      let firsts : map (λ (it : ℕ × A). it.0) f.its ≡ map number r.sorted = sym (same_map _ _ numbers f.its) ∙ sym (map-map number small f.its) ∙ ap (map number) f.keeps in
+      let f = fulls columns (IsShared P) (shared_row seen) r.found r.sorted table r.are_rows r.same in
+      let firsts : map (λ (it : ℕ × A). it.0) f.its ≡ map (λ (row : SharedRow S). row.number) r.sorted = sym (map-map (λ (row : SharedRow S). row.number) (shared_row seen) f.its) ∙ ap (map (λ (row : SharedRow S). row.number)) f.keeps in
       let items = map (λ (it : ℕ × A). it.1) f.its in
-      let are : map seen items ≡ kept = map-map seen (λ (it : ℕ × A). it.1) f.its ∙ sym (same_map _ _ keeps_are f.its) ∙ sym (map-map keep small f.its) ∙ ap (map keep) f.keeps ∙ r.keeps in
-      let size : length table ≡ length items = as_many table (map columns f.its) f.has ∙ length-map columns f.its ∙ sym (length-map (λ (it : ℕ × A). it.1) f.its) in record {
+      let are : map seen items ≡ kept = map-map seen (λ (it : ℕ × A). it.1) f.its ∙ sym (map-map (λ (row : SharedRow S). row.it) (shared_row seen) f.its) ∙ ap (map (λ (row : SharedRow S). row.it)) f.keeps ∙ r.keeps in
+      let size : length table ≡ length items = sym (length_permutation _ _ f.has) ∙ length-map columns f.its ∙ sym (length-map (λ (it : ℕ × A). it.1) f.its) in record {
         items = items;
         has = shared_rows columns table f.its (subst (IsCounted 1) (sym firsts) r.counted) f.has;
         fit = (subst (λ n. n < 2 ^ 32) size r.few, shared_fit P f.its f.fit);
@@ -40,9 +35,6 @@ module _ {A X S : Type 0} (columns : ℕ × A → sql.Row) (P : A → Type 0) (s
 
 abbrev Told : Type 0
 Told = Branch × Option Moment
-
-abbrev pub told_row : Told → CheckedBranch
-told_row it = branch_row it.1 it.0
 
 not_first : (n : ℕ) → 1 ≤ n → (n + 1 == 1) ≡ false
 not_first n h = grind (arith, nat_tests)
@@ -72,5 +64,4 @@ lasts_fit k (it ∷ items) h = go it.1 h.0.1 (lasts_fit (k + 1) items h.1)
     go (Some m) is more = (is, more)
 
 pub branches_fit : (items : List Told) → AllByRecursion IsTold items → AllByRecursion IsBranch (map (λ (it : Told). it.0) items)
-branches_fit [] h = tt
-branches_fit (it ∷ items) h = (h.0.0, branches_fit items h.1)
+branches_fit items h = all_map IsBranch (λ it. it.0) items (all_weaker IsTold (λ it. IsBranch it.0) (λ it fits. fits.0) items h)

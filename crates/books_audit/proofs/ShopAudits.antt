@@ -1,88 +1,53 @@
 -- What an audit of rows that are a shop's tables says of the books for which the tables stand.
-use Rattle.shop_schema.proofs.Common.{IsPermutation-sym, IsPermutation-trans, Trees, Rules, Books, IsSound, widest, AreValues, StandsFor, Audit}
+use Rattle.shop_schema.proofs.Common.{◌≡◌, ◌+◌, ℕ, List, [], ◌∷◌, map, length, refl, arith, IsPermutation-sym, IsPermutation-trans, Table, Trees, Rules, Books, IsSound, widest, columns_of, counts_of, shop_schema, this_version, later_rows, AreValues, StandsFor, Audit}
+use Rattle.shop_schema.proofs.Stands.{with_own, for_own}
+use Rattle.shop_schema.specs.Shop.{HaveRows}
 use Rattle.books_audit.specs.declared.tables.TableRows.{TableRows}
 use Rattle.books_audit.specs.Audits.{HaveKeys, StandsForBooks, IsAuditOf}
 use Rattle.books_audit.specs.Shops.{HaveTables, IsAuditOfShop}
+use Rattle.books_audit.specs.Tables.{HaveEach}
 use Rattle.books_audit.proofs.SoundKeys.{keys_of_sound}
+use Rattle.books_audit.proofs.Places.{listed, rows_named, counts_named}
+use Rattle.sqlite_value.specs.Order as sql
+use Rattle.shop_schema.proofs.Stands as stands
 
-module _ (trees : Trees) (tables : TableRows) (has : HaveTables trees tables) where
-  shop_stands : (books : Books) → StandsForBooks tables books → StandsFor trees books
-  shop_stands books t = record {
-    chain = IsPermutation-trans _ _ _ has.chain t.without_counts.rows.chain;
-    countries = IsPermutation-trans _ _ _ has.countries t.without_counts.rows.countries;
-    languages = IsPermutation-trans _ _ _ has.languages t.without_counts.rows.languages;
-    categories = IsPermutation-trans _ _ _ has.categories t.without_counts.rows.categories;
-    cities = IsPermutation-trans _ _ _ has.cities t.without_counts.rows.cities;
-    actors = IsPermutation-trans _ _ _ has.actors t.without_counts.rows.actors;
-    films = IsPermutation-trans _ _ _ has.films t.without_counts.rows.films;
-    casts = IsPermutation-trans _ _ _ has.casts t.without_counts.rows.casts;
-    branches = IsPermutation-trans _ _ _ has.branches t.without_counts.rows.branches;
-    staff = IsPermutation-trans _ _ _ has.staff t.without_counts.rows.staff;
-    customers = IsPermutation-trans _ _ _ has.customers t.without_counts.rows.customers;
-    copies = IsPermutation-trans _ _ _ has.copies t.without_counts.rows.copies;
-    rentals = IsPermutation-trans _ _ _ has.rentals t.without_counts.rows.rentals;
-    payments = IsPermutation-trans _ _ _ has.payments t.without_counts.rows.payments;
-    lots = IsPermutation-trans _ _ _ has.lots t.without_counts.rows.lots;
-    consignments = IsPermutation-trans _ _ _ has.consignments t.without_counts.rows.consignments;
-    lines = IsPermutation-trans _ _ _ has.lines t.without_counts.rows.lines;
-    kept = IsPermutation-trans _ _ _ has.kept t.without_counts.rows.kept;
-    counters = IsPermutation-trans _ _ _ has.counters t.counts.counters;
-    outs = IsPermutation-trans _ _ _ has.outs t.counts.outs;
-    pairs = IsPermutation-trans _ _ _ has.pairs t.counts.pairs;
-    more = record {
-      terms_are = IsPermutation-trans _ _ _ has.terms t.without_counts.rows.terms;
-      rule_is = IsPermutation-trans _ _ _ has.rule t.without_counts.rows.rule;
-      termed = t.counts.terms;
-    };
-  }
+module _ (trees : Trees) (tables : TableRows) where
+  -- the rows of the shop's tables, from a place on
+  abbrev HaveThese : ℕ → List Table → Type 0
+  HaveThese place ts = HaveEach tables place (map (λ t. map (columns_of (length t.columns)) (trees t.tree)) ts)
 
-  tables_stand : (books : Books) → StandsFor trees books → AreValues books → HaveKeys books → StandsForBooks tables books
-  tables_stand books s values keys = record {
-    without_counts = record {
-      rows = record {
-        chain = IsPermutation-trans _ _ _ (IsPermutation-sym _ _ has.chain) s.chain;
-        countries = IsPermutation-trans _ _ _ (IsPermutation-sym _ _ has.countries) s.countries;
-        languages = IsPermutation-trans _ _ _ (IsPermutation-sym _ _ has.languages) s.languages;
-        categories = IsPermutation-trans _ _ _ (IsPermutation-sym _ _ has.categories) s.categories;
-        cities = IsPermutation-trans _ _ _ (IsPermutation-sym _ _ has.cities) s.cities;
-        actors = IsPermutation-trans _ _ _ (IsPermutation-sym _ _ has.actors) s.actors;
-        films = IsPermutation-trans _ _ _ (IsPermutation-sym _ _ has.films) s.films;
-        casts = IsPermutation-trans _ _ _ (IsPermutation-sym _ _ has.casts) s.casts;
-        branches = IsPermutation-trans _ _ _ (IsPermutation-sym _ _ has.branches) s.branches;
-        staff = IsPermutation-trans _ _ _ (IsPermutation-sym _ _ has.staff) s.staff;
-        customers = IsPermutation-trans _ _ _ (IsPermutation-sym _ _ has.customers) s.customers;
-        copies = IsPermutation-trans _ _ _ (IsPermutation-sym _ _ has.copies) s.copies;
-        rentals = IsPermutation-trans _ _ _ (IsPermutation-sym _ _ has.rentals) s.rentals;
-        terms = IsPermutation-trans _ _ _ (IsPermutation-sym _ _ has.terms) s.more.terms_are;
-        payments = IsPermutation-trans _ _ _ (IsPermutation-sym _ _ has.payments) s.payments;
-        lots = IsPermutation-trans _ _ _ (IsPermutation-sym _ _ has.lots) s.lots;
-        consignments = IsPermutation-trans _ _ _ (IsPermutation-sym _ _ has.consignments) s.consignments;
-        lines = IsPermutation-trans _ _ _ (IsPermutation-sym _ _ has.lines) s.lines;
-        kept = IsPermutation-trans _ _ _ (IsPermutation-sym _ _ has.kept) s.kept;
-        rule = IsPermutation-trans _ _ _ (IsPermutation-sym _ _ has.rule) s.more.rule_is;
-      };
-      values = values;
-      keys = keys;
-    };
-    counts = record {
-      counters = IsPermutation-trans _ _ _ (IsPermutation-sym _ _ has.counters) s.counters;
-      outs = IsPermutation-trans _ _ _ (IsPermutation-sym _ _ has.outs) s.outs;
-      pairs = IsPermutation-trans _ _ _ (IsPermutation-sym _ _ has.pairs) s.pairs;
-      terms = s.more.termed;
-    };
-  }
+  in_shop : (place : ℕ) (ts : List Table) (lists : List (List sql.Row)) → length ts ≡ length lists → HaveThese place ts → HaveEach tables place lists → HaveRows ts trees lists
+  in_shop place [] lists e h all = tt
+  in_shop place (t ∷ ts) [] e h all = absurd (omega (arith, e))
+  in_shop place (t ∷ ts) (rows ∷ lists) e h all = (IsPermutation-trans _ _ _ (IsPermutation-sym _ _ h.0) all.0, in_shop (place + 1) ts lists (omega (arith, e)) h.1 all.1)
 
-  sound_stand : (rules : Rules) (books : Books) → StandsFor trees books → AreValues books → IsSound (widest rules) books → StandsForBooks tables books
-  sound_stand rules books s values sound = tables_stand books s values (keys_of_sound rules books sound)
+  from_shop : (place : ℕ) (ts : List Table) (lists : List (List sql.Row)) → length ts ≡ length lists → HaveThese place ts → HaveRows ts trees lists → HaveEach tables place lists
+  from_shop place ts [] e h all = tt
+  from_shop place [] (rows ∷ lists) e h all = absurd (omega (arith, e))
+  from_shop place (t ∷ ts) (rows ∷ lists) e h all = (IsPermutation-trans _ _ _ h.0 all.0, from_shop (place + 1) ts lists (omega (arith, e)) h.1 all.1)
 
-  pub audit_of_shop : (audit : Audit) → IsAuditOf tables audit → IsAuditOfShop trees audit
-  audit_of_shop audit a = record {
-    sound = λ rules. (
-      λ h. let it = (a.sound rules).0 h in (it.0, shop_stands it.0 it.1, it.1.without_counts.values, it.2),
-      λ it. (a.sound rules).1 (it.0, sound_stand rules it.0 it.1 it.2 it.3, it.3),
-    );
-    counts = λ rules books s values sound. a.counts books (sound_stand rules books s values sound);
-  }
+  module _ (has : HaveTables trees tables) where
+    shop_stands : (books : Books) → StandsForBooks tables books → StandsFor trees books
+    shop_stands books t =
+        for_own trees books t.counts.terms
+        (stands.named this_version later_rows (counts_of books) trees books (in_shop 0 shop_schema.tables (stands.rows_of (counts_of books) books) refl has (listed tables books t.without_counts.rows t.counts)))
+
+    tables_stand : (books : Books) → StandsFor trees books → AreValues books → HaveKeys books → StandsForBooks tables books
+    tables_stand books s values keys =
+        let all = from_shop 0 shop_schema.tables (stands.rows_of (counts_of books) books) refl has (stands.listed this_version later_rows (counts_of books) trees books (with_own trees books s)) in
+        record { without_counts = record { rows = rows_named tables books all; values = values; keys = keys }; counts = counts_named tables books all s.more.termed }
+
+    sound_stand : (rules : Rules) (books : Books) → StandsFor trees books → AreValues books → IsSound (widest rules) books → StandsForBooks tables books
+    sound_stand rules books s values sound = tables_stand books s values (keys_of_sound rules books sound)
+
+    pub audit_of_shop : (audit : Audit) → IsAuditOf tables audit → IsAuditOfShop trees audit
+    audit_of_shop audit a = record {
+      sound = λ rules. (
+        λ h. let it = (a.sound rules).0 h in (it.0, shop_stands it.0 it.1, it.1.without_counts.values, it.2),
+        λ it. (a.sound rules).1 (it.0, sound_stand rules it.0 it.1 it.2 it.3, it.3),
+      );
+      counts = λ rules books s values sound. a.counts books (sound_stand rules books s values sound);
+    }
 
 -- rows of the same tables, whatever their order, have one audit
 module _ (trees : Trees) (tables others : TableRows) (has : HaveTables trees tables) (have : HaveTables trees others) where

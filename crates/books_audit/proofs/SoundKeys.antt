@@ -1,5 +1,5 @@
 -- Sound books have no key twice.
-use Rattle.shop_schema.proofs.Common.{◌≡◌, ◌∙◌, ◌+◌, ◌<◌, ◌==◌, ◌&&◌, ◌||◌, ℕ, List, [], ◌∷◌, map, filter, not, Bool, true, false, cond, refl, sym, ap, arith, list_any, bytes_eq, nat_tests, nat_eq_equiv, Row, Owned, IsCounted, is_of, owned_by, are_different, Rules, Text, Kept, Books, Consignment, IsSound, widest, same_test, Customers, CopyRows, Rentals, TermRows, Payments}
+use Rattle.shop_schema.proofs.Common.{◌≡◌, ◌∙◌, ◌+◌, ◌<◌, ◌==◌, ◌&&◌, ◌||◌, ℕ, List, [], ◌∷◌, map, filter, not, Bool, true, false, cond, refl, sym, ap, arith, list_any, bytes_eq, nat_tests, nat_eq_equiv, Row, Owned, IsCounted, is_of, owned_by, are_different, Rules, Text, Kept, Books, Consignment, IsSound, widest, same_test, rows_of}
 use Rattle.audit_rows.proofs.Keys.{both, different-map, bytes_eq_symm}
 use Rattle.audit_rows.proofs.MarkLemmas.{not_true}
 use Rattle.audit_rows.proofs.Tests.{different_congr}
@@ -68,11 +68,7 @@ regrouped false b c d e p q = λ i. p i && q i && c
 pub keys_of_sound : (rules : Rules) (books : Books) → IsSound (widest rules) books → HaveKeys books
 keys_of_sound rules books sound = record {
   casts = sound.catalogue.single.casts;
-  customers = rows_apart books.customers (sound.numbers.rows Customers);
-  copies = rows_apart books.copies (sound.numbers.rows CopyRows);
-  rentals = rows_apart books.rentals (sound.numbers.rows Rentals);
-  terms = rows_apart books.terms (sound.numbers.rows TermRows);
-  payments = rows_apart books.payments (sound.numbers.rows Payments);
+  rows = λ t. rows_apart (rows_of books t) (sound.numbers.rows t);
   lots = owned_apart (λ (x y : Text). bytes_eq x y) books.lots (λ b. different_congr _ _ (λ x y. bytes_eq_symm x y) (owned_by b books.lots) ∙ (sound.links b).lots);
   consignments = consignments_apart;
   kept = owned_apart (λ (x y : Kept). bytes_eq x.command.key y.command.key) books.kept (λ b. (sound.links b).keys);

@@ -1,8 +1,7 @@
 -- Rows moved one by one into one of two lists.
-use Rattle.shop_schema.proofs.Common.{◌≡◌, ◌≤◌, ◌==◌, ◌++◌, ℕ, Bool, true, false, List, [], ◌∷◌, length, map, Some, None, refl, sym, subst, arith, IsPermutation, if◌then◌else◌, nat_tests, AllByRecursion, IsNumber, IsPermutation-refl, IsPermutation-trans, IsPermutation-sym, IsPermutation-append, IsPermutation-middle, append-nil, append_assoc, map_push}
+use Rattle.shop_schema.proofs.Common.{◌≡◌, ◌≤◌, ◌==◌, ◌++◌, ℕ, Bool, true, false, List, [], ◌∷◌, length, map, Some, None, refl, sym, subst, arith, IsPermutation, if◌then◌else◌, nat_tests, IsNumber, IsPermutation-refl, IsPermutation-trans, IsPermutation-sym, IsPermutation-append, IsPermutation-middle, append-nil, append_assoc, map_push}
 use Rattle.sqlite_value.specs.Order as sql
 use Rattle.audit_tables.specs.Listed.{AreRows}
-use Rattle.books_audit.proofs.Counted.{kept_of_each}
 use Rattle.audit_tables.proofs.Ranges.{ranged}
 use Rattle.audit_rows.specs.Lists.{Key}
 use Rattle.audit_rows.specs.declared.rows.CheckedKept.{CheckedKept}
@@ -40,10 +39,6 @@ some_is n m = go (n == 0)
     go true h = cc
     go false h = cc
 
-pub all_more : {X : Type 0} (P : X → Type 0) (xs : List X) (x : X) → AllByRecursion P xs → P x → AllByRecursion P (xs ++ x ∷ [])
-all_more P [] x h p = (p, tt)
-all_more P (y ∷ xs) x h p = (h.0, all_more P xs x h.1 p)
-
 -- ---- callers
 
 pub office_step : (all rest before : List CallerRow) (row : CallerRow) (office new : List Key) (kept : List CheckedKept) → IsPermutation all (before ++ (map office_caller office ++ map branch_caller kept)) → before ≡ row ∷ rest → row.caller ≡ 0 → new ≡ office ++ row.key ∷ []
@@ -71,6 +66,12 @@ number_is n m h high = subst IsNumber (some_is n m h) (ranged n (positive (n == 
     positive false e k = grind (arith, nat_tests)
 
 -- ---- one row
+
+kept_of_each : {X : Type 0} (Is : X → sql.Row → Type 0) (xs : List X) (rows : List sql.Row) → AreRows Is xs rows → length xs ≡ length rows
+kept_of_each Is [] [] h = refl
+kept_of_each Is [] (r ∷ rows) h = absurd h
+kept_of_each Is (x ∷ xs) [] h = absurd h
+kept_of_each Is (x ∷ xs) (r ∷ rows) h = let more = kept_of_each Is xs rows h.1 in omega (arith, more)
 
 pub not_one_row : {X : Type 0} (Is : X → sql.Row → Type 0) (all rest : List X) (one : X) (rows : List sql.Row) → AreRows Is all rows → all ≡ rest ++ one ∷ [] → ¬ (length rest ≡ 0) → ¬ (length rows ≡ 1)
 not_one_row Is all [] one rows h e some is = some refl

@@ -1,16 +1,20 @@
 -- All tables, where they stand for books, can be read.
-use Rattle.shop_schema.proofs.Common.{◌∙◌, ◌==◌, ◌&&◌, [], ◌∷◌, refl, sym, subst, IsPermutation, bytes_eq, Owned, Text, Cast, Books, chain_columns, rule_columns, IsToken, IsName, IsCity, IsActor, IsFilm, IsStaff, Customers, CopyRows, Rentals, TermRows, Payments}
+use Rattle.shop_schema.proofs.Common.{◌∙◌, ◌==◌, ◌&&◌, [], ◌∷◌, refl, sym, subst, all_of, IsPermutation, length_permutation, bytes_eq, Owned, Text, Cast, Books, rows_of, chain_columns, rule_columns, IsToken, IsName, IsCity, IsActor, IsFilm, IsStaff}
 use Rattle.shop_schema.proofs.ShopTables as table
-use Rattle.audit_rows.specs.Ordered.{cast_row, customer_row, terms_row, lot_row}
+use Rattle.audit_rows.specs.Ordered.{city_row, film_row, cast_row, staff_row, lot_row}
+use Rattle.audit_rows.specs.Tables.{all_tables, checked_row, checked_key}
 use Rattle.audit_rows.proofs.Tests.{different_congr}
 use Rattle.audit_tables.specs.AuditTables as audited
+use Rattle.audit_tables.specs.BranchTables.{place_of, table_of, IsKeptRow}
 use Rattle.audit_tables.specs.Columns.{IsTold}
-use Rattle.audit_tables.specs.Rows.{AnyRule, named_row, numbered_city, numbered_actor, numbered_film, numbered_branch, numbered_staff, copy_row, rental_row, payment_row}
+use Rattle.audit_tables.specs.Rows.{AnyRule, chain_row, rule_row, told_row}
 use Rattle.books_audit.specs.declared.tables.TableRows.{TableRows}
+use Rattle.books_audit.specs.declared.tables.TheConstants.{CHAIN, COUNTRIES, LANGUAGES, CATEGORIES, CITIES, ACTORS, FILMS, CASTS, BRANCHES, STAFF, LOTS, RULE}
+use Rattle.books_audit.specs.Tables.{rows_in}
 use Rattle.books_audit.specs.Audits.{HaveBooks, same_row}
 use Rattle.books_audit.specs.ReadInOrder.{CanBeRead}
+use Rattle.books_audit.specs.ReadLists.{AreKeyed}
 use Rattle.books_audit.proofs.Canonical.{row_test, two}
-use Rattle.books_audit.proofs.Counted.{as_many}
 use Rattle.books_audit.proofs.FullLists.{ones}
 use Rattle.books_audit.proofs.SameBranches.{told, as_told, told_shared}
 use Rattle.books_audit.proofs.StandKept.{kept_can_be_read}
@@ -24,34 +28,32 @@ can_be_read tables b t =
     let fit = t.values.catalogue in
     record {
       chain = record {
-        ones = ones chain_columns IsToken (all.office_token ∷ []) tables.chain.items (fit.office_token, tt) t.rows.chain;
-        one = as_many tables.chain.items (chain_columns all.office_token ∷ []) t.rows.chain;
+        ones = ones chain_columns IsToken chain_row (all.office_token ∷ []) (rows_in tables CHAIN) (fit.office_token, tt) t.rows.chain;
+        one = sym (length_permutation _ _ t.rows.chain);
       };
       rule = record {
-        ones = ones rule_columns AnyRule (all.rule ∷ []) tables.rule.items (tt, tt) t.rows.rule;
-        one = as_many tables.rule.items (rule_columns all.rule ∷ []) t.rows.rule;
+        ones = ones rule_columns AnyRule rule_row (all.rule ∷ []) (rows_in tables RULE) (tt, tt) t.rows.rule;
+        one = sym (length_permutation _ _ t.rows.rule);
       };
       kept = kept_can_be_read tables b t;
-      countries = stands_in_places IsName table.named named_row (λ x. x.number) (λ it. refl) tables.countries.items all.countries fit.countries t.rows.countries;
-      languages = stands_in_places IsName table.named named_row (λ x. x.number) (λ it. refl) tables.languages.items all.languages fit.languages t.rows.languages;
-      categories = stands_in_places IsName table.named named_row (λ x. x.number) (λ it. refl) tables.categories.items all.categories fit.categories t.rows.categories;
-      cities = stands_in_places IsCity table.cities numbered_city (λ x. x.number) (λ it. refl) tables.cities.items all.cities fit.cities t.rows.cities;
-      actors = stands_in_places IsActor table.actors numbered_actor (λ x. x.number) (λ it. refl) tables.actors.items all.actors fit.actors t.rows.actors;
-      films = stands_in_places IsFilm table.films numbered_film (λ x. x.number) (λ it. refl) tables.films.items all.films fit.films t.rows.films;
+      countries = stands_in_places IsName table.named (λ name. name) (rows_in tables COUNTRIES) all.countries fit.countries t.rows.countries;
+      languages = stands_in_places IsName table.named (λ name. name) (rows_in tables LANGUAGES) all.languages fit.languages t.rows.languages;
+      categories = stands_in_places IsName table.named (λ name. name) (rows_in tables CATEGORIES) all.categories fit.categories t.rows.categories;
+      cities = stands_in_places IsCity table.cities city_row (rows_in tables CITIES) all.cities fit.cities t.rows.cities;
+      actors = stands_in_places IsActor table.actors (λ it. tt) (rows_in tables ACTORS) all.actors fit.actors t.rows.actors;
+      films = stands_in_places IsFilm table.films film_row (rows_in tables FILMS) all.films fit.films t.rows.films;
       casts =
-          stands_keyed table.casts cast_row tables.casts.items all.casts fit.casts t.rows.casts (λ x. x.film ∷ x.actor ∷ [])
+          stands_keyed table.casts cast_row (rows_in tables CASTS) all.casts fit.casts t.rows.casts (λ x. x.film ∷ x.actor ∷ [])
           (sym (different_congr (λ (x y : Cast). x.film == y.film && x.actor == y.actor) _ (λ x y. two (x.film == y.film) (x.actor == y.actor)) all.casts) ∙ t.keys.casts);
       branches =
-          stands_in_places IsTold audited.branches numbered_branch (λ x. x.number) (λ it. refl) tables.branches.items (told b.lasts 1 all.branches) (told_shared b.lasts t.values.lasts all.branches fit.branches)
-          (subst (IsPermutation tables.branches.items) (as_told b.lasts 1 all.branches) t.rows.branches);
-      staff = stands_in_places IsStaff table.staff numbered_staff (λ x. x.number) (λ it. refl) tables.staff.items all.staff fit.staff t.rows.staff;
-      customers = stands_keyed table.customers customer_row tables.customers.items b.customers (t.values.rows Customers) t.rows.customers (λ x. x.branch ∷ x.number ∷ []) (sym (different_congr same_row _ row_test b.customers) ∙ t.keys.customers);
-      copies = stands_keyed table.copies copy_row tables.copies.items b.copies (t.values.rows CopyRows) t.rows.copies (λ x. x.branch ∷ x.number ∷ []) (sym (different_congr same_row _ row_test b.copies) ∙ t.keys.copies);
-      rentals = stands_keyed table.rentals rental_row tables.rentals.items b.rentals (t.values.rows Rentals) t.rows.rentals (λ x. x.branch ∷ x.number ∷ []) (sym (different_congr same_row _ row_test b.rentals) ∙ t.keys.rentals);
-      terms = stands_keyed table.terms terms_row tables.terms.items b.terms (t.values.rows TermRows) t.rows.terms (λ x. x.branch ∷ x.number ∷ []) (sym (different_congr same_row _ row_test b.terms) ∙ t.keys.terms);
-      payments = stands_keyed table.payments payment_row tables.payments.items b.payments (t.values.rows Payments) t.rows.payments (λ x. x.branch ∷ x.number ∷ []) (sym (different_congr same_row _ row_test b.payments) ∙ t.keys.payments);
+          stands_in_places IsTold audited.branches told_row (rows_in tables BRANCHES) (told b.lasts 1 all.branches) (told_shared b.lasts t.values.lasts all.branches fit.branches)
+          (subst (IsPermutation (rows_in tables BRANCHES)) (as_told b.lasts 1 all.branches) t.rows.branches);
+      staff = stands_in_places IsStaff table.staff staff_row (rows_in tables STAFF) all.staff fit.staff t.rows.staff;
+      by_table = all_of (λ n. AreKeyed (IsKeptRow n) checked_key (rows_in tables (place_of n)))
+          (λ n. stands_keyed (table_of n) (checked_row n) (rows_in tables (place_of n)) (rows_of b n) (t.values.rows n) (t.rows.rows n) checked_key (sym (different_congr same_row _ row_test (rows_of b n)) ∙ t.keys.rows n))
+          all_tables;
       lots =
-          stands_keyed table.lots lot_row tables.lots.items b.lots t.values.lots t.rows.lots (λ x. x.branch ∷ x.name)
+          stands_keyed table.lots lot_row (rows_in tables LOTS) b.lots t.values.lots t.rows.lots (λ x. x.branch ∷ x.name)
           (sym (different_congr (λ (x y : Owned Text). x.owner == y.owner && bytes_eq x.it y.it) _ (λ x y. refl) b.lots) ∙ t.keys.lots);
       headers = headers_can_be_read tables b t;
       lines = lines_can_be_read tables b t;

@@ -1,7 +1,7 @@
 -- The table of kept commands, where it stands for books, can be read.
 use Rattle.shop_schema.proofs.Common.{◌≡◌, ◌∙◌, List, [], ◌∷◌, ◌++◌, map, true, refl, sym, ap, IsPermutation, AllByRecursion, bytes_eq, IsPermutation-sym, IsPermutation-trans, Owned, are_different, Kept, OfficeKept, Books, kept_rows, IsNumber, IsKept, IsOfficeKept}
-use Rattle.audit_tables.specs.Listed.{AreRows}
-use Rattle.audit_tables.specs.Kept.{OfBranch, OfOffice, IsOneKept, IsCallerRow}
+use Rattle.audit_tables.specs.Listed.{AreRows, IsListed}
+use Rattle.audit_tables.specs.Kept.{OfBranch, OfOffice, caller_row, IsCallerRow}
 use Rattle.audit_tables.specs.declared.kept.CallerRow.{CallerRow}
 use Rattle.audit_rows.specs.Lists.{Key}
 use Rattle.audit_rows.specs.Canons.{office_key}
@@ -10,6 +10,8 @@ use Rattle.audit_rows.specs.declared.rows.CheckedKept.{CheckedKept}
 use Rattle.audit_rows.proofs.Keys.{different_along, different-map, bytes_eq_symm}
 use Rattle.audit_rows.proofs.Standing.{all_moved}
 use Rattle.books_audit.specs.declared.tables.TableRows.{TableRows}
+use Rattle.books_audit.specs.declared.tables.TheConstants.{KEPT}
+use Rattle.books_audit.specs.Tables.{rows_in}
 use Rattle.books_audit.specs.Audits.{HaveBooks}
 use Rattle.books_audit.specs.Keys.{office_caller, branch_caller, KeptCanBeRead}
 use Rattle.books_audit.proofs.KeptRows.{KeptOf, kept_of}
@@ -17,21 +19,21 @@ use Rattle.books_audit.proofs.SameKept.{same_kept, same_office_keys}
 
 -- ---- each row is a kept command's
 
-all_ones : (kept : List (Owned Kept)) (office : List OfficeKept) → AllByRecursion IsKept kept → AllByRecursion IsOfficeKept office → AllByRecursion IsOneKept (kept_rows kept office)
+all_ones : (kept : List (Owned Kept)) (office : List OfficeKept) → AllByRecursion IsKept kept → AllByRecursion IsOfficeKept office → AllByRecursion (IsListed IsCallerRow) (kept_rows kept office)
 all_ones [] [] h k = tt
-all_ones [] (it ∷ office) h k = ((OfOffice it, k.0, refl), all_ones [] office h k.1)
-all_ones (row ∷ kept) office h k = ((OfBranch row, h.0, refl), all_ones kept office h.1 k)
+all_ones [] (it ∷ office) h k = ((caller_row (OfOffice it), record { it = OfOffice it; has = refl; fits = k.0; keeps = refl }), all_ones [] office h k.1)
+all_ones (row ∷ kept) office h k = ((caller_row (OfBranch row), record { it = OfBranch row; has = refl; fits = h.0; keeps = refl }), all_ones kept office h.1 k)
 
 -- ---- no two have one key
 
 module _ (tables : TableRows) (b : Books) (t : HaveBooks tables b) where
-  ones : AllByRecursion IsOneKept tables.kept.items
-  ones = all_moved IsOneKept _ _ (IsPermutation-sym _ _ t.rows.kept) (all_ones b.kept b.catalogue.kept t.values.kept t.values.catalogue.kept)
+  ones : AllByRecursion (IsListed IsCallerRow) (rows_in tables KEPT)
+  ones = all_moved (IsListed IsCallerRow) _ _ (IsPermutation-sym _ _ t.rows.kept) (all_ones b.kept b.catalogue.kept t.values.kept t.values.catalogue.kept)
 
-  module _ (found : List CallerRow) (office : List Key) (kept : List CheckedKept) (rows : AreRows IsCallerRow found tables.kept.items) (branches : AllByRecursion (λ (x : CheckedKept). IsNumber x.branch) kept)
+  module _ (found : List CallerRow) (office : List Key) (kept : List CheckedKept) (rows : AreRows IsCallerRow found (rows_in tables KEPT)) (branches : AllByRecursion (λ (x : CheckedKept). IsNumber x.branch) kept)
       (same : IsPermutation found (map office_caller office ++ map branch_caller kept)) where
-    of : KeptOf tables.kept.items office kept
-    of = kept_of tables.kept.items office kept branches (record { found = found; are_rows = rows; same = same })
+    of : KeptOf (rows_in tables KEPT) office kept
+    of = kept_of (rows_in tables KEPT) office kept branches (record { found = found; are_rows = rows; same = same })
 
     both : IsPermutation (kept_rows of.kept of.office) (kept_rows b.kept b.catalogue.kept)
     both = IsPermutation-trans _ _ _ (IsPermutation-sym _ _ of.has) t.rows.kept

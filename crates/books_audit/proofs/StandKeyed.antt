@@ -5,7 +5,7 @@ use Rattle.shop_schema.proofs.OneRow.{same_row}
 use Rattle.audit_rows.specs.Lists.{Key}
 use Rattle.audit_rows.proofs.Keys.{different_along, different-map, bytes_eq_symm}
 use Rattle.audit_rows.proofs.Standing.{same_rows}
-use Rattle.audit_tables.specs.Listed.{AreRows, IsRowOf, FullOf}
+use Rattle.audit_tables.specs.Listed.{AreRows, FullOf}
 use Rattle.books_audit.proofs.FullLists.{fulls, seen_all, ones}
 use Rattle.books_audit.specs.ReadLists.{AreKeyed}
 
@@ -21,9 +21,9 @@ module _ {X F : Type 0} {columns : F → sql.Row} {Fits : F → Type 0} (t : Tab
       let b = read_bag found h in
       subst (λ l. IsPermutation l its) (seen_all seen small again b.0 b.2) b.1
 
-  pub stands_keyed : (key : X → Key) → are_different (λ (a b : F). bytes_eq (key (small a)) (key (small b))) its ≡ true → AreKeyed (FullOf columns Fits small) (IsRowOf columns Fits) key table
+  pub stands_keyed : (key : X → Key) → are_different (λ (a b : F). bytes_eq (key (small a)) (key (small b))) its ≡ true → AreKeyed (FullOf columns Fits small) key table
   stands_keyed key apart = record {
-    ones = ones columns Fits its table fit p;
+    ones = ones columns Fits small its table fit p;
     different = λ found h.
         let b = read_bag found h in
         subst (λ l. are_different (λ (x y : X). bytes_eq (key x) (key y)) l ≡ true) b.2

@@ -3,7 +3,7 @@ use Rattle.shop_schema.proofs.Common.{◌≡◌, ◌∙◌, ◌+◌, ◌<◌, �
 use Rattle.std.proofs.lemmas.List.Folds.{list_any-append}
 use Rattle.audit_tables.specs.Listed.{AreRows}
 use Rattle.audit_tables.specs.AuditTables as audited
-use Rattle.audit_tables.specs.Rows.{header_row, IsOneHeader, IsHeaderRow, placed_row, IsOneLine, IsLineRow}
+use Rattle.audit_tables.specs.Rows.{header_row, IsHeaderRow, placed_row, IsLineRow}
 use Rattle.audit_rows.specs.Lists.{climbs}
 use Rattle.audit_rows.specs.Joins.{Header, Placed, header, placed, put_line, header_key, placed_key}
 use Rattle.audit_rows.specs.Seen.{seen_header, seen_placed}
@@ -14,6 +14,8 @@ use Rattle.audit_rows.proofs.Keys.{both, different-map}
 use Rattle.audit_rows.proofs.MarkLemmas.{not_true}
 use Rattle.audit_rows.proofs.Tests.{different_congr}
 use Rattle.books_audit.specs.declared.tables.TableRows.{TableRows}
+use Rattle.books_audit.specs.declared.tables.TheConstants.{CONSIGNMENTS, LINES}
+use Rattle.books_audit.specs.Tables.{rows_in}
 use Rattle.books_audit.specs.Audits.{HaveBooks}
 use Rattle.books_audit.specs.ReadInOrder.{AreJoined}
 use Rattle.books_audit.specs.ReadLists.{RowsRead, AreKeyed}
@@ -90,24 +92,24 @@ lines_apart (it ∷ its) h =
 -- ---- from books that stand
 
 module _ (tables : TableRows) (b : Books) (t : HaveBooks tables b) where
-  pub headers_can_be_read : AreKeyed IsHeaderRow IsOneHeader (λ (row : CheckedHeader). row.source ∷ row.addressee ∷ row.number ∷ []) tables.consignments.items
+  pub headers_can_be_read : AreKeyed IsHeaderRow (λ (row : CheckedHeader). row.source ∷ row.addressee ∷ row.number ∷ []) (rows_in tables CONSIGNMENTS)
   headers_can_be_read =
-      stands_keyed audited.headers header_row tables.consignments.items (map header b.consignments) (headers_fit b.consignments t.values.consignments) (header_rows tables b t) (λ row. row.source ∷ row.addressee ∷ row.number ∷ [])
+      stands_keyed audited.headers header_row (rows_in tables CONSIGNMENTS) (map header b.consignments) (headers_fit b.consignments t.values.consignments) (header_rows tables b t) (λ row. row.source ∷ row.addressee ∷ row.number ∷ [])
       (different-map (λ x y. bytes_eq (header_key x) (header_key y)) header b.consignments
       ∙ sym (different_congr same_consignment _ (λ x y. three (x.source == y.source) (x.addressee == y.addressee) (x.number == y.number)) b.consignments) ∙ t.keys.consignments)
 
-  pub lines_can_be_read : AreKeyed IsLineRow IsOneLine (λ (row : CheckedLine). row.source ∷ row.addressee ∷ row.number ∷ row.line ∷ []) tables.lines.items
+  pub lines_can_be_read : AreKeyed IsLineRow (λ (row : CheckedLine). row.source ∷ row.addressee ∷ row.number ∷ row.line ∷ []) (rows_in tables LINES)
   lines_can_be_read =
-      stands_keyed audited.lines placed_row tables.lines.items (flat_map placed b.consignments) (lines_fit b.consignments t.values.consignments) (placed_rows tables b t) (λ row. row.source ∷ row.addressee ∷ row.number ∷ row.line ∷ [])
+      stands_keyed audited.lines placed_row (rows_in tables LINES) (flat_map placed b.consignments) (lines_fit b.consignments t.values.consignments) (placed_rows tables b t) (λ row. row.source ∷ row.addressee ∷ row.number ∷ row.line ∷ [])
       (lines_apart b.consignments t.keys.consignments)
 
-  headers_bag : (found : List CheckedHeader) → AreRows IsHeaderRow found tables.consignments.items → IsPermutation (map seen_header found) (map header b.consignments)
-  headers_bag = seen_bag audited.headers header_row tables.consignments.items (map header b.consignments) (headers_fit b.consignments t.values.consignments) (header_rows tables b t) seen_header (λ it. refl)
+  headers_bag : (found : List CheckedHeader) → AreRows IsHeaderRow found (rows_in tables CONSIGNMENTS) → IsPermutation (map seen_header found) (map header b.consignments)
+  headers_bag = seen_bag audited.headers header_row (rows_in tables CONSIGNMENTS) (map header b.consignments) (headers_fit b.consignments t.values.consignments) (header_rows tables b t) seen_header (λ it. refl)
 
-  lines_bag : (found : List CheckedLine) → AreRows IsLineRow found tables.lines.items → IsPermutation (map seen_placed found) (flat_map placed b.consignments)
-  lines_bag = seen_bag audited.lines placed_row tables.lines.items (flat_map placed b.consignments) (lines_fit b.consignments t.values.consignments) (placed_rows tables b t) seen_placed placed_again
+  lines_bag : (found : List CheckedLine) → AreRows IsLineRow found (rows_in tables LINES) → IsPermutation (map seen_placed found) (flat_map placed b.consignments)
+  lines_bag = seen_bag audited.lines placed_row (rows_in tables LINES) (flat_map placed b.consignments) (lines_fit b.consignments t.values.consignments) (placed_rows tables b t) seen_placed placed_again
 
-  pub can_be_joined : (headers : List CheckedHeader) (lines : List CheckedLine) → RowsRead IsHeaderRow tables.consignments.items headers → RowsRead IsLineRow tables.lines.items lines
+  pub can_be_joined : (headers : List CheckedHeader) (lines : List CheckedLine) → RowsRead IsHeaderRow (rows_in tables CONSIGNMENTS) headers → RowsRead IsLineRow (rows_in tables LINES) lines
       → climbs (map (λ (row : CheckedHeader). row.source ∷ row.addressee ∷ row.number ∷ []) headers) ≡ true → climbs (map (λ (row : CheckedLine). row.source ∷ row.addressee ∷ row.number ∷ row.line ∷ []) lines) ≡ true
       → AreJoined headers lines
   can_be_joined headers lines h l up down =

@@ -1,12 +1,14 @@
 -- Each rental has its terms in rows in order exactly where it has them in the books that have these rows.
-use Rattle.shop_schema.proofs.Common.{◌≡◌, ◌&&◌, ◌==◌, List, [], ◌∷◌, map, Bool, true, false, refl, sym, ap, subst, subst₂, ◌∙◌, arith, true≢false, IsPermutation, bytes_eq, IsPermutation-refl, length_permutation, map-map, Rental, Terms, Books, AreTermed}
+use Rattle.shop_schema.proofs.Common.{◌≡◌, ◌&&◌, ◌==◌, List, [], ◌∷◌, map, Bool, true, false, refl, sym, ap, subst, subst₂, ◌∙◌, arith, true≢false, IsPermutation, bytes_eq, IsPermutation-refl, length_permutation, map-map, Books, TermRows, Rentals, rows_of, AreTermed}
 use Rattle.audit_rows.specs.Canons.{row_key}
 use Rattle.audit_rows.specs.Lists.{Key, is_below, climbs, climbs_above, same_lists}
-use Rattle.audit_rows.specs.Ordered.{AreOrdered, HaveOrderedRows, terms_row}
-use Rattle.audit_rows.specs.Seen.{seen_rental_row}
+use Rattle.shop_model.specs.Books.{Table}
+use Rattle.audit_rows.specs.Ordered.{AreOrdered, HaveOrderedRows}
+use Rattle.audit_rows.specs.Tables.{checked_row, checked_rows, checked_key}
 use Rattle.audit_rows.specs.declared.books.OrderedBooks.{OrderedBooks}
-use Rattle.audit_rows.specs.declared.rows.CheckedRental.{CheckedRental}
-use Rattle.audit_rows.specs.declared.rows.CheckedTerms.{CheckedTerms}
+use Rattle.audit_rows.specs.declared.rows.CheckedRow.{CheckedRow}
+use Rattle.audit_rows.specs.declared.books.CheckedTerms.{CheckedTerms}
+use Rattle.shop_types.specs.declared.rental.Rental.{Rental}
 use Rattle.audit_rows.proofs.Bags.{count_along, one_order, same_equal}
 use Rattle.audit_rows.proofs.Keys.{NeverFalls, both, below_trans, below_apart, same_bytes}
 use Rattle.books_audit.specs.Read.{are_termed}
@@ -35,18 +37,15 @@ one_climb (x ∷ xs) (y ∷ ys) up down h =
 
 -- ---- rows in order
 
-abbrev terms_keys : List CheckedTerms → List Key
-terms_keys terms = map (λ (it : CheckedTerms). it.branch ∷ it.number ∷ []) terms
-
-abbrev rental_keys : List CheckedRental → List Key
-rental_keys rentals = map (λ (it : CheckedRental). it.branch ∷ it.number ∷ []) rentals
+abbrev keys : {A : Type 0} → List (CheckedRow A) → List Key
+keys rows = map checked_key rows
 
 regrouped : (a b c : Bool) → (a && b && c) ≡ ((a && (b && true)) && c)
 regrouped true true c = refl
 regrouped true false c = refl
 regrouped false b c = refl
 
-as_keys : (terms : List CheckedTerms) (rentals : List CheckedRental) → are_termed terms rentals ≡ same_lists (terms_keys terms) (rental_keys rentals)
+as_keys : (terms : List (CheckedRow CheckedTerms)) (rentals : List (CheckedRow Rental)) → are_termed terms rentals ≡ same_lists (keys terms) (keys rentals)
 as_keys [] [] = refl
 as_keys [] (rental ∷ rentals) = refl
 as_keys (it ∷ terms) [] = refl
@@ -59,18 +58,15 @@ same_itself [] = refl
 same_itself (key ∷ keys) = λ i. same_bytes key i && same_itself keys i
 
 module _ (rows : OrderedBooks) (c : Books) (has : HaveOrderedRows rows c) where
-  terms_are : map (row_key {A = Terms}) c.terms ≡ terms_keys rows.terms.items
-  terms_are = sym (map-map (λ (it : CheckedTerms). it.branch ∷ it.number ∷ []) terms_row c.terms) ∙ ap terms_keys has.terms
-
-  rentals_are : map (row_key {A = Rental}) c.rentals ≡ rental_keys rows.rentals.items
-  rentals_are = ap (map (row_key {A = Rental})) has.rentals ∙ map-map (row_key {A = Rental}) seen_rental_row rows.rentals.items
+  keys_are : (t : Table) → map row_key (rows_of c t) ≡ keys (checked_rows rows t)
+  keys_are t = sym (map-map checked_key (checked_row t) (rows_of c t)) ∙ ap keys (has.rows t)
 
   pub termed_in_books : are_termed rows.terms.items rows.rentals.items ≡ true → AreTermed c
   termed_in_books h =
-      let same : terms_keys rows.terms.items ≡ rental_keys rows.rentals.items = same_equal _ _ (sym (as_keys rows.terms.items rows.rentals.items) ∙ h) in
-      subst (IsPermutation (map (row_key {A = Terms}) c.terms)) (terms_are ∙ same ∙ sym rentals_are) (IsPermutation-refl (map (row_key {A = Terms}) c.terms))
+      let same : keys rows.terms.items ≡ keys rows.rentals.items = same_equal _ _ (sym (as_keys rows.terms.items rows.rentals.items) ∙ h) in
+      subst (IsPermutation (map row_key c.terms)) (keys_are TermRows ∙ same ∙ sym (keys_are Rentals)) (IsPermutation-refl (map row_key c.terms))
 
   pub termed_in_rows : AreOrdered rows → AreTermed c → are_termed rows.terms.items rows.rentals.items ≡ true
   termed_in_rows ordered h =
-      let same : terms_keys rows.terms.items ≡ rental_keys rows.rentals.items = one_climb _ _ ordered.terms ordered.rentals (subst₂ IsPermutation terms_are rentals_are h) in
-      as_keys rows.terms.items rows.rentals.items ∙ ap (same_lists (terms_keys rows.terms.items)) (sym same) ∙ same_itself (terms_keys rows.terms.items)
+      let same : keys rows.terms.items ≡ keys rows.rentals.items = one_climb _ _ (ordered.rows TermRows) (ordered.rows Rentals) (subst₂ IsPermutation (keys_are TermRows) (keys_are Rentals) h) in
+      as_keys rows.terms.items rows.rentals.items ∙ ap (same_lists (keys rows.terms.items)) (sym same) ∙ same_itself (keys rows.terms.items)

@@ -1,9 +1,11 @@
 -- A query of a whole table tells its rows.
-use Rattle.shop_schema.proofs.Common.{◌≡◌, ◌<◌, ℕ, zero, suc, length, get_or, arith, ◌++◌, append-nil, append_assoc, List, [], ◌∷◌, refl, map, cond, true, ap, sym, subst, ◌∙◌, IsPermutation, flat_map, remove, IsPermutation-map, column, Trees, Output, output, overlay, State, columns_of, columns_from, eval_all, Table, shown_same, plain_query, answers, shop_schema, IsShop, cols}
+use Rattle.shop_schema.proofs.Common.{◌≡◌, ◌+◌, ℕ, zero, suc, length, get_or, arith, ◌++◌, append-nil, append_assoc, List, [], ◌∷◌, refl, map, cond, true, ap, sym, subst, ◌∙◌, IsPermutation, flat_map, IsPermutation-map, IsPermutation-sym, column, Trees, Output, output, overlay, State, columns_of, columns_from, eval_all, Table, shown_same, plain_query, answers, shop_schema, IsShop, cols}
 use Rattle.sqlite_value.specs.Order.{Row}
 use Rattle.sqlite.specs.State.{Shown}
 use Rattle.shop_schema.proofs.Listed.{own_rows}
-use Rattle.books_audit.specs.Whole.{SelectsWhole, AreRowsOf, SelectEach, HaveEach}
+use Rattle.shop_schema.specs.Shop.{HaveRows}
+use Rattle.books_audit.specs.Tables.{rows_in, HaveEach, SelectsWhole, AreRowsOf, SelectEach}
+use Rattle.books_audit.specs.declared.tables.TableRows.{TableRows}
 
 module _ (t : Table) (text : List ℕ) (means : SelectsWhole t text) where
   abbrev width : ℕ
@@ -34,7 +36,7 @@ module _ (t : Table) (text : List ℕ) (means : SelectsWhole t text) where
 pub record SoFar (trees : Trees) (left : List (List ℕ)) (all : List (List Row)) (ts : List Table) : Type 0 where
   pub us : List Table
   pub select : SelectEach us left
-  pub have : (more : List (List Row)) → HaveEach us trees more → HaveEach ts trees (all ++ more)
+  pub have : (more : List (List Row)) → HaveRows us trees more → HaveRows ts trees (all ++ more)
 
 pub next_table : {trees : Trees} {text : List ℕ} {left : List (List ℕ)} {all : List (List Row)} {ts : List Table} → SoFar trees (text ∷ left) all ts → (t : Table) × SelectsWhole t text
 next_table {text = text} {left = left} so = go so.us so.select
@@ -47,25 +49,33 @@ pub one_more : (trees : Trees) (text : List ℕ) (left : List (List ℕ)) (all :
     → ((t : Table) → SelectsWhole t text → AreRowsOf t trees rows) → SoFar trees left (all ++ rows ∷ []) ts
 one_more trees text left all ts rows so told = go so.us so.select so.have
   where
-    go : (us : List Table) → SelectEach us (text ∷ left) → ((more : List (List Row)) → HaveEach us trees more → HaveEach ts trees (all ++ more)) → SoFar trees left (all ++ rows ∷ []) ts
+    go : (us : List Table) → SelectEach us (text ∷ left) → ((more : List (List Row)) → HaveRows us trees more → HaveRows ts trees (all ++ more)) → SoFar trees left (all ++ rows ∷ []) ts
     go [] h have = absurd h
-    go (u ∷ us) h have = record { us = us; select = h.1; have = λ more it. subst (HaveEach ts trees) (sym (append_assoc all (rows ∷ []) more)) (have (rows ∷ more) (told u h.0, it)) }
+    go (u ∷ us) h have = record { us = us; select = h.1; have = λ more it. subst (HaveRows ts trees) (sym (append_assoc all (rows ∷ []) more)) (have (rows ∷ more) (told u h.0, it)) }
 
-pub all_read : (trees : Trees) (all : List (List Row)) (ts : List Table) → SoFar trees [] all ts → HaveEach ts trees all
+pub all_read : (trees : Trees) (all : List (List Row)) (ts : List Table) → SoFar trees [] all ts → HaveRows ts trees all
 all_read trees all ts so = go so.us so.select so.have
   where
-    go : (us : List Table) → SelectEach us [] → ((more : List (List Row)) → HaveEach us trees more → HaveEach ts trees (all ++ more)) → HaveEach ts trees all
-    go [] h have = subst (HaveEach ts trees) (append-nil all) (have [] tt)
+    go : (us : List Table) → SelectEach us [] → ((more : List (List Row)) → HaveRows us trees more → HaveRows ts trees (all ++ more)) → HaveRows ts trees all
+    go [] h have = subst (HaveRows ts trees) (append-nil all) (have [] tt)
     go (u ∷ us) h have = absurd h
 
--- ---- one table's rows after another's
+-- ---- the rows of each table, at its place
 
-pub next_have : {V : Type 0} (items : V → List Row) (trees : Trees) (t : Table) (ts : List Table) (all left : List V) (first : V) → 0 < length all → first ≡ get_or all 0 first → left ≡ remove all 0
-    → HaveEach (t ∷ ts) trees (map items all) → AreRowsOf t trees (items first) × HaveEach ts trees (map items left)
-next_have items trees t ts [] left first low e f h = absurd (omega (arith, low))
-next_have items trees t ts (rows ∷ more) left first low e f h =
-    (subst (λ it. AreRowsOf t trees (items it)) (sym e) h.0, subst (λ l. HaveEach ts trees (map items l)) (sym f) h.1)
+-- where these lists are those from a place on
+in_places : (trees : Trees) (tables : TableRows) (place : ℕ) (ts : List Table) (lists : List (List Row)) → ((n : ℕ) → rows_in tables (place + n) ≡ get_or lists n []) → HaveRows ts trees lists
+    → HaveEach tables place (map (λ t. map (columns_of (length t.columns)) (trees t.tree)) ts)
+in_places trees tables place [] lists are h = tt
+in_places trees tables place (t ∷ ts) [] are h = absurd h
+in_places trees tables place (t ∷ ts) (rows ∷ lists) are h =
+    let same : place ≡ place + 0 = omega arith in
+    let here = ap (rows_in tables) same ∙ are 0 in
+    let next : (n : ℕ) → place + 1 + n ≡ place + suc n = (λ n. omega arith) in
+    (subst (λ found. IsPermutation found (map (columns_of (length t.columns)) (trees t.tree))) (sym here) (IsPermutation-sym _ _ h.0), in_places trees tables (place + 1) ts lists (λ n. ap (rows_in tables) (next n) ∙ are (suc n)) h.1)
 
-pub none_have : {V : Type 0} (items : V → List Row) (trees : Trees) (t : Table) (ts : List Table) (all : List V) → length all ≡ 0 → ¬ HaveEach (t ∷ ts) trees (map items all)
-none_have items trees t ts [] e h = h
-none_have items trees t ts (rows ∷ more) e h = absurd (omega (arith, e))
+pub at_places : (trees : Trees) (tables : TableRows) (ts : List Table) (lists : List (List Row)) → map (λ rows. rows.items) tables.all.items ≡ lists → HaveRows ts trees lists
+    → HaveEach tables 0 (map (λ t. map (columns_of (length t.columns)) (trees t.tree)) ts)
+at_places trees tables ts lists same = in_places trees tables 0 ts lists (λ n. ap (λ (l : List (List Row)). get_or l (0 + n) []) same ∙ ap (λ k. get_or lists k []) (itself n))
+  where
+    itself : (n : ℕ) → 0 + n ≡ n
+    itself n = omega arith

@@ -1,5 +1,5 @@
 -- Rows of three numbers are their keys.
-use Rattle.shop_schema.proofs.Common.{◌≡◌, ◌∙◌, ◌≤◌, ℕ, List, [], ◌∷◌, map, length, Bool, true, false, refl, sym, ap, subst, subst₂, arith, IsPermutation, AllByRecursion, bytes_eq, bytes_eq-Decides, IsPermutation-refl, IsPermutation-trans, IsPermutation-sym, IsPermutation-cons, IsPermutation-middle, IsPermutation-map, map-map, column, number_value, one, pair_columns, Pair}
+use Rattle.shop_schema.proofs.Common.{◌≡◌, ◌∙◌, ◌≤◌, ℕ, List, [], ◌∷◌, map, length, Bool, true, false, refl, sym, ap, subst, subst₂, arith, IsPermutation, AllByRecursion, all_of, all-map, bytes_eq, bytes_eq-Decides, IsPermutation-refl, IsPermutation-trans, IsPermutation-sym, IsPermutation-cons, IsPermutation-middle, IsPermutation-map, map-map, column, number_value, one, pair_columns, Pair}
 use Rattle.sqlite_value.specs.Order as sql
 use Rattle.audit_tables.specs.Listed.{AreRows}
 use Rattle.audit_rows.specs.Lists.{Key, count, SameCounts}
@@ -7,10 +7,6 @@ use Rattle.audit_rows.proofs.Bags.{count_along}
 use Rattle.audit_rows.proofs.Standing.{same_bag_of, all_moved}
 use Rattle.books_audit.specs.declared.counts.Triple.{Triple}
 use Rattle.books_audit.specs.Triples.{IsWhole, IsTriple, OneTriple, triple_columns, seen_pair}
-
-anything : {X : Type 0} (xs : List X) → AllByRecursion (λ x. Unit {0}) xs
-anything [] = tt
-anything (x ∷ xs) = (tt, anything xs)
 
 -- ---- lists that have each key equally often
 
@@ -69,13 +65,9 @@ columns_of_triples [] (r ∷ rows) h = absurd h
 columns_of_triples (x ∷ xs) [] h = absurd h
 columns_of_triples (x ∷ xs) (r ∷ rows) h = λ i. h.0 i ∷ columns_of_triples xs rows h.1 i
 
-all_triples : (xs : List Triple) → AllByRecursion OneTriple (map triple_columns xs)
-all_triples [] = tt
-all_triples (x ∷ xs) = ((x, refl), all_triples xs)
-
 -- what isn't read isn't wanted
 pub not_wanted : (rows : List sql.Row) (wanted : List Triple) → ¬ AllByRecursion OneTriple rows → ¬ IsPermutation rows (map triple_columns wanted)
-not_wanted rows wanted none h = none (all_moved OneTriple _ _ (IsPermutation-sym _ _ h) (all_triples wanted))
+not_wanted rows wanted none h = none (all_moved OneTriple _ _ (IsPermutation-sym _ _ h) (all-map OneTriple triple_columns (λ x. (x, refl)) wanted))
 
 abbrev key_of : Triple → Key
 key_of x = x.first ∷ x.second ∷ x.third ∷ []
@@ -88,7 +80,7 @@ module _ (rows : List sql.Row) (found wanted : List Triple) (are : AreRows IsTri
 
   pub counts_from_rows : IsPermutation rows (map triple_columns wanted) → SameCounts (map key_of found) (map key_of wanted)
   counts_from_rows h test =
-      let bag = same_bag_of triple_columns (λ it. Unit {0}) (λ x y _ _ e. one_triple x y e) found wanted (anything found) (anything wanted)
+      let bag = same_bag_of triple_columns (λ it. Unit {0}) (λ x y _ _ e. one_triple x y e) found wanted (all_of _ (λ _. tt) found) (all_of _ (λ _. tt) wanted)
       (subst (λ l. IsPermutation l (map triple_columns wanted)) (sym (columns_of_triples found rows are)) h) in
       count_along test _ _ (IsPermutation-map key_of found wanted bag)
 

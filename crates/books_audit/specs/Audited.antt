@@ -6,8 +6,7 @@ use Rattle.shop_model.specs.Rows.{Row}
 use Rattle.shop_model.specs.Values.{Here, Scrapped}
 use Rattle.shop_model.specs.Books.{BookCopy, Line, UnderWay, Missing}
 use Rattle.shop_model.specs.Sound.{rows_made, rows_in, lines_in}
-use Rattle.shop_schema.specs.Columns.{copy_columns}
-use Rattle.shop_schema.specs.RowValues.{IsRow, IsCopy}
+use Rattle.shop_schema.specs.RowValues.{IsRow, IsCopy, copy_columns}
 use Rattle.audit_rows.specs.Joins.{Placed}
 use Rattle.audit_rows.specs.Marked.{AreInCustody, any_mark}
 use Rattle.audit_tables.specs.Columns.{placed_columns, IsPlaced}

@@ -6,4 +6,4 @@ pub mod Keys
 pub mod ReadInOrder
 pub mod Triples
 pub mod Shops
-pub mod Whole
+pub mod Tables

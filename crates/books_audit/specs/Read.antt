@@ -1,7 +1,7 @@
 -- What the tables of counts have to say of rows in order, and what an audit says of such rows.
 use Rattle.std.specs.Prelude.{◌≡◌, ◌↔◌, IsTrue, ◌==◌, ◌&&◌, ℕ, Bool, true, false, List, [], ◌∷◌, map, filter, flat_map, fold, length, is_none, IsPermutation}
 use Rattle.shop_model.specs.Rows.{numbered}
-use Rattle.shop_schema.specs.Columns.{counter_columns, out_columns, pair_columns}
+use Rattle.shop_schema.specs.RowValues.{counter_columns, out_columns, pair_columns}
 use Rattle.shop_schema.specs.Counts.{Count, Out, Pair, count_pair}
 use Rattle.shop_model.specs.Values.{Rules}
 use Rattle.shop_model.specs.Books.{Books}
@@ -11,10 +11,13 @@ use Rattle.shop_types.specs.declared.audit.Audit.{Audit}
 use Rattle.books_audit.specs.Audited.{CountsCustody}
 use Rattle.audit_rows.specs.Seen.{seen_copy, seen_line}
 use Rattle.audit_rows.specs.declared.books.OrderedBooks.{OrderedBooks}
-use Rattle.audit_rows.specs.declared.rows.CheckedRental.{CheckedRental}
-use Rattle.audit_rows.specs.declared.rows.CheckedTerms.{CheckedTerms}
+use Rattle.audit_rows.specs.declared.rows.CheckedRow.{CheckedRow}
+use Rattle.audit_rows.specs.declared.books.CheckedTerms.{CheckedTerms}
 use Rattle.audit_rows.specs.declared.rows.CheckedHeader.{CheckedHeader}
+use Rattle.shop_types.specs.declared.rental.Rental.{Rental}
+use Rattle.books_audit.specs.Tables.{rows_in}
 use Rattle.books_audit.specs.declared.tables.TableRows.{TableRows}
+use Rattle.books_audit.specs.declared.tables.TheConstants.{COUNTERS, OUTS, PAIRS}
 
 -- ---- counts of rows in order, as those of books
 
@@ -33,8 +36,8 @@ counts_of_branch rows b =
 abbrev pub counters_in : OrderedBooks → List Count
 counters_in rows = record { caller = 0; kind = 4; last = length rows.office_keys.items } ∷ flat_map (λ it. counts_of_branch rows it.0) (numbered rows.branches.items)
 
-abbrev pub outs_among : List CheckedRental → List Out
-outs_among rentals = map (λ (x : CheckedRental). record { branch = x.branch; copy = x.rental.copy; rental = x.number }) (filter (λ x. is_none x.rental.returned) rentals)
+abbrev pub outs_among : List (CheckedRow Rental) → List Out
+outs_among rentals = map (λ (x : CheckedRow Rental). record { branch = x.branch; copy = x.it.copy; rental = x.number }) (filter (λ x. is_none x.it.returned) rentals)
 
 abbrev pub outs_in : OrderedBooks → List Out
 outs_in rows = outs_among rows.rentals.items
@@ -47,7 +50,7 @@ abbrev pub pairs_in : OrderedBooks → List Pair
 pairs_in rows = pairs_among [] rows.headers.items
 
 -- each rental has its row of terms, under its branch and number, one after another
-abbrev pub are_termed : List CheckedTerms → List CheckedRental → Bool
+abbrev pub are_termed : List (CheckedRow CheckedTerms) → List (CheckedRow Rental) → Bool
 are_termed [] [] = true
 are_termed [] (rental ∷ rentals) = false
 are_termed (it ∷ terms) [] = false
@@ -55,9 +58,9 @@ are_termed (it ∷ terms) (rental ∷ rentals) = it.branch == rental.branch && i
 
 -- the tables of counts say of these rows what they have, and each rental has its terms
 pub record HaveCounts (tables : TableRows) (rows : OrderedBooks) : Type 0 where
-  pub counters : IsPermutation tables.counters.items (map counter_columns (counters_in rows))
-  pub outs : IsPermutation tables.outs.items (map out_columns (outs_in rows))
-  pub pairs : IsPermutation tables.pairs.items (map pair_columns (pairs_in rows))
+  pub counters : IsPermutation (rows_in tables COUNTERS) (map counter_columns (counters_in rows))
+  pub outs : IsPermutation (rows_in tables OUTS) (map out_columns (outs_in rows))
+  pub pairs : IsPermutation (rows_in tables PAIRS) (map pair_columns (pairs_in rows))
   pub terms : are_termed rows.terms.items rows.rentals.items ≡ true
 
 -- the audit says of these rows what holds of the books that have them

@@ -4,66 +4,62 @@ use Rattle.shop_model.specs.Books.{Consignment}
 use Rattle.audit_rows.specs.Lists.{climbs}
 use Rattle.audit_rows.specs.Joins.{join}
 use Rattle.audit_rows.specs.Seen.{seen_header, seen_placed}
+use Rattle.audit_rows.specs.Tables.{OfEach, checked_rows, checked_key}
 use Rattle.audit_rows.specs.declared.books.OrderedBooks.{OrderedBooks}
 use Rattle.audit_rows.specs.declared.rows.CheckedHeader.{CheckedHeader}
 use Rattle.audit_rows.specs.declared.rows.CheckedLine.{CheckedLine}
-use Rattle.audit_tables.specs.Rows.{IsChainRow, IsOneChain, IsRuleRow, IsOneRule, IsNamedRow, IsOneNamed, IsCityRow, IsOneCity, IsActorRow, IsOneActor, IsFilmRow, IsOneFilm, IsCastRow, IsOneCast, IsBranchRow, IsOneBranch, IsStaffRow, IsOneStaff, IsCustomerRow, IsOneCustomer, IsCopyRow, IsOneCopy, IsRentalRow, IsOneRental, IsTermsRow, IsOneTerms, IsPaymentRow, IsOnePayment, IsLotRow, IsOneLot, IsHeaderRow, IsOneHeader, IsLineRow, IsOneLine}
+use Rattle.audit_tables.specs.BranchTables.{place_of, IsKeptRow}
+use Rattle.audit_tables.specs.Rows.{IsChainRow, IsRuleRow, IsNamedRow, IsCityRow, IsActorRow, IsFilmRow, IsCastRow, IsBranchRow, IsStaffRow, IsLotRow, IsHeaderRow, IsLineRow}
 use Rattle.audit_tables.specs.declared.shared.RuleRow.{RuleRow}
 use Rattle.books_audit.specs.Keys.{KeptAreRead, KeptCanBeRead}
 use Rattle.books_audit.specs.ReadLists.{RowsRead, IsSingle, KeyedRead, AreKeyed, PlacesRead, AreInPlaces}
+use Rattle.books_audit.specs.Tables.{rows_in}
 use Rattle.books_audit.specs.declared.tables.TableRows.{TableRows}
+use Rattle.books_audit.specs.declared.tables.TheConstants.{CHAIN, COUNTRIES, LANGUAGES, CATEGORIES, CITIES, ACTORS, FILMS, CASTS, BRANCHES, STAFF, LOTS, CONSIGNMENTS, LINES, RULE}
 
 -- the rows of the two tables of consignments are those of consignments
 abbrev pub AreJoined : List CheckedHeader → List CheckedLine → Type 0
 AreJoined headers lines = (by_key : List Consignment) × (join (map seen_header headers) (map seen_placed lines) ≡ Some by_key)
 
 pub record AreReadInOrder (tables : TableRows) (rows : OrderedBooks) : Type 0 where
-  pub chain : RowsRead IsChainRow tables.chain.items (record { office_token = rows.office_token } ∷ [])
+  pub chain : RowsRead IsChainRow (rows_in tables CHAIN) (record { office_token = rows.office_token } ∷ [])
   pub rule_row : RuleRow
-  pub rule : RowsRead IsRuleRow tables.rule.items (rule_row ∷ [])
+  pub rule : RowsRead IsRuleRow (rows_in tables RULE) (rule_row ∷ [])
   pub kept : KeptAreRead tables rows.office_keys.items rows.kept.items
-  pub countries : PlacesRead IsNamedRow (λ x. x.number) (λ x. x.name) tables.countries.items rows.countries.items
-  pub languages : PlacesRead IsNamedRow (λ x. x.number) (λ x. x.name) tables.languages.items rows.languages.items
-  pub categories : PlacesRead IsNamedRow (λ x. x.number) (λ x. x.name) tables.categories.items rows.categories.items
-  pub cities : PlacesRead IsCityRow (λ x. x.number) (λ x. x.city) tables.cities.items rows.cities.items
+  pub countries : PlacesRead IsNamedRow (λ row. row.number) (λ row. row.it) (rows_in tables COUNTRIES) rows.countries.items
+  pub languages : PlacesRead IsNamedRow (λ row. row.number) (λ row. row.it) (rows_in tables LANGUAGES) rows.languages.items
+  pub categories : PlacesRead IsNamedRow (λ row. row.number) (λ row. row.it) (rows_in tables CATEGORIES) rows.categories.items
+  pub cities : PlacesRead IsCityRow (λ row. row.number) (λ row. row.it) (rows_in tables CITIES) rows.cities.items
   pub actor_marks : List (Unit {0})
-  pub actors : PlacesRead IsActorRow (λ x. x.number) (λ x. tt) tables.actors.items actor_marks
+  pub actors : PlacesRead IsActorRow (λ row. row.number) (λ row. row.it) (rows_in tables ACTORS) actor_marks
   pub actor_count : length actor_marks ≡ rows.actors
-  pub films : PlacesRead IsFilmRow (λ x. x.number) (λ x. x.film) tables.films.items rows.films.items
-  pub casts : KeyedRead IsCastRow (λ x. x.film ∷ x.actor ∷ []) tables.casts.items rows.casts.items
-  pub branches : PlacesRead IsBranchRow (λ x. x.number) (λ x. x.branch) tables.branches.items rows.branches.items
-  pub staff : PlacesRead IsStaffRow (λ x. x.number) (λ x. x.staff) tables.staff.items rows.staff.items
-  pub customers : KeyedRead IsCustomerRow (λ x. x.branch ∷ x.number ∷ []) tables.customers.items rows.customers.items
-  pub copies : KeyedRead IsCopyRow (λ x. x.branch ∷ x.number ∷ []) tables.copies.items rows.copies.items
-  pub rentals : KeyedRead IsRentalRow (λ x. x.branch ∷ x.number ∷ []) tables.rentals.items rows.rentals.items
-  pub terms : KeyedRead IsTermsRow (λ x. x.branch ∷ x.number ∷ []) tables.terms.items rows.terms.items
-  pub payments : KeyedRead IsPaymentRow (λ x. x.branch ∷ x.number ∷ []) tables.payments.items rows.payments.items
-  pub lots : KeyedRead IsLotRow (λ x. x.branch ∷ x.name) tables.lots.items rows.lots.items
-  pub headers : KeyedRead IsHeaderRow (λ x. x.source ∷ x.addressee ∷ x.number ∷ []) tables.consignments.items rows.headers.items
-  pub lines : KeyedRead IsLineRow (λ x. x.source ∷ x.addressee ∷ x.number ∷ x.line ∷ []) tables.lines.items rows.lines.items
+  pub films : PlacesRead IsFilmRow (λ row. row.number) (λ row. row.it) (rows_in tables FILMS) rows.films.items
+  pub casts : KeyedRead IsCastRow (λ x. x.film ∷ x.actor ∷ []) (rows_in tables CASTS) rows.casts.items
+  pub branches : PlacesRead IsBranchRow (λ row. row.number) (λ row. row.it) (rows_in tables BRANCHES) rows.branches.items
+  pub staff : PlacesRead IsStaffRow (λ row. row.number) (λ row. row.it) (rows_in tables STAFF) rows.staff.items
+  pub by_table : OfEach (λ t. KeyedRead (IsKeptRow t) checked_key (rows_in tables (place_of t)) (checked_rows rows t))
+  pub lots : KeyedRead IsLotRow (λ x. x.branch ∷ x.name) (rows_in tables LOTS) rows.lots.items
+  pub headers : KeyedRead IsHeaderRow (λ x. x.source ∷ x.addressee ∷ x.number ∷ []) (rows_in tables CONSIGNMENTS) rows.headers.items
+  pub lines : KeyedRead IsLineRow (λ x. x.source ∷ x.addressee ∷ x.number ∷ x.line ∷ []) (rows_in tables LINES) rows.lines.items
   pub joined : AreJoined rows.headers.items rows.lines.items
 
 pub record CanBeRead (tables : TableRows) : Type 0 where
-  pub chain : IsSingle IsOneChain tables.chain.items
-  pub rule : IsSingle IsOneRule tables.rule.items
+  pub chain : IsSingle IsChainRow (rows_in tables CHAIN)
+  pub rule : IsSingle IsRuleRow (rows_in tables RULE)
   pub kept : KeptCanBeRead tables
-  pub countries : AreInPlaces IsNamedRow IsOneNamed (λ x. x.number) tables.countries.items
-  pub languages : AreInPlaces IsNamedRow IsOneNamed (λ x. x.number) tables.languages.items
-  pub categories : AreInPlaces IsNamedRow IsOneNamed (λ x. x.number) tables.categories.items
-  pub cities : AreInPlaces IsCityRow IsOneCity (λ x. x.number) tables.cities.items
-  pub actors : AreInPlaces IsActorRow IsOneActor (λ x. x.number) tables.actors.items
-  pub films : AreInPlaces IsFilmRow IsOneFilm (λ x. x.number) tables.films.items
-  pub casts : AreKeyed IsCastRow IsOneCast (λ x. x.film ∷ x.actor ∷ []) tables.casts.items
-  pub branches : AreInPlaces IsBranchRow IsOneBranch (λ x. x.number) tables.branches.items
-  pub staff : AreInPlaces IsStaffRow IsOneStaff (λ x. x.number) tables.staff.items
-  pub customers : AreKeyed IsCustomerRow IsOneCustomer (λ x. x.branch ∷ x.number ∷ []) tables.customers.items
-  pub copies : AreKeyed IsCopyRow IsOneCopy (λ x. x.branch ∷ x.number ∷ []) tables.copies.items
-  pub rentals : AreKeyed IsRentalRow IsOneRental (λ x. x.branch ∷ x.number ∷ []) tables.rentals.items
-  pub terms : AreKeyed IsTermsRow IsOneTerms (λ x. x.branch ∷ x.number ∷ []) tables.terms.items
-  pub payments : AreKeyed IsPaymentRow IsOnePayment (λ x. x.branch ∷ x.number ∷ []) tables.payments.items
-  pub lots : AreKeyed IsLotRow IsOneLot (λ x. x.branch ∷ x.name) tables.lots.items
-  pub headers : AreKeyed IsHeaderRow IsOneHeader (λ x. x.source ∷ x.addressee ∷ x.number ∷ []) tables.consignments.items
-  pub lines : AreKeyed IsLineRow IsOneLine (λ x. x.source ∷ x.addressee ∷ x.number ∷ x.line ∷ []) tables.lines.items
-  pub joined : (headers : List CheckedHeader) (lines : List CheckedLine) → RowsRead IsHeaderRow tables.consignments.items headers → RowsRead IsLineRow tables.lines.items lines
+  pub countries : AreInPlaces IsNamedRow (λ row. row.number) (rows_in tables COUNTRIES)
+  pub languages : AreInPlaces IsNamedRow (λ row. row.number) (rows_in tables LANGUAGES)
+  pub categories : AreInPlaces IsNamedRow (λ row. row.number) (rows_in tables CATEGORIES)
+  pub cities : AreInPlaces IsCityRow (λ row. row.number) (rows_in tables CITIES)
+  pub actors : AreInPlaces IsActorRow (λ row. row.number) (rows_in tables ACTORS)
+  pub films : AreInPlaces IsFilmRow (λ row. row.number) (rows_in tables FILMS)
+  pub casts : AreKeyed IsCastRow (λ x. x.film ∷ x.actor ∷ []) (rows_in tables CASTS)
+  pub branches : AreInPlaces IsBranchRow (λ row. row.number) (rows_in tables BRANCHES)
+  pub staff : AreInPlaces IsStaffRow (λ row. row.number) (rows_in tables STAFF)
+  pub by_table : OfEach (λ t. AreKeyed (IsKeptRow t) checked_key (rows_in tables (place_of t)))
+  pub lots : AreKeyed IsLotRow (λ x. x.branch ∷ x.name) (rows_in tables LOTS)
+  pub headers : AreKeyed IsHeaderRow (λ x. x.source ∷ x.addressee ∷ x.number ∷ []) (rows_in tables CONSIGNMENTS)
+  pub lines : AreKeyed IsLineRow (λ x. x.source ∷ x.addressee ∷ x.number ∷ x.line ∷ []) (rows_in tables LINES)
+  pub joined : (headers : List CheckedHeader) (lines : List CheckedLine) → RowsRead IsHeaderRow (rows_in tables CONSIGNMENTS) headers → RowsRead IsLineRow (rows_in tables LINES) lines
       → climbs (map (λ (row : CheckedHeader). row.source ∷ row.addressee ∷ row.number ∷ []) headers) ≡ true → climbs (map (λ (row : CheckedLine). row.source ∷ row.addressee ∷ row.number ∷ row.line ∷ []) lines) ≡ true
       → AreJoined headers lines

@@ -8,7 +8,7 @@ use Rattle.sqlite_value.specs.Order as sql
 use Rattle.shop_model.specs.Links.{are_different}
 use Rattle.shop_model.specs.Rows.{IsCounted}
 use Rattle.audit_rows.specs.Lists.{Key, climbs}
-use Rattle.audit_tables.specs.Listed.{AreRows}
+use Rattle.audit_tables.specs.Listed.{AreRows, IsListed}
 
 -- what was kept of a table's rows, in another order
 pub record RowsRead {X : Type 0} (Is : X → sql.Row → Type 0) (table : List sql.Row) (kept : List X) : Type 0 where
@@ -17,8 +17,8 @@ pub record RowsRead {X : Type 0} (Is : X → sql.Row → Type 0) (table : List s
   pub same : IsPermutation found kept
 
 -- there is one row, and it is one of the table
-pub record IsSingle (One : sql.Row → Type 0) (table : List sql.Row) : Type 0 where
-  pub ones : AllByRecursion One table
+pub record IsSingle {X : Type 0} (Is : X → sql.Row → Type 0) (table : List sql.Row) : Type 0 where
+  pub ones : AllByRecursion (IsListed Is) table
   pub one : length table ≡ 1
 
 -- what was kept of a table's rows, in the order of their keys, of which no two are the same
@@ -27,13 +27,13 @@ pub record KeyedRead {X : Type 0} (Is : X → sql.Row → Type 0) (key : X → K
   pub climb : climbs (map key kept) ≡ true
 
 -- each row is one of the table, and no two have one key
-pub record AreKeyed {X : Type 0} (Is : X → sql.Row → Type 0) (One : sql.Row → Type 0) (key : X → Key) (table : List sql.Row) : Type 0 where
-  pub ones : AllByRecursion One table
+pub record AreKeyed {X : Type 0} (Is : X → sql.Row → Type 0) (key : X → Key) (table : List sql.Row) : Type 0 where
+  pub ones : AllByRecursion (IsListed Is) table
   pub different : (found : List X) → AreRows Is found table → are_different (λ a b. bytes_eq (key a) (key b)) found ≡ true
 
 -- each row is one of the table, and their numbers are 1, 2, ..
-pub record AreInPlaces {X : Type 0} (Is : X → sql.Row → Type 0) (One : sql.Row → Type 0) (number : X → ℕ) (table : List sql.Row) : Type 0 where
-  pub ones : AllByRecursion One table
+pub record AreInPlaces {X : Type 0} (Is : X → sql.Row → Type 0) (number : X → ℕ) (table : List sql.Row) : Type 0 where
+  pub ones : AllByRecursion (IsListed Is) table
   pub few : length table < 2 ^ 32
   pub counted : (found sorted : List X) → AreRows Is found table → IsPermutation found sorted → IsSortedByKey number nat_cmp sorted → IsCounted 1 (map number sorted)
 

@@ -4,19 +4,18 @@ ghost use Rattle.std.specs.Prelude.{◌≡◌, ◌↔◌, ◌+◌, ◌≤◌, �
 ghost use Rattle.sql_rows.specs.Rows.{number_value};
 ghost use Rattle.sqlite_value.specs.Order.{column};
 ghost use Rattle.sqlite_value.specs.Value.{owned};
-ghost use Rattle.shop_schema.specs.Columns.{counter_columns, out_columns};
+ghost use Rattle.shop_schema.specs.RowValues.{counter_columns, out_columns};
 ghost use Rattle.audit_rows.specs.Lists.{climbs};
 ghost use Rattle.audit_rows.specs.Ordered.{AreOrdered};
 ghost use Rattle.audit_rows.specs.declared.rows.CheckedHeader.{CheckedHeader};
 ghost use Rattle.books_audit.specs.Read.{HaveCounts, are_termed, counters_in, counts_of_branch, outs_among, pairs_among};
 ghost use Rattle.books_audit.specs.Triples.{IsWhole, IsTriple, OneTriple, triple_columns, seen_pair, AreMany, AreTallies};
 
-use crate::tables::TableRows;
-use audit_rows::{
-    CheckedHeader, CheckedRental, CheckedTerms, Keyed, OrderedBooks, Owned, same_bag,
-};
+use crate::tables::{COUNTERS, OUTS, PAIRS, TableRows};
+use audit_rows::books::CheckedTerms;
+use audit_rows::{CheckedHeader, CheckedRow, Keyed, OrderedBooks, Owned, same_bag};
 use audit_tables::{Listed, read_rows};
-use shop_types::NoMemory;
+use shop_types::{NoMemory, Rental};
 use sql_rows::{StoreFault, fault_of};
 use sqlite::Row;
 use sqlite::types::ValueRef;
@@ -81,8 +80,6 @@ fn is_triple(row: &Row) -> bool
 }
 
 impl Listed for Triple {
-    ghost is_one = { OneTriple };
-
     ghost is_row = { IsTriple };
 
     fn read(row: &Row) -> Result<Option<Triple>, StoreFault> {
@@ -119,16 +116,16 @@ fn has_rows(alloc: Global, rows: &[Row], wanted: Vec<Triple>) -> Result<bool, No
 }
 
 /// A row for each open rental.
-fn outs(alloc: Global, rentals: &[CheckedRental]) -> Result<Vec<Triple>, NoMemory>
+fn outs(alloc: Global, rentals: &[CheckedRow<Rental>]) -> Result<Vec<Triple>, NoMemory>
     ensures { IfOk result (λ all. map triple_columns all.items ≡ map out_columns (outs_among rentals.now)) }
 {
     let mut all = Vec::new(alloc);
     for row in rentals {
-        if row.rental.returned.is_none() {
+        if row.it.returned.is_none() {
             let out = Triple {
                 first: u64::from(row.branch.get()),
-                second: u64::from(row.rental.copy.get()),
-                third: u64::from(row.number.get()),
+                second: u64::from(row.it.copy.get()),
+                third: u64::from(row.number),
             };
             if all.push(out).is_err() {
                 return Err(NoMemory);
@@ -277,15 +274,15 @@ fn counters(alloc: Global, rows: &OrderedBooks) -> Result<Vec<Triple>, NoMemory>
 }
 
 /// Whether the terms are those of the rental.
-fn is_of(terms: &CheckedTerms, rental: &CheckedRental) -> bool
+fn is_of(terms: &CheckedRow<CheckedTerms>, rental: &CheckedRow<Rental>) -> bool
     ensures { result ≡ (terms.now.branch == rental.now.branch && terms.now.number == rental.now.number) }
 {
-    terms.branch.get() == rental.branch.get() && terms.number.get() == rental.number.get()
+    terms.branch.get() == rental.branch.get() && terms.number == rental.number
 }
 
 /// Whether each rental has one row of terms, under its branch and number, and there are no others. Both are in the
 /// order of their keys.
-fn are_termed(terms: &[CheckedTerms], rentals: &[CheckedRental]) -> bool
+fn are_termed(terms: &[CheckedRow<CheckedTerms>], rentals: &[CheckedRow<Rental>]) -> bool
     ensures { result ≡ are_termed terms.now rentals.now }
 {
     let mut rest = rentals;
@@ -316,13 +313,13 @@ pub(crate) fn have_counts(
         return Ok(false);
     }
     let outs = outs(alloc, rentals)?;
-    if !has_rows(alloc, tables.outs.as_slice(), outs)? {
+    if !has_rows(alloc, tables.of(OUTS), outs)? {
         return Ok(false);
     }
     let pairs = pairs(alloc, rows.headers.as_slice())?;
-    if !has_rows(alloc, tables.pairs.as_slice(), pairs)? {
+    if !has_rows(alloc, tables.of(PAIRS), pairs)? {
         return Ok(false);
     }
     let counters = counters(alloc, rows)?;
-    has_rows(alloc, tables.counters.as_slice(), counters)
+    has_rows(alloc, tables.of(COUNTERS), counters)
 }

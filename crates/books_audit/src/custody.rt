@@ -7,10 +7,9 @@ ghost use Rattle.shop_schema.specs.Shop.{IsShop};
 ghost use Rattle.audit_rows.specs.Seen.{seen_copy, seen_line};
 ghost use Rattle.books_audit.specs.Audited.{AuditsRows, CountsCustody, IsCustodyAudit};
 
-use crate::whole::{COPIES, LINES, read_whole};
-use audit_rows::{
-    CheckedCopy, CheckedLine, are_in_custody, copies_made, copies_under, lines_under,
-};
+use crate::tables::{COPIES_TEXT, LINES_TEXT, read_whole};
+use audit_rows::books::CheckedCopy;
+use audit_rows::{CheckedLine, CheckedRow, are_in_custody, copies_made, copies_under, lines_under};
 use audit_tables::read_rows;
 use shop_types::{Audit, CopyState, LineState, NoMemory};
 use sql_rows::StoreFault;
@@ -27,7 +26,11 @@ pub(crate) const NOTHING: Audit = Audit {
 };
 
 /// How many copies are where, beside whether all is sound.
-pub(crate) fn counted(sound: bool, copies: &[CheckedCopy], lines: &[CheckedLine]) -> Audit
+pub(crate) fn counted(
+    sound: bool,
+    copies: &[CheckedRow<CheckedCopy>],
+    lines: &[CheckedLine],
+) -> Audit
     ensures sound { result.sound ≡ sound }
     ensures counts { CountsCustody result (map seen_copy copies.now) (map seen_line lines.now) }
 {
@@ -43,7 +46,7 @@ pub(crate) fn counted(sound: bool, copies: &[CheckedCopy], lines: &[CheckedLine]
 /// The audit of copies and lines that could be read.
 fn audit_rows(
     alloc: Global,
-    copies: &[CheckedCopy],
+    copies: &[CheckedRow<CheckedCopy>],
     lines: &[CheckedLine],
 ) -> Result<Audit, NoMemory>
     ensures { IfOk result (λ audit. AuditsRows audit (map seen_copy copies.now) (map seen_line lines.now)) }
@@ -56,7 +59,7 @@ fn audit_rows(
 pub fn check_custody(alloc: Global, copies: &[Row], lines: &[Row]) -> Result<Audit, NoMemory>
     ensures { IfOk result (IsCustodyAudit copies.now lines.now) }
 {
-    let Some(copies) = read_rows::<CheckedCopy>(alloc, copies)? else {
+    let Some(copies) = read_rows::<CheckedRow<CheckedCopy>>(alloc, copies)? else {
         return Ok(NOTHING);
     };
     let Some(lines) = read_rows::<CheckedLine>(alloc, lines)? else {
@@ -75,8 +78,8 @@ pub fn audit_custody<S: Alter>(
         (λ audit old _. IsShop old
         → IsCustodyAudit (map (columns_of 6) (old.now.trees 25)) (map (columns_of 8) (old.now.trees 37)) audit) }
 {
-    let copies = read_whole(tx, COPIES)?;
-    let lines = read_whole(tx, LINES)?;
+    let copies = read_whole(tx, COPIES_TEXT)?;
+    let lines = read_whole(tx, LINES_TEXT)?;
     match check_custody(alloc, copies.as_slice(), lines.as_slice()) {
         Ok(audit) => Ok(audit),
         Err(NoMemory) => Err(StoreFault::Memory),

@@ -7,7 +7,7 @@ ghost use Rattle.audit_rows.specs.declared.rows.CheckedKept.{CheckedKept};
 ghost use Rattle.books_audit.specs.Keys.{office_caller, branch_caller, KeptAreRead, KeptCanBeRead};
 
 use crate::lists::Unread;
-use crate::tables::TableRows;
+use crate::tables::{KEPT, TableRows};
 use audit_rows::{CheckedKept, climbs, sort_rows};
 use audit_tables::{CallerRow, read_rows};
 use shop_types::{BranchNo, Key, NoMemory};
@@ -51,7 +51,7 @@ pub(crate) fn read_kept(alloc: Global, tables: &TableRows) -> Result<Keys, Unrea
     ensures read { IfOk result (λ keys. KeptAreRead tables.now keys.office.items keys.kept.items) }
     ensures none { IfErr result (λ e. e ≡ Unread.NoBooks → ¬ KeptCanBeRead tables.now) }
 {
-    let Some(rows) = read_rows::<CallerRow>(alloc, tables.kept.as_slice())? else {
+    let Some(rows) = read_rows::<CallerRow>(alloc, tables.of(KEPT))? else {
         return Err(Unread::NoBooks);
     };
     let Keys {

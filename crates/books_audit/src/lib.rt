@@ -9,9 +9,7 @@ mod laws;
 mod lists;
 mod ordered;
 mod reading;
-mod shared;
 mod tables;
-mod whole;
 
 pub use books::{audit_books, check_books};
 pub use custody::{audit_custody, check_custody};

@@ -5,11 +5,12 @@ ghost use Rattle.std.specs.List.Sorted.{IsSortedByKey};
 ghost use Rattle.std.specs.Ordering.{nat_cmp};
 ghost use Rattle.audit_rows.specs.Lists.{counts_from};
 ghost use Rattle.books_audit.specs.ReadLists.{RowsRead, IsSingle, KeyedRead, AreKeyed, PlacesRead, AreInPlaces};
+ghost use Rattle.books_audit.specs.Tables.{rows_in};
 
+use crate::tables::TableRows;
 use audit_rows::{Keyed, climbs, sort_rows};
-use audit_tables::{Listed, read_rows};
+use audit_tables::{Listed, SharedRow, read_rows};
 use shop_types::NoMemory;
-use sqlite::Row;
 use std::alloc::Global;
 
 /// Why tables weren't read: there is no memory, or they stand for no books.
@@ -29,13 +30,17 @@ impl From<NoMemory> for Unread {
     }
 }
 
-/// What is kept of the one row of a table. There are no books where it has none or others, or it is none of the
-/// table's.
-pub(crate) fn read_one<T: Listed>(alloc: Global, rows: &[Row]) -> Result<T, Unread>
-    ensures read { IfOk result (λ one. RowsRead T.Listed.is_row rows.now (one ∷ [])) }
-    ensures none { IfErr result (λ e. e ≡ Unread.NoBooks → ¬ IsSingle T.Listed.is_one rows.now) }
+/// What is kept of the one row of the table at the place. There are no books where it has none or others, or it is
+/// none of the table's.
+pub(crate) fn read_one<T: Listed>(
+    alloc: Global,
+    tables: &TableRows,
+    place: usize,
+) -> Result<T, Unread>
+    ensures read { IfOk result (λ one. RowsRead T.Listed.is_row (rows_in tables.now place) (one ∷ [])) }
+    ensures none { IfErr result (λ e. e ≡ Unread.NoBooks → ¬ IsSingle T.Listed.is_row (rows_in tables.now place)) }
 {
-    let Some(mut all) = read_rows::<T>(alloc, rows)? else {
+    let Some(mut all) = read_rows::<T>(alloc, tables.of(place))? else {
         return Err(Unread::NoBooks);
     };
     let Some(one) = all.pop() else {
@@ -47,14 +52,18 @@ pub(crate) fn read_one<T: Listed>(alloc: Global, rows: &[Row]) -> Result<T, Unre
     Ok(one)
 }
 
-/// What is kept of a table's rows in the order of their keys. There are no books where a row is none of the table's
-/// or two have one key.
-pub(crate) fn read_keyed<T: Listed + Keyed>(alloc: Global, rows: &[Row]) -> Result<Vec<T>, Unread>
-    ensures read { IfOk result (λ all. KeyedRead T.Listed.is_row T.Keyed.key rows.now all.items) }
+/// What is kept of the rows of the table at the place, in the order of their keys. There are no books where a row is
+/// none of the table's or two have one key.
+pub(crate) fn read_keyed<T: Listed + Keyed>(
+    alloc: Global,
+    tables: &TableRows,
+    place: usize,
+) -> Result<Vec<T>, Unread>
+    ensures read { IfOk result (λ all. KeyedRead T.Listed.is_row T.Keyed.key (rows_in tables.now place) all.items) }
     ensures none { IfErr result
-        (λ e. e ≡ Unread.NoBooks → ¬ AreKeyed T.Listed.is_row T.Listed.is_one T.Keyed.key rows.now) }
+        (λ e. e ≡ Unread.NoBooks → ¬ AreKeyed T.Listed.is_row T.Keyed.key (rows_in tables.now place)) }
 {
-    let Some(mut all) = read_rows::<T>(alloc, rows)? else {
+    let Some(mut all) = read_rows::<T>(alloc, tables.of(place))? else {
         return Err(Unread::NoBooks);
     };
     sort_rows(&mut all);
@@ -78,6 +87,22 @@ pub(crate) trait Shared: Sized + Drop {
 
     fn keep(self) -> Self::Kept
         ensures { result ≡ keep self };
+}
+
+impl<T: Drop> Shared for SharedRow<T> {
+    type Kept = T;
+
+    ghost place = { λ row. row.number };
+
+    ghost keep = { λ row. row.it };
+
+    fn place(&self) -> u32 {
+        self.number
+    }
+
+    fn keep(self) -> T {
+        self.it
+    }
 }
 
 /// Puts the rows in the order of their numbers.
@@ -115,17 +140,19 @@ fn keep_all<T: Shared>(alloc: Global, rows: Vec<T>) -> Result<Vec<T::Kept>, NoMe
     Ok(all)
 }
 
-/// What stands in the places of a table's rows. There are no books where a row is none of the table's or they aren't
-/// numbered 1, 2, ..
+/// What stands in the places of the rows of the table at the place. There are no books where a row is none of the
+/// table's or they aren't numbered 1, 2, ..
 pub(crate) fn read_shared<T: Listed + Shared>(
     alloc: Global,
-    rows: &[Row],
+    tables: &TableRows,
+    place: usize,
 ) -> Result<Vec<T::Kept>, Unread>
     ensures read { IfOk result
-        (λ all. PlacesRead T.Listed.is_row T.Shared.place T.Shared.keep rows.now all.items) }
+        (λ all. PlacesRead T.Listed.is_row T.Shared.place T.Shared.keep (rows_in tables.now place) all.items) }
     ensures none { IfErr result
-        (λ e. e ≡ Unread.NoBooks → ¬ AreInPlaces T.Listed.is_row T.Listed.is_one T.Shared.place rows.now) }
+        (λ e. e ≡ Unread.NoBooks → ¬ AreInPlaces T.Listed.is_row T.Shared.place (rows_in tables.now place)) }
 {
+    let rows = tables.of(place);
     if rows.len() > 4_294_967_295 {
         return Err(Unread::NoBooks);
     }

@@ -4,5 +4,5 @@ use Rattle.audit_checks.proofs.shop.open_copies.Given as goal
 
 abbrev pub invariant-loop-row : goal.invariant-loop-row
 invariant-loop-row l =
-    map (λ row. row.copy ∷ []) l.keys.items ++ open_keys (map (λ row. seen_rental row.rental) (drop l.row-index l.rentals))
-    ≡ open_keys (map (λ row. seen_rental row.rental) l.rentals)
+    map (λ row. row.copy ∷ []) l.keys.items ++ open_keys (map (λ row. seen_rental row.it) (drop l.row-index l.rentals))
+    ≡ open_keys (map (λ row. seen_rental row.it) l.rentals)

@@ -4,7 +4,7 @@ use Rattle.audit_checks.proofs.shop.rental_keys.Given as goal
 
 abbrev pub invariant-loop-row : goal.invariant-loop-row
 invariant-loop-row l = record {
-  keys : map (λ row. row.copy ∷ row.customer ∷ row.rented) l.keys.items ++ map (λ row. rental_key (seen_rental row.rental)) (drop l.row-index l.rentals)
-      ≡ map (λ row. rental_key (seen_rental row.rental)) l.rentals;
-  moments : AllByRecursion (λ row. IsMoment row.rental.rented) (drop l.row-index l.rentals) → AllByRecursion (λ row. IsMoment row.rental.rented) l.rentals;
+  keys : map (λ row. row.copy ∷ row.customer ∷ row.rented) l.keys.items ++ map (λ row. rental_key (seen_rental row.it)) (drop l.row-index l.rentals)
+      ≡ map (λ row. rental_key (seen_rental row.it)) l.rentals;
+  moments : AllByRecursion (λ row. IsMoment row.it.rented) (drop l.row-index l.rentals) → AllByRecursion (λ row. IsMoment row.it.rented) l.rentals;
 }

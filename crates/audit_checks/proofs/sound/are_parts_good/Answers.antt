@@ -9,7 +9,7 @@ loop-row-init c =
     record {
       branch = refl;
       good = refl;
-      rest = rests_begin c.args.books.now c.whole-rest.result c.requires.ordered c.requires.owned e.customers e.copies e.rentals e.terms e.payments e.lots e.kept e.headers;
+      rest = rests_begin c.args.books.now c.whole-rest.result c.requires.ordered c.requires.owned e.rows e.lots e.kept e.headers;
     }
 
 pub returns-then-not-branch : goal.returns-then-not-branch

@@ -1,6 +1,6 @@
 use Rattle.std.proofs.Common.{sym, subst, true≢false}
 use Rattle.std.specs.Str.{IsUtf8}
-use Rattle.shop_schema.proofs.OfficeValues.{features_utf8}
+use Rattle.shop_schema.proofs.CellTexts.{features_utf8}
 use Rattle.audit_tables.proofs.texts.are_features.Goals as goal
 
 pub returns-in-Err : goal.returns-in-Err

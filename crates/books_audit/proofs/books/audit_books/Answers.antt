@@ -1,4 +1,4 @@
-use Rattle.shop_schema.proofs.Common.{inside_as}
+use Rattle.shop_schema.proofs.Common.{state, inside_as}
 use Rattle.books_audit.proofs.ShopAudits.{audit_of_shop, audit_moved}
 use Rattle.books_audit.proofs.books.audit_books.Goals as goal
 
@@ -8,5 +8,6 @@ returns-in-Ok g c = record {
   says = λ clean has.
       let read = c.in_ok-tables.ensures.says clean has in
       let audit = c.in-Ok.audit in
-      (record { tables = λ tables have. audit_moved _ c.in_ok-tables.tables tables read.0 have audit c.in-Ok.ensures; books = audit_of_shop _ c.in_ok-tables.tables read.0 audit c.in-Ok.ensures }, read.1);
+      let trees = (state g.S.Store c.args.tx.now.conn.now).now.trees in
+      (record { tables = λ tables have. audit_moved trees c.in_ok-tables.tables tables read.0 have audit c.in-Ok.ensures; books = audit_of_shop trees c.in_ok-tables.tables read.0 audit c.in-Ok.ensures }, read.1);
 }

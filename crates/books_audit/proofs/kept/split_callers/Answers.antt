@@ -1,5 +1,5 @@
-use Rattle.shop_schema.proofs.Common.{rules, ◌≡◌, ◌≤◌, ◌++◌, [], ◌∷◌, sym, ◌∙◌, IsNumber, subst, AllByRecursion}
-use Rattle.books_audit.proofs.Splits.{zero_is, some_is, number_is, all_more, office_step, branch_step}
+use Rattle.shop_schema.proofs.Common.{rules, ◌≡◌, ◌≤◌, ◌++◌, [], ◌∷◌, sym, ◌∙◌, IsNumber, subst, AllByRecursion, all-append}
+use Rattle.books_audit.proofs.Splits.{zero_is, some_is, number_is, office_step, branch_step}
 use Rattle.audit_rows.specs.declared.rows.CheckedKept.{CheckedKept}
 use Rattle.books_audit.proofs.kept.split_callers.Goals as goal
 
@@ -22,5 +22,5 @@ loop-row-preserved c =
     record {
       same = branch_step c.args.rows.items c.next.new.self.rest.items c.loop-row.row-iterator.rest.items c.in-Some.row c.loop-row.office.items c.loop-row.kept.items c.push-in-Some-new.new.self.items c.in-Some-new.branch c.loop-row.invariant.same rest
           (some_is _ _ is) good;
-      branches = subst (AllByRecursion (λ (x : CheckedKept). IsNumber x.branch)) (sym good) (all_more _ c.loop-row.kept.items _ c.loop-row.invariant.branches (number_is _ _ is fits));
+      branches = subst (AllByRecursion (λ (x : CheckedKept). IsNumber x.branch)) (sym good) (all-append _ c.loop-row.kept.items _ c.loop-row.invariant.branches (number_is _ _ is fits, tt));
     }

@@ -1,6 +1,6 @@
 use Rattle.std.proofs.Common.{◌≡◌, ◌++◌, ◌==◌, take, drop}
 use Rattle.audit_rows.specs.Lists.{front_of, back_of}
-use Rattle.audit_checks.proofs.branches.split_branch.Given as goal
+use Rattle.audit_rows.proofs.groups.split_branch.Given as goal
 
 abbrev pub invariant-loop-i : goal.invariant-loop-i
 invariant-loop-i g l = record {

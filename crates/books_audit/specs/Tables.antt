@@ -1,12 +1,22 @@
--- What texts that read whole tables tell.
-use Rattle.std.specs.Prelude.{ℕ, List, [], ◌∷◌, length, map, IsPermutation}
-use Rattle.sqlite_value.specs.Order as sql
+-- The rows of tables, by the places of these, and what texts that read whole tables tell.
+use Rattle.std.specs.Prelude.{ℕ, List, [], ◌∷◌, length, map, IsPermutation, ◌+◌, get_or}
 use Rattle.sqlite_trees.specs.Tree.{Trees}
 use Rattle.sqlite.specs.Table.{Table}
 use Rattle.sql_rows.specs.Rows.{columns_of}
 use Rattle.sql_rows.proofs.Queries.{Selects, plain_query}
-use Rattle.shop_schema.specs.Tables.{shop_schema}
+use Rattle.shop_schema.specs.Shop.{shop_schema}
 use Rattle.sql_rows.specs.Terms.{cols}
+use Rattle.books_audit.specs.declared.tables.TableRows.{TableRows}
+use Rattle.sqlite_value.specs.Order as sql
+
+-- those of the table at the place; one that isn't there has none
+abbrev pub rows_in : TableRows → ℕ → List sql.Row
+rows_in tables place = get_or (map (λ rows. rows.items) tables.all.items) place []
+
+-- the tables from the place on have these rows, in any order
+abbrev pub HaveEach : TableRows → ℕ → List (List sql.Row) → Type 0
+HaveEach tables place [] = Unit {0}
+HaveEach tables place (rows ∷ more) = IsPermutation (rows_in tables place) rows × HaveEach tables (place + 1) more
 
 -- the text selects all columns of the table
 abbrev pub SelectsWhole : Table → List ℕ → Type 0
@@ -22,10 +32,3 @@ SelectEach [] [] = Unit {0}
 SelectEach [] (text ∷ texts) = ⊥
 SelectEach (t ∷ ts) [] = ⊥
 SelectEach (t ∷ ts) (text ∷ texts) = SelectsWhole t text × SelectEach ts texts
-
--- the rows of each table
-abbrev pub HaveEach : List Table → Trees → List (List sql.Row) → Type 0
-HaveEach [] trees [] = Unit {0}
-HaveEach [] trees (rows ∷ more) = ⊥
-HaveEach (t ∷ ts) trees [] = ⊥
-HaveEach (t ∷ ts) trees (rows ∷ more) = AreRowsOf t trees rows × HaveEach ts trees more

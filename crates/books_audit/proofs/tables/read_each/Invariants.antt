@@ -1,7 +1,7 @@
 use Rattle.shop_schema.proofs.Common.{◌≡◌, Ok, List, map, drop, ⊤, Table, DoesWithin, StoreFault, IsShop}
-use Rattle.books_audit.specs.Whole.{SelectEach}
+use Rattle.books_audit.specs.Tables.{SelectEach}
 use Rattle.books_audit.proofs.Told.{SoFar}
-use Rattle.books_audit.proofs.whole.read_each.Given as goal
+use Rattle.books_audit.proofs.tables.read_each.Given as goal
 
 abbrev pub invariant-loop-text : goal.invariant-loop-text
 invariant-loop-text g l =

@@ -1,8 +1,8 @@
 use Rattle.shop_schema.proofs.Common.{Bor, List, ℕ, [], sym, ap, subst, ◌∙◌, ◌+◌, map, drop, arith, drop_all, map_push, state, next_of, and_then, done, some_calls}
 use Rattle.sql_rows.proofs.Chaining.{one_call}
-use Rattle.books_audit.specs.Whole.{AreRowsOf}
+use Rattle.books_audit.specs.Tables.{AreRowsOf}
 use Rattle.books_audit.proofs.Told.{SoFar, next_table, one_more, all_read}
-use Rattle.books_audit.proofs.whole.read_each.Goals as goal
+use Rattle.books_audit.proofs.tables.read_each.Goals as goal
 
 pub loop-text-preserved : goal.loop-text-preserved
 loop-text-preserved g c = done (and_then (some_calls c.loop-text.invariant) (one_call c.in_ok-rows.ensures)) (λ said has ts h.

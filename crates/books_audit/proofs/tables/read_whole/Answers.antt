@@ -1,6 +1,6 @@
 use Rattle.shop_schema.proofs.Common.{IfOk-weaker}
 use Rattle.books_audit.proofs.Told.{told}
-use Rattle.books_audit.proofs.whole.read_whole.Goals as goal
+use Rattle.books_audit.proofs.tables.read_whole.Goals as goal
 
 pub returns : goal.returns
 returns g c = record {
