@@ -4,3 +4,4 @@ pub mod FilmLemmas
 pub mod Shows
 pub mod TermLemmas
 pub mod Stocks
+pub mod Singles

@@ -3,7 +3,7 @@ use Rattle.std.specs.Prelude.{◌≡◌, ℕ, Bool, not, is_some, map, filter, O
 use Rattle.std.specs.Str.{bytes_eq}
 use Rattle.shop_model.specs.Rows.{lacks, owned_by}
 use Rattle.shop_model.specs.Values.{Command}
-use Rattle.shop_model.specs.Verdict.{is_film_withdrawn}
+use Rattle.shop_model.specs.Acts.{is_film_withdrawn}
 use Rattle.shop_model.specs.Shop.{Catalogue}
 use Rattle.shop_model.specs.Books.{Books, head}
 use Rattle.shop_types.specs.declared.found.KeptFound.{KeptFound}

@@ -3,28 +3,30 @@
 ghost use Rattle.std.specs.Prelude.{◌≡◌, ◌≤◌, ℕ, map, IfOk};
 ghost use Rattle.std.specs.List.{All};
 ghost use Rattle.sql_rows.specs.Calls.{DoesWithin};
-ghost use Rattle.shop_model.specs.Values as model;
 ghost use Rattle.shop_model.specs.Books.{shop_of};
 ghost use Rattle.shop_types.specs.Seen.{seen_act, seen_command};
 ghost use Rattle.shop_ledger.specs.Calls.{Finds};
 ghost use Rattle.shop_ledger.specs.Standings.{HasStanding};
 ghost use Rattle.stock_csv.specs.Stock.{stock_of};
-ghost use Rattle.branch_core.specs.Agreed.{Agrees, RowAgrees, seen_stock};
+ghost use Rattle.branch_core.specs.Agreed.{Agrees, RowAgrees, seen_stock, NamedAgree};
 ghost use Rattle.branch_core.specs.Marked.{AreMarked};
 ghost use Rattle.branch_finds.specs.Finds.{Knows};
 ghost use Rattle.branch_finds.specs.Commands.{as_listed, found_row, told_row, IsKeptFor};
 ghost use Rattle.consign_finds.specs.Finds.{AgreesAt};
+ghost use Rattle.shop_model.specs.Values as model;
 
-use crate::finds::{find_copy, find_rental};
+use crate::finds::{find_city, find_copy, find_customer, find_rental};
 use crate::known::find_withdrawn;
-use branch_core::{Found, RowsFound, StockFound, StockRows};
+use branch_core::{Found, Named, RowsFound, StockFound, StockRows, named};
 use chain_caches::FilmCache;
 use consign_finds::{find_for_dispatch, find_for_receipt};
 use shop_ledger::{Count, CountKind, Standing, count_of};
-use shop_store::{active_at, has_city, has_lot, has_rental, staff_at};
+use shop_store::copies::has_lot;
+use shop_store::customers::active_at;
+use shop_store::rentals::has_rental;
+use shop_store::staff::staff_at;
 use shop_types::{
-    Act, BadCsv, BranchNo, Command, CopyNo, CustomerNo, KeptFound, LotName, Moment, RentalNo,
-    StockFile,
+    Act, BadCsv, BranchNo, Command, CopyNo, CustomerNo, KeptFound, LotName, Moment, StockFile,
 };
 use sql_rows::StoreFault;
 use sqlite::{Alter, Transaction};
@@ -72,34 +74,39 @@ fn find_rows<S: Alter>(
         (AgreesAt branch command.now.at (seen_act command.now.act) found))) }
 {
     match &command.act {
-        Act::Customer(it) => Ok(RowsFound {
-            has_city: has_city(tx, it.person.city)?,
-            ..RowsFound::none(alloc)
-        }),
-        Act::Active { customer, .. } => Ok(RowsFound {
-            customer: active_at(tx, branch, *customer)?,
-            ..RowsFound::none(alloc)
-        }),
         Act::Rent { customer, copy } => {
             find_for_rental(alloc, tx, films, branch, command.at, *customer, *copy)
         }
-        Act::TakeBack(rental) => Ok(RowsFound {
-            rental: find_rental(tx, branch, *rental)?,
-            ..RowsFound::none(alloc)
-        }),
-        Act::Pay {
-            customer,
-            rental,
-            ..
-        } => find_for_payment(alloc, tx, branch, *customer, *rental),
         Act::Import { lot, file } => find_for_import(alloc, tx, films, branch, lot, file),
         Act::Dispatch { to, copies } => find_for_dispatch(alloc, tx, branch, *to, copies),
         Act::Receive { from, number, .. } => find_for_receipt(alloc, tx, branch, *from, *number),
-        Act::Scrap(copy) => Ok(RowsFound {
-            copy: find_copy(tx, films, branch, *copy)?,
-            ..RowsFound::none(alloc)
-        }),
+        act => find_named(alloc, tx, films, branch, named(act)),
     }
+}
+
+/// What there is of the single rows that are named.
+fn find_named<S: Alter>(
+    alloc: Global,
+    tx: &mut Transaction<'_, S>,
+    films: &mut FilmCache,
+    branch: BranchNo,
+    named: Named,
+) -> Result<RowsFound, StoreFault>
+    ensures { DoesWithin S.Store tx.old.conn tx.new.conn result
+        (λ found. Finds (Knows films.old films.new
+        (λ books. NamedAgree books.catalogue (shop_of branch books) named found))) }
+{
+    let has_city = find_city(tx, named.city)?;
+    let customer = find_customer(tx, branch, named.customer)?;
+    let copy = find_copy(tx, films, branch, named.copy)?;
+    let rental = find_rental(tx, branch, named.rental)?;
+    Ok(RowsFound {
+        has_city,
+        customer,
+        copy,
+        rental,
+        ..RowsFound::none(alloc)
+    })
 }
 
 /// The customer and the copy of a new rental, and whether there is one of its moment, customer and copy.
@@ -116,39 +123,12 @@ fn find_for_rental<S: Alter>(
         (λ found. Finds (Knows films.old films.new (AgreesAt branch at (model.Rent customer copy) found))) }
 {
     let is_active = active_at(tx, branch, customer)?;
-    let found = find_copy(tx, films, branch, copy)?;
+    let found = find_copy(tx, films, branch, Some(copy))?;
     let has_same = has_rental(tx, branch, at, copy, customer)?;
     Ok(RowsFound {
         customer: is_active,
         copy: found,
         has_same,
-        ..RowsFound::none(alloc)
-    })
-}
-
-/// The customer of a payment, and its rental where one is named.
-fn find_for_payment<S: Alter>(
-    alloc: Global,
-    tx: &mut Transaction<'_, S>,
-    branch: BranchNo,
-    customer: CustomerNo,
-    rental: Option<RentalNo>,
-) -> Result<RowsFound, StoreFault>
-    ensures { DoesWithin S.Store tx.old.conn tx.new.conn result
-        (λ found old new. (at : _) (amount : ℕ)
-        → Finds (AgreesAt branch at (model.Pay customer rental amount) found) old new) }
-{
-    let is_active = active_at(tx, branch, customer)?;
-    let Some(number) = rental else {
-        return Ok(RowsFound {
-            customer: is_active,
-            ..RowsFound::none(alloc)
-        });
-    };
-    let found = find_rental(tx, branch, number)?;
-    Ok(RowsFound {
-        customer: is_active,
-        rental: found,
         ..RowsFound::none(alloc)
     })
 }

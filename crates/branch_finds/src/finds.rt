@@ -1,39 +1,74 @@
 //! What is found of customers, copies and rentals.
 
-ghost use Rattle.std.specs.Prelude.{◌≡◌, ℕ, is_some, map, option_map, option_to_list};
+ghost use Rattle.std.specs.Prelude.{◌≡◌, ℕ, is_some, map, option_map, option_to_list, not, IfSome};
 ghost use Rattle.sql_rows.specs.Calls.{DoesWithin};
-ghost use Rattle.shop_model.specs.Rows.{at};
+ghost use Rattle.shop_model.specs.Rows.{at, lacks};
 ghost use Rattle.shop_model.specs.Stock.{is_here, held_by};
 ghost use Rattle.shop_model.specs.Books.{head, shop_of};
 ghost use Rattle.shop_ledger.specs.Calls.{Finds};
 ghost use Rattle.branch_finds.specs.Finds.{Knows, copy_shown};
 ghost use Rattle.consign_finds.specs.Finds.{open_from};
-ghost use Rattle.branch_core.specs.Agreed.{copy_at, rental_at, seen_copy, seen_rental, seen_film_copy, AreOfFilm, HasTermsNow};
+ghost use Rattle.branch_core.specs.Agreed.{copy_at, rental_at, seen_copy, seen_rental, seen_film_copy, AreOfFilm, HasTermsNow, active_at};
 
 use crate::known::find_film;
 use branch_core::{CopyFound, FilmCopy, RentalFound};
 use chain_caches::FilmCache;
 use consign_finds::is_here;
 use shop_ledger::out_at;
-use shop_store::{CopyRow, copies_of_film, copy_now_at, rental_at};
-use shop_types::{BranchNo, CopyNo, CopyState, CustomerNo, FilmNo, Rental, RentalNo};
+use shop_store::copies::{CopyRow, copies_of_film, copy_now_at};
+use shop_store::customers::active_at;
+use shop_store::rentals::rental_at;
+use shop_store::rows::has_city;
+use shop_types::{BranchNo, CityNo, CopyNo, CopyState, CustomerNo, FilmNo, Rental, RentalNo};
 use sql_rows::StoreFault;
 use sqlite::{Alter, Transaction};
 use std::alloc::Global;
 
-/// Whether the copy is in the shop, its film withdrawn and a customer has it, and its film's terms as they are now,
-/// where the branch has one of the number. No sound table lacks the film.
+/// Whether there is the city that is named.
+pub fn find_city<S: Alter>(
+    tx: &mut Transaction<'_, S>,
+    city: Option<CityNo>,
+) -> Result<bool, StoreFault>
+    ensures { DoesWithin S.Store tx.old.conn tx.new.conn result
+        (λ has. Finds (λ books. IfSome city (λ n. has ≡ not (lacks books.catalogue.cities n)))) }
+{
+    match city {
+        Some(city) => has_city(tx, city),
+        None => Ok(false),
+    }
+}
+
+/// Whether the customer who is named may rent, where the branch has one of the number.
+pub fn find_customer<S: Alter>(
+    tx: &mut Transaction<'_, S>,
+    branch: BranchNo,
+    customer: Option<CustomerNo>,
+) -> Result<Option<bool>, StoreFault>
+    ensures { DoesWithin S.Store tx.old.conn tx.new.conn result
+        (λ active. Finds (λ books. IfSome customer (λ c. active ≡ active_at c (shop_of branch books)))) }
+{
+    match customer {
+        Some(customer) => active_at(tx, branch, customer),
+        None => Ok(None),
+    }
+}
+
+/// Whether the copy that is named is in the shop, its film withdrawn and a customer has it, and its film's terms as they
+/// are now, where the branch has one of the number. No sound table lacks the film.
 pub fn find_copy<S: Alter>(
     tx: &mut Transaction<'_, S>,
     films: &mut FilmCache,
     branch: BranchNo,
-    copy: CopyNo,
+    copy: Option<CopyNo>,
 ) -> Result<Option<CopyFound>, StoreFault>
     ensures { DoesWithin S.Store tx.old.conn tx.new.conn result
-        (λ found. Finds (Knows films.old films.new
-        (λ books. (option_map seen_copy found ≡ copy_at books.catalogue (shop_of branch books) copy)
-        × HasTermsNow books.catalogue (shop_of branch books) copy found))) }
+        (λ found. Finds (Knows films.old films.new (λ books. IfSome copy
+        (λ x. option_map seen_copy found ≡ copy_at books.catalogue (shop_of branch books) x)
+        × IfSome copy (λ x. HasTermsNow books.catalogue (shop_of branch books) x found)))) }
 {
+    let Some(copy) = copy else {
+        return Ok(None);
+    };
     let Some(row) = copy_now_at(tx, branch, copy)? else {
         return Ok(None);
     };
@@ -48,15 +83,19 @@ pub fn find_copy<S: Alter>(
     }))
 }
 
-/// The rental, where the branch has one of the number.
+/// The rental that is named, where the branch has one of the number.
 pub fn find_rental<S: Alter>(
     tx: &mut Transaction<'_, S>,
     branch: BranchNo,
-    rental: RentalNo,
+    rental: Option<RentalNo>,
 ) -> Result<Option<RentalFound>, StoreFault>
     ensures { DoesWithin S.Store tx.old.conn tx.new.conn result
-        (λ found. Finds (λ books. option_map seen_rental found ≡ rental_at (shop_of branch books) rental)) }
+        (λ found. Finds (λ books. IfSome rental
+        (λ r. option_map seen_rental found ≡ rental_at (shop_of branch books) r))) }
 {
+    let Some(rental) = rental else {
+        return Ok(None);
+    };
     match rental_at(tx, branch, rental)? {
         Some(row) => Ok(Some(rental_found(row.rental))),
         None => Ok(None),

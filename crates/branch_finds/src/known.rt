@@ -10,7 +10,7 @@ ghost use Rattle.shop_store.specs.SharedSeen.{seen_film_row, withdrawn_of};
 ghost use Rattle.branch_finds.specs.Finds.{Knows};
 
 use chain_caches::{FilmCache, KnownFilm};
-use shop_store::{FilmRow, film_row};
+use shop_store::films::{FilmRow, film_row};
 use shop_types::{FilmNo, Terms};
 use sql_rows::StoreFault;
 use sqlite::{Alter, Transaction};

@@ -1,5 +1,5 @@
 -- What a branch's reading shows.
-use Rattle.std.specs.Prelude.{◌≡◌, ⊤, ℕ, Bool, true, false, List, Result, Ok, Err, IfOk}
+use Rattle.std.specs.Prelude.{◌≡◌, ⊤, ℕ, Bool, true, false, List, map, Result, Ok, Err, IfOk}
 use Rattle.std.specs.Borrow.{MutBor}
 use Rattle.sqlite_trees.specs.declared.store.Store.{Ghosts}
 use Rattle.sqlite.specs.Held.{Held}
@@ -9,8 +9,8 @@ use Rattle.shop_model.specs.Values as model
 use Rattle.shop_model.specs.Values.{Ask}
 use Rattle.shop_model.specs.Shop.{Shop}
 use Rattle.shop_model.specs.Stock.{film_in_stock, film_not_in_stock}
-use Rattle.shop_model.specs.Views.{overdue_list}
-use Rattle.shop_model.specs.Machine.{Shown, Shows, OverdueAre, ArrivalsAre, SentAre, view_rows}
+use Rattle.shop_model.specs.Views.{overdue_text, overdue_list, view_rows}
+use Rattle.shop_model.specs.Machine.{Shown, Shows, RowsAre, ArrivalsAre, SentAre}
 use Rattle.shop_model.specs.Answers.{answer_of}
 use Rattle.shop_model.specs.Books.{Books, shop_of}
 use Rattle.shop_types.specs.declared.reply.Reply.{Reply}
@@ -41,8 +41,8 @@ DoesBy false g old new result Says = DoesWithin g old new result Says
 
 -- what a list for the branch shows of the books
 abbrev pub listed : ℕ → Listing → Books → Shown
-listed b (list.View view) books = view_rows b books.catalogue (shop_of b books) (seen_view view)
-listed b (list.Overdue at) books = OverdueAre (overdue_list books.catalogue (shop_of b books) at)
+listed b (list.View view) books = RowsAre (view_rows b books.catalogue (shop_of b books) (seen_view view))
+listed b (list.Overdue at) books = RowsAre (map overdue_text (overdue_list books.catalogue (shop_of b books) at))
 listed b list.Arrivals books = ArrivalsAre (shop_of b books).arrivals
 listed b list.Sent books = SentAre (shop_of b books).sent
 

@@ -14,7 +14,9 @@ ghost use Rattle.branch_reports.specs.Told.{IsDecision};
 
 use branch_core::{FilmCopy, film_in_stock, film_not_in_stock};
 use branch_finds::{find_holder, find_of_film};
-use shop_store::{copy_now_at, customer_at, film_row, film_withdrawn};
+use shop_store::copies::copy_now_at;
+use shop_store::customers::customer_at;
+use shop_store::films::{film_row, film_withdrawn};
 use shop_types::{BranchNo, CopyNo, CustomerNo, FilmNo, NoMemory, Refusal, Reply};
 use shop_views::{copies_text, customer_text, film_text, holder_text, in_stock_text};
 use sql_rows::StoreFault;

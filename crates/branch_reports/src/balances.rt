@@ -9,7 +9,8 @@ ghost use Rattle.shop_store.specs.Seen.{seen_termed};
 ghost use Rattle.balance_rule.specs.Balance.{AreTermsOf, ArePaidBy, paid_of, terms_of};
 
 use balance_rule::{Paid, RentalTerms};
-use shop_store::{TermedRental, payments_of_customer, termed_of_customer};
+use shop_store::payments::payments_of_customer;
+use shop_store::termed::{TermedRental, termed_of_customer};
 use shop_types::{BranchNo, CustomerNo, Payment};
 use sql_rows::StoreFault;
 use sqlite::{Alter, Transaction};

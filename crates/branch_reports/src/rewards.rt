@@ -14,7 +14,7 @@ ghost use Rattle.branch_reports.specs.Rewards.{AreSmall, AreSummed, one_paid, pa
 use crate::balances::paid_by;
 use balance_rule::{is_on, last_month};
 use shop_ledger::{Count, CountKind, count_of};
-use shop_store::{PaymentRow, payments_between};
+use shop_store::payments::{PaymentRow, payments_between};
 use shop_types::{Amount, BranchNo, CustomerNo, Moment};
 use sql_rows::StoreFault;
 use sqlite::{Alter, Transaction};

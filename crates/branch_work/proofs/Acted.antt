@@ -1,21 +1,29 @@
 -- What an accepted act makes of the books, with what was found of the rows that it names, and with the command kept.
-use Rattle.shop_schema.proofs.Common.{◌≡◌, ◌∙◌, refl, sym, ap, subst, ℕ, Bool, [], ◌∷◌, ◌++◌, map, filter, Some, Result, MutBor, is_some, Held, DoesWithin, does_such, Row, of, is_row, Text, Rules, Command, Act, Rental, reply_text, Books, book_acted, book_done, set_last, shop_of, map_at, row_at, found_some, IsHeld, Rentals}
+use Rattle.shop_schema.proofs.Common.{◌≡◌, ◌∙◌, refl, sym, ap, subst, ℕ, Bool, [], ◌∷◌, ◌++◌, map, filter, Ok, Some, Result, MutBor, Global, is_some, string_bytes, Held, state, within_as, Row, of, is_row, Text, Rules, Command, Act, Rental, reply_text, Books, book_acted, book_done, set_last, shop_of, map_at, row_at, found_some, IsHeld, Rentals}
+use Rattle.std.specs.Prelude.{String}
 use Rattle.sqlite.specs.Store.{Ghosts}
+use Rattle.sql_rows.proofs.Chaining.{Calls}
 use Rattle.shop_model.specs.Values as model
 use Rattle.branch_core.specs.declared.found.RentalFound.{RentalFound}
 use Rattle.branch_core.specs.declared.found.RowsFound.{RowsFound}
 use Rattle.branch_core.specs.Agreed.{seen_rental, rental_at}
 use Rattle.branch_work.specs.Added.{IsActed, with_kept}
-use Rattle.branch_work.specs.Acts.{Acts, ActsAlways, ActsBy}
+use Rattle.branch_work.specs.Acts.{CarriesOut}
 
-module _ {S X E : Type 0} {g : Ghosts S} {old new : MutBor (Held S)} {result : Result X E} {bytes : X → Text} (b : ℕ) (command : Command) {act was : Act} (Given : RowsFound → Type 0) {found : RowsFound} where
-  -- what is said of an act, of the act by another name
-  pub acts_named : DoesWithin g old new result (λ text. Acts b command act Given (bytes text)) → was ≡ act → Given found → DoesWithin g old new result (λ text. ActsBy b command was found (bytes text))
-  acts_named one is given = does_such one (λ text old new acted rules. subst (λ (it : Act). IsActed rules b command it found (bytes text) old new) (sym is) (acted rules found given))
+module _ {S E : Type 0} {g : Ghosts S} {old new : MutBor (Held S)} {b : ℕ} {command : Command} {act : Act} {found : RowsFound} {text : String Global} where
+  -- calls that were well, by which the act is carried out
+  pub carried_out : (calls : Calls g old new) → (calls.Said → (rules : Rules) → IsActed rules b command act found (string_bytes text) (state g old.now) (state g new.now))
+      → CarriesOut {E = E} g old new b command act found (Ok text)
+  carried_out calls more = record { inside = within_as calls.inside; says = λ clean. more (calls.said clean) }
 
-  -- the same of an act that is carried out whatever the command
-  pub acts_always : DoesWithin g old new result (λ text. ActsAlways b act Given (bytes text)) → was ≡ act → Given found → DoesWithin g old new result (λ text. ActsBy b command was found (bytes text))
-  acts_always one = acts_named (does_such one (λ text old new acted. acted command))
+  -- and what they say of it
+  abbrev pub out_calls : CarriesOut {E = E} g old new b command act found (Ok text) → Calls g old new
+  out_calls one = record { Said = (rules : Rules) → IsActed rules b command act found (string_bytes text) (state g old.now) (state g new.now); inside = within_as one.inside; said = one.says }
+
+-- what a call says of an act, of the act by another name
+pub by_name : {S E : Type 0} {g : Ghosts S} {old new : MutBor (Held S)} {b : ℕ} {command : Command} {act was : Act} {found : RowsFound} {r : Result (String Global) E} → was ≡ act
+    → CarriesOut g old new b command act found r → CarriesOut g old new b command was found r
+by_name {g = g} {old = old} {new = new} {b = b} {command = command} {found = found} {r = r} is one = subst (λ (it : Act). CarriesOut g old new b command it found r) (sym is) one
 
 -- the copy of a rental that was found
 pub copy_found : (b r : ℕ) (found : RentalFound) (books : Books) → IsHeld books → Some (seen_rental found) ≡ rental_at (shop_of b books) r

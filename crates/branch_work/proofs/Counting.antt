@@ -1,5 +1,5 @@
 -- With the counts of its new rows, the tables stand for the books that have the rows.
-use Rattle.shop_schema.proofs.Common.{[], ◌≡◌, ◌∙◌, refl, sym, subst, ℕ, ◌≤◌, ◌<◌, ◌^◌, List, ◌∷◌, ◌++◌, length, map, None, arith, State, Limits, Row, Owned, of, owned_by, next, put_all, Command, Text, Customer, Rental, Terms, Payment, Rules, Kept, Catalogue, films_in, Books, Customers, CopyRows, Rentals, Payments, edits_of, book_acted, imported, unmarked, length_map, grown, rows_edited, edits_small, catalogue_stays, seen_act, IsHeld, Counts, counts_of, count_in, raise, put_out, AreTermed, Holds, HoldsWith}
+use Rattle.shop_schema.proofs.Common.{[], ◌≡◌, ◌∙◌, refl, sym, subst, ℕ, ◌≤◌, ◌<◌, ◌^◌, List, ◌∷◌, ◌++◌, length, map, None, arith, State, Limits, Row, Owned, owned_by, next, put_all, Command, Text, Customer, Rental, Terms, Payment, Rules, Kept, Catalogue, films_in, Books, Customers, CopyRows, Rentals, Payments, edits_of, book_acted, imported, length_map, grown, rows_edited, edits_small, catalogue_stays, seen_act, IsHeld, Counts, counts_of, count_in, raise, put_out, AreTermed, Holds, HoldsWith}
 use Rattle.shop_model.specs.Rows.{put}
 use Rattle.shop_model.specs.Values as model
 use Rattle.shop_types.specs.declared.command.Act.{Act}
@@ -97,22 +97,21 @@ few_copies limits b command act rows books marked few_lines = omega arith
 counts_small : (rules : Rules) (b : ℕ) (command : Command) (act : model.Act) (books : Books) → IsHeld books → grown CopyRows (edits_of rules b command act books) ≤ 1_000_000
     → (kind : CountKind) (a : ℕ) → count_in (kind_number kind) a (book_acted rules b command act books) < 2 ^ 32
 counts_small rules b command act books held copies kind.Customers a =
-    let few = held.most_customers a in
+    let few = held.most_rows Customers a in
     let more = rows_edited a b (edits_of rules b command act books) books Customers in
     let one = (edits_small rules b command act books).customers in
     omega (arith, few, more, one)
 counts_small rules b command act books held copies kind.Copies a =
-    let few = held.most_copies a in
-    let many = length_map unmarked (of a books.copies) in
+    let few = held.most_rows CopyRows a in
     let more = rows_edited a b (edits_of rules b command act books) books CopyRows in
-    omega (arith, few, many, more, copies)
+    omega (arith, few, more, copies)
 counts_small rules b command act books held copies kind.Rentals a =
-    let few = held.most_rentals a in
+    let few = held.most_rows Rentals a in
     let more = rows_edited a b (edits_of rules b command act books) books Rentals in
     let one = (edits_small rules b command act books).rentals in
     omega (arith, few, more, one)
 counts_small rules b command act books held copies kind.Payments a =
-    let few = held.most_payments a in
+    let few = held.most_rows Payments a in
     let more = rows_edited a b (edits_of rules b command act books) books Payments in
     let one = (edits_small rules b command act books).payments in
     omega (arith, few, more, one)

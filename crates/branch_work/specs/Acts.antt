@@ -1,9 +1,12 @@
 -- What the calls that carry out an accepted command say of what they gave, and of the states before and after them.
-use Rattle.std.specs.Prelude.{ℕ, ◌≡◌, ◌+◌, List, ◌∷◌, [], map, filter}
-use Rattle.sqlite.specs.State.{State}
-use Rattle.shop_model.specs.Values as model
+use Rattle.std.specs.Prelude.{ℕ, ◌≡◌, ◌+◌, ◌∷◌, [], map, filter, string_bytes, String, Result, IfOk}
+use Rattle.std.specs.Borrow.{MutBor}
+use Rattle.std.specs.declared.alloc.Global.{Global}
+use Rattle.sqlite.specs.Store.{Ghosts}
+use Rattle.sqlite.specs.Held.{Held, state}
+use Rattle.sqlite.specs.State.{State, HasCleanDisk}
+use Rattle.sql_rows.specs.Calls.{StaysWithin}
 use Rattle.shop_model.specs.Values.{Text, Act, Command, Rules}
-use Rattle.shop_model.specs.Machine.{films_in}
 use Rattle.shop_model.specs.Books.{Books}
 use Rattle.shop_schema.specs.Counts.{counts_of, is_count, raise}
 use Rattle.shop_schema.specs.Shop.{Holds, Tallies}
@@ -22,19 +25,9 @@ Takes b of_kind number old new =
 abbrev pub Keeps : ℕ → Command → Text → State → State → Type 0
 Keeps b command reply old new = (books : Books) → Holds old books → CountsOnce b kind.Kept (counts_of books) → Holds new (with_kept b command reply books)
 
--- the act of the command is carried out, whatever the rules, by what was found of which this is given, and the text tells of it
-abbrev pub Acts : ℕ → Command → Act → (RowsFound → Type 0) → Text → State → State → Type 0
-Acts b command act Given text old new = (rules : Rules) (found : RowsFound) → Given found → IsActed rules b command act found text old new
-
--- the same, whatever the command
-abbrev pub ActsAlways : ℕ → Act → (RowsFound → Type 0) → Text → State → State → Type 0
-ActsAlways b act Given text old new = (command : Command) → Acts b command act Given text old new
-
--- the same of an import of any file that lists these films
-abbrev pub Imports : ℕ → Text → List ℕ → Text → State → State → Type 0
-Imports b lot films text old new =
-    (rules : Rules) (command : Command) (file : Text) (found : RowsFound) → films ≡ films_in (rules.stock_of file) → IsActed rules b command (model.Import lot file) found text old new
-
--- the same of an act by this that was found
-abbrev pub ActsBy : ℕ → Command → Act → RowsFound → Text → State → State → Type 0
-ActsBy b command act found text old new = (rules : Rules) → IsActed rules b command act found text old new
+-- What a call says that carries out an accepted command's act, by this that was found of the rows that it names: it stays in its transaction and commits nothing; and where
+-- it is well over a disk that did as it was told, the act is carried out, whatever the rules, and the text tells of it. What an arm of `carry_out` knows is a parameter, so what
+-- the arm calls says all that the arm has to.
+pub record CarriesOut {S E : Type 0} (g : Ghosts S) (old new : MutBor (Held S)) (b : ℕ) (command : Command) (act : Act) (found : RowsFound) (result : Result (String Global) E) : Type 0 where
+  pub inside : StaysWithin g old new result
+  pub says : HasCleanDisk (state g new.now) → IfOk result (λ text. (rules : Rules) → IsActed rules b command act found (string_bytes text) (state g old.now) (state g new.now))

@@ -5,7 +5,7 @@ use Rattle.shop_model.specs.Json.{object}
 use Rattle.shop_model.specs.Rows.{Row}
 use Rattle.shop_model.specs.Values as model
 use Rattle.shop_model.specs.Values.{Text, Act, Command, Rules}
-use Rattle.shop_model.specs.Machine.{told}
+use Rattle.shop_model.specs.Acts.{told}
 use Rattle.shop_model.specs.Books.{BookCopy, Books, book_acted, imported, set_last, shop_of}
 use Rattle.shop_schema.specs.Held.{IsHeld}
 use Rattle.shop_schema.specs.Shop.{Holds}

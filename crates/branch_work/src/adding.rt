@@ -1,28 +1,27 @@
 //! How an accepted command's act is carried out as it stands: its rows, their counts, and what is replied of them;
 //! and how the command is kept.
 
-ghost use Rattle.std.specs.Prelude.{◌≡◌, ⊤, true, string_bytes, IfOk};
+ghost use Rattle.std.specs.Prelude.{◌≡◌, true, IfOk};
 ghost use Rattle.sql_rows.specs.Calls.{DoesWithin};
-ghost use Rattle.shop_model.specs.Values as model;
 ghost use Rattle.shop_types.specs.Seen.{seen_act, seen_command, seen_customer, seen_new_customer};
 ghost use Rattle.shop_schema.specs.Forms.{command_form};
-ghost use Rattle.branch_work.specs.Acts.{Acts, ActsAlways, ActsBy, Keeps, Takes};
+ghost use Rattle.branch_work.specs.Acts.{Keeps, Takes, CarriesOut};
+ghost use Rattle.shop_model.specs.Values as model;
 
 use crate::consigning::{dispatch, receive};
 use crate::importing::import;
-use branch_core::{CopyFound, RentalFound, RowsFound, rows_in};
+use branch_core::RowsFound;
 use shop_ledger::{Count, CountKind, Owner, drop_out, put_kept, put_out, set_last, take_numbers};
-use shop_store::{
-    CustomerRow, PaymentRow, RentalRow, TermsRow, put_customer, put_payment, put_rental, put_terms,
-    set_active, set_returned, set_state,
-};
+use shop_store::copies::set_state;
+use shop_store::customers::{CustomerRow, put_customer, set_active};
+use shop_store::payments::{PaymentRow, put_payment};
+use shop_store::rentals::{RentalRow, put_rental, set_returned};
+use shop_store::terms::{TermsRow, put_terms};
 use shop_types::{
     Act, Amount, BranchNo, Command, CopyNo, CopyState, Customer, CustomerNo, Moment, NewCustomer,
     Payment, Rental, RentalNo, RowNumber,
 };
-use shop_views::{
-    active_text, new_customer_text, payment_text, rental_text, returned_text, scrapped_text,
-};
+use shop_views::{Field, number_text, object_text};
 use sql_rows::{Bytes, StoreFault};
 use sqlite::{Alter, Transaction};
 use std::alloc::{AllocError, Global};
@@ -35,34 +34,28 @@ pub fn carry_out<S: Alter>(
     command: &Command,
     found: &RowsFound,
 ) -> Result<String, StoreFault>
-    ensures { DoesWithin S.Store tx.old.conn tx.new.conn result
-        (λ text. ActsBy branch (seen_command command.now) (seen_act command.now.act) found.now (string_bytes text)) }
+    ensures { CarriesOut S.Store tx.old.conn tx.new.conn branch (seen_command command.now)
+        (seen_act command.now.act) found.now result }
 {
     match &command.act {
         Act::Customer(it) => add_customer(alloc, tx, branch, command, it),
         Act::Active { customer, active } => put_active(alloc, tx, branch, *customer, *active),
         Act::Rent { customer, copy } => {
-            add_rental(alloc, tx, branch, command, *customer, *copy, found.copy)
+            add_rental(alloc, tx, branch, command, *customer, *copy, found)
         }
-        Act::TakeBack(rental) => take_back(alloc, tx, branch, command, *rental, found.rental),
+        Act::TakeBack(rental) => take_back(alloc, tx, branch, command, *rental, found),
         Act::Pay {
             customer,
             rental,
             amount,
         } => add_payment(alloc, tx, branch, command, *customer, *rental, *amount),
-        Act::Import { lot, .. } => import(alloc, tx, branch, lot, rows_in(&found.stock)),
-        Act::Dispatch { to, copies } => {
-            let lines = &found.listed.lines;
-            dispatch(alloc, tx, branch, *to, copies.as_slice(), lines)
-        }
+        Act::Import { lot, .. } => import(alloc, tx, branch, lot, found),
+        Act::Dispatch { to, copies } => dispatch(alloc, tx, branch, *to, copies.as_slice(), found),
         Act::Receive {
             from,
             number,
             missing,
-        } => {
-            let missing = missing.as_slice();
-            receive(alloc, tx, branch, *from, *number, missing, &found.arrival)
-        }
+        } => receive(alloc, tx, branch, *from, *number, missing.as_slice(), found),
         Act::Scrap(copy) => scrap(alloc, tx, branch, *copy),
     }
 }
@@ -118,9 +111,8 @@ fn add_customer<S: Alter>(
     command: &Command,
     it: &NewCustomer,
 ) -> Result<String, StoreFault>
-    ensures { DoesWithin S.Store tx.old.conn tx.new.conn result
-        (λ text. Acts branch (seen_command command.now) (model.AddCustomer (seen_new_customer it.now)) (λ _. ⊤)
-        (string_bytes text)) }
+    ensures { (found : _) → CarriesOut S.Store tx.old.conn tx.new.conn branch (seen_command command.now)
+        (model.AddCustomer (seen_new_customer it.now)) found result }
 {
     let customer = new_customer(it, command.at)?;
     let number = next_number(tx, branch, CountKind::Customers)?;
@@ -130,7 +122,7 @@ fn add_customer<S: Alter>(
         customer,
     };
     put_customer(tx, &row)?;
-    Ok(new_customer_text(alloc, number)?)
+    Ok(number_text(alloc, "customer", number)?)
 }
 
 fn put_active<S: Alter>(
@@ -140,11 +132,15 @@ fn put_active<S: Alter>(
     customer: CustomerNo,
     active: bool,
 ) -> Result<String, StoreFault>
-    ensures { DoesWithin S.Store tx.old.conn tx.new.conn result
-        (λ text. ActsAlways branch (model.SetActive customer active) (λ _. ⊤) (string_bytes text)) }
+    ensures { (command : _) (found : _) → CarriesOut S.Store tx.old.conn tx.new.conn branch command
+        (model.SetActive customer active) found result }
 {
     set_active(tx, branch, customer, active)?;
-    Ok(active_text(alloc, customer, active)?)
+    let members = [
+        Field::Flag("active", active),
+        Field::Number("customer", customer.get() as u64),
+    ];
+    Ok(object_text(alloc, &members)?)
 }
 
 /// Adds an open rental, with the terms of its copy's film under the same number, and notes that the copy is out. The
@@ -156,13 +152,12 @@ fn add_rental<S: Alter>(
     command: &Command,
     customer: CustomerNo,
     copy: CopyNo,
-    found: Option<CopyFound>,
+    found: &RowsFound,
 ) -> Result<String, StoreFault>
-    ensures { DoesWithin S.Store tx.old.conn tx.new.conn result
-        (λ text. Acts branch (seen_command command.now) (model.Rent customer copy) (λ rows. rows.copy ≡ found)
-        (string_bytes text)) }
+    ensures { CarriesOut S.Store tx.old.conn tx.new.conn branch (seen_command command.now)
+        (model.Rent customer copy) found.now result }
 {
-    let Some(found) = found else {
+    let Some(found) = found.copy else {
         return Err(StoreFault::Failed);
     };
     let number = next_number(tx, branch, CountKind::Rentals)?;
@@ -186,7 +181,7 @@ fn add_rental<S: Alter>(
     };
     put_terms(tx, &terms)?;
     put_out(tx, branch, copy, number)?;
-    Ok(rental_text(alloc, number)?)
+    Ok(number_text(alloc, "rental", number)?)
 }
 
 /// Sets when the rental's copy came back, and notes that it isn't out. The rental was found.
@@ -196,18 +191,17 @@ fn take_back<S: Alter>(
     branch: BranchNo,
     command: &Command,
     rental: RentalNo,
-    found: Option<RentalFound>,
+    found: &RowsFound,
 ) -> Result<String, StoreFault>
-    ensures { DoesWithin S.Store tx.old.conn tx.new.conn result
-        (λ text. Acts branch (seen_command command.now) (model.TakeBack rental) (λ rows. rows.rental ≡ found)
-        (string_bytes text)) }
+    ensures { CarriesOut S.Store tx.old.conn tx.new.conn branch (seen_command command.now)
+        (model.TakeBack rental) found.now result }
 {
-    let Some(found) = found else {
+    let Some(found) = found.rental else {
         return Err(StoreFault::Failed);
     };
     set_returned(tx, branch, rental, command.at)?;
     drop_out(tx, branch, found.copy, rental)?;
-    Ok(returned_text(alloc, rental)?)
+    Ok(number_text(alloc, "returned", rental)?)
 }
 
 fn add_payment<S: Alter>(
@@ -219,9 +213,8 @@ fn add_payment<S: Alter>(
     rental: Option<RentalNo>,
     amount: Amount,
 ) -> Result<String, StoreFault>
-    ensures { DoesWithin S.Store tx.old.conn tx.new.conn result
-        (λ text. Acts branch (seen_command command.now) (model.Pay customer rental amount) (λ _. ⊤)
-        (string_bytes text)) }
+    ensures { (found : _) → CarriesOut S.Store tx.old.conn tx.new.conn branch (seen_command command.now)
+        (model.Pay customer rental amount) found result }
 {
     let number = next_number(tx, branch, CountKind::Payments)?;
     let payment = Payment {
@@ -237,7 +230,7 @@ fn add_payment<S: Alter>(
         payment,
     };
     put_payment(tx, &row)?;
-    Ok(payment_text(alloc, number)?)
+    Ok(number_text(alloc, "payment", number)?)
 }
 
 fn scrap<S: Alter>(
@@ -246,9 +239,9 @@ fn scrap<S: Alter>(
     branch: BranchNo,
     copy: CopyNo,
 ) -> Result<String, StoreFault>
-    ensures { DoesWithin S.Store tx.old.conn tx.new.conn result
-        (λ text. ActsAlways branch (model.Scrap copy) (λ _. ⊤) (string_bytes text)) }
+    ensures { (command : _) (found : _) → CarriesOut S.Store tx.old.conn tx.new.conn branch command
+        (model.Scrap copy) found result }
 {
     set_state(tx, branch, copy, CopyState::Scrapped)?;
-    Ok(scrapped_text(alloc, copy)?)
+    Ok(number_text(alloc, "scrapped", copy)?)
 }

@@ -1,24 +1,24 @@
 //! How copies go from branch to branch: a dispatch sends listed copies off as the lines of a consignment, and a
 //! receipt makes copies of the lines that came.
 
-ghost use Rattle.std.specs.Prelude.{◌≡◌, ⊤, ◌+◌, ◌≤◌, ◌++◌, length, map, string_bytes, IfOk};
+ghost use Rattle.std.specs.Prelude.{◌≡◌, ⊤, ◌+◌, ◌≤◌, ◌++◌, length, map, IfOk};
 ghost use Rattle.sql_rows.specs.Calls.{DoesWithin};
 ghost use Rattle.shop_model.specs.Rows.{AreNumbered, is_of, set_rows};
-ghost use Rattle.shop_model.specs.Values as model;
 ghost use Rattle.shop_model.specs.Books.{put_state};
 ghost use Rattle.shop_ledger.specs.Calls.{Stores};
 ghost use Rattle.shop_store.specs.Seen.{seen_copy_row};
 ghost use Rattle.branch_core.specs.Consigned.{come_copy, made_from};
-ghost use Rattle.branch_work.specs.Acts.{ActsAlways};
+ghost use Rattle.branch_work.specs.Acts.{CarriesOut};
+ghost use Rattle.shop_model.specs.Values as model;
 
 use crate::importing::first_of;
-use branch_core::{ArrivalFound, arrived_lines};
+use branch_core::{RowsFound, arrived_lines};
 use consign_store::{ConsignmentKey, last_place, mark_received, put_consignment, take_pair};
 use shop_ledger::{Count, CountKind, take_numbers};
 use shop_schema::DispatchPlace;
-use shop_store::{CopyRow, put_copy, set_state};
-use shop_types::{BranchNo, ConsignmentNo, CopyNo, CopyState, LineNo, ParcelLine, ParcelLines};
-use shop_views::{dispatch_text, receipt_text};
+use shop_store::copies::{CopyRow, put_copy, set_state};
+use shop_types::{BranchNo, ConsignmentNo, CopyNo, CopyState, LineNo, ParcelLine};
+use shop_views::{Field, counted_text, object_text};
 use sql_rows::StoreFault;
 use sqlite::{Alter, Transaction};
 use std::alloc::Global;
@@ -31,13 +31,12 @@ pub fn dispatch<S: Alter>(
     branch: BranchNo,
     to: BranchNo,
     copies: &[CopyNo],
-    lines: &Option<ParcelLines>,
+    found: &RowsFound,
 ) -> Result<String, StoreFault>
-    ensures { DoesWithin S.Store tx.old.conn tx.new.conn result
-        (λ text. ActsAlways branch (model.Dispatch to copies.now) (λ found. found.listed.lines ≡ lines.now)
-        (string_bytes text)) }
+    ensures { (command : _) → CarriesOut S.Store tx.old.conn tx.new.conn branch command
+        (model.Dispatch to copies.now) found.now result }
 {
-    let Some(lines) = lines else {
+    let Some(lines) = &found.listed.lines else {
         return Err(StoreFault::Failed);
     };
     let last = last_place(tx)?;
@@ -50,7 +49,11 @@ pub fn dispatch<S: Alter>(
     };
     put_consignment(tx, &key, place, lines)?;
     set_sent(tx, branch, copies)?;
-    Ok(dispatch_text(alloc, number, to)?)
+    let members = [
+        Field::Number("consignment", number.get() as u64),
+        Field::Number("to", to.get() as u64),
+    ];
+    Ok(object_text(alloc, &members)?)
 }
 
 /// The place behind that of the last consignment, which is 0 where there is none.
@@ -91,13 +94,12 @@ pub fn receive<S: Alter>(
     from: BranchNo,
     number: ConsignmentNo,
     missing: &[LineNo],
-    arrival: &Option<ArrivalFound>,
+    found: &RowsFound,
 ) -> Result<String, StoreFault>
-    ensures { DoesWithin S.Store tx.old.conn tx.new.conn result
-        (λ text. ActsAlways branch (model.Receive from number missing.now) (λ found. found.arrival ≡ arrival.now)
-        (string_bytes text)) }
+    ensures { (command : _) → CarriesOut S.Store tx.old.conn tx.new.conn branch command
+        (model.Receive from number missing.now) found.now result }
 {
-    let Some(arrival) = arrival else {
+    let Some(arrival) = &found.arrival else {
         return Err(StoreFault::Failed);
     };
     let lines = arrival.lines.as_slice();
@@ -115,7 +117,7 @@ pub fn receive<S: Alter>(
         number,
     };
     mark_received(tx, &key, lines.len() as u32, missing)?;
-    Ok(receipt_text(alloc, first.get(), count)?)
+    Ok(counted_text(alloc, "copies", first.get(), count)?)
 }
 
 /// Writes a copy for each line that came, in their order, with numbers from the first on.

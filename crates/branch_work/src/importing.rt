@@ -1,42 +1,47 @@
 //! How the copies of an import are written and counted.
 
-ghost use Rattle.std.specs.Prelude.{◌≡◌, ⊤, ◌+◌, ◌≤◌, ◌++◌, map, replicate, string_bytes, vec_len, IfOk, OnOk};
+ghost use Rattle.std.specs.Prelude.{◌≡◌, ⊤, ◌+◌, ◌≤◌, ◌++◌, map, replicate, vec_len, IfOk, OnOk};
 ghost use Rattle.sql_rows.specs.Calls.{DoesWithin};
 ghost use Rattle.shop_model.specs.Books.{imported};
 ghost use Rattle.shop_ledger.specs.Calls.{Stores};
 ghost use Rattle.shop_store.specs.Seen.{seen_copy_row};
 ghost use Rattle.branch_core.specs.StockLists.{copies_of, films_of};
 ghost use Rattle.branch_work.specs.Added.{copies_from};
-ghost use Rattle.branch_work.specs.Acts.{Imports};
+ghost use Rattle.branch_work.specs.Acts.{CarriesOut};
+ghost use Rattle.shop_model.specs.Values as model;
 
-use branch_core::{StockFound, copies_in};
+use branch_core::{RowsFound, StockFound, copies_in, rows_in};
 use shop_ledger::{Count, CountKind, take_numbers};
-use shop_store::{CopyRow, put_copy, put_lot};
+use shop_store::copies::{CopyRow, put_copy, put_lot};
 use shop_types::{BranchNo, CopyNo, CopyState, FilmNo, LotName, Mark};
-use shop_views::new_copies_text;
+use shop_views::{Field, object_text};
 use sql_rows::StoreFault;
 use sqlite::{Alter, Transaction};
 use std::alloc::{AllocError, Global};
 
-/// Adds the copies that the stock lists, and the lot, and gives the body of the reply.
+/// Adds the copies that the stock lists which was found, and the lot, and gives the body of the reply.
 pub fn import<S: Alter>(
     alloc: Global,
     tx: &mut Transaction<'_, S>,
     branch: BranchNo,
     lot: &LotName,
-    stock: &[StockFound],
+    found: &RowsFound,
 ) -> Result<String, StoreFault>
-    requires few { copies_of stock.now ≤ 1_000 }
-    ensures { DoesWithin S.Store tx.old.conn tx.new.conn result
-        (λ text. Imports branch lot.now (films_of stock.now) (string_bytes text)) }
+    ensures { (command : _) (file : _) → CarriesOut S.Store tx.old.conn tx.new.conn branch command
+        (model.Import lot.now file) found.now result }
 {
+    let stock = rows_in(&found.stock);
     let count = copies_in(stock);
     let last = take_numbers(tx, Count::Of(branch, CountKind::Copies), count)?;
     let first = first_of(last, count)?;
     let copies = new_copies(alloc, branch, first, stock)?;
     put_copies(tx, copies.as_slice())?;
     put_lot(tx, branch, lot)?;
-    Ok(new_copies_text(alloc, count, first)?)
+    let members = [
+        Field::Number("copies", count as u64),
+        Field::Number("first", first.get() as u64),
+    ];
+    Ok(object_text(alloc, &members)?)
 }
 
 /// The first of so many numbers that end with the last.

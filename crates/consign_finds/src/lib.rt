@@ -17,7 +17,8 @@ ghost use Rattle.consign_finds.specs.Finds.{AgreesAt, AreListed, copy_parcel, li
 use branch_core::{ArrivalFound, ListedFound, RowsFound, has_unknown_copy};
 use consign_store::{ConsignmentKey, LineRow, header_at, lines_of};
 use shop_ledger::{Count, CountKind, copies_out, count_of, out_at};
-use shop_store::{CopyRow, branch_manager, copies_in_state, copy_at};
+use shop_store::branches::branch_manager;
+use shop_store::copies::{CopyRow, copies_in_state, copy_at};
 use shop_types::{BranchNo, ConsignmentNo, CopyNo, CopyNos, CopyState, ParcelLine, ParcelLines};
 use sql_rows::StoreFault;
 use sqlite::{Alter, Transaction};

@@ -1,4 +1,4 @@
-use Rattle.shop_schema.proofs.Common.{◌≡◌, ◌∙◌, ◌≤◌, ◌++◌, ◌∷◌, [], ℕ, List, Option, Some, length, map, filter, ap, sym, subst, arith, IfSome, state, and_then, done, some_calls, arrived, next, Consignment, checked, is_consignment, length_map, ParcelLine, counts_of, raise, Holds, HoldsWith}
+use Rattle.shop_schema.proofs.Common.{◌≡◌, ◌∙◌, ◌≤◌, ◌++◌, ◌∷◌, [], ℕ, List, Option, Some, length, map, filter, ap, sym, subst, arith, IfSome, state, and_then, some_calls, arrived, next, Consignment, checked, is_consignment, length_map, ParcelLine, counts_of, raise, Holds, HoldsWith}
 use Rattle.sql_rows.proofs.Chaining.{one_call}
 use Rattle.shop_model.specs.Rows.{update_where}
 use Rattle.shop_ledger.specs.declared.counts.CountKind.TheVariants as kind
@@ -7,6 +7,7 @@ use Rattle.branch_core.specs.declared.found.ArrivalFound.{ArrivalFound}
 use Rattle.branch_core.specs.Marked.{IsArrival}
 use Rattle.branch_core.specs.Consigned.{receipt_text}
 use Rattle.branch_core.proofs.ConsignedBooks.{receipt_acted, receipt_told}
+use Rattle.branch_work.proofs.Acted.{carried_out}
 use Rattle.branch_work.proofs.ConsignLemmas.{come_rows, few_arrive, receipt_added, so_many}
 use Rattle.branch_work.proofs.consigning.receive.Goals as goal
 
@@ -23,11 +24,11 @@ few_read missing read come lines come_is is few =
     omega (arith, less, same, short)
 
 pub returns : goal.returns
-returns g c = done
+returns g c = λ command. carried_out
     (and_then (one_call c.in_ok-last.ensures.does)
     (and_then (some_calls c.in_ok-put_come.ensures)
     (some_calls c.in_ok-mark_received.ensures)))
-    (λ said command rules found same books holds held agrees marked.
+    (λ said rules books holds held agrees marked.
     let b = c.args.branch in
     let low : 1 ≤ b = omega arith in
     let source = c.args.from in
@@ -41,7 +42,7 @@ returns g c = done
     let counts = raise b 1 m (counts_of books) in
     let slice : c.as_slice-come.result.now ≡ come = c.as_slice-come.ensures.value ∙ c.in-Ok.ensures in
     let all : m ≡ length come = ap (λ (ls : List ParcelLine). length ls) slice in
-    let known : IsArrival b source n (Some it) books = subst (λ (o : Option ArrivalFound). IsArrival b source n o books) (same ∙ c.in-Some.is) marked in
+    let known : IsArrival b source n (Some it) books = subst (λ (o : Option ArrivalFound). IsArrival b source n o books) c.in-Some.is marked in
     let taken = said.0 (counts_of books) books (beside _ books holds) (held_once books held kind.Copies b low) in
     let last = told_more b 1 m books c.in_ok-last.last low taken.1 in
     let is : first ≡ next b books.copies = omega (arith, last, c.in_ok-first.ensures.first) in
@@ -52,8 +53,8 @@ returns g c = done
     let films : List ℕ = map (λ (line : ParcelLine). line.film) come in
     let films_many : length films ≡ length come = length_map (λ (line : ParcelLine). line.film) come in (
       subst (Holds s) (receipt_acted rules b source n missing books it known command) (receipt_added b books low s source n first m it.lines missing is all holds.stands.more.termed rows),
-      c.in_ok-receipt_text.ensures films (films_many ∙ sym all) ∙ ap (λ (k : ℕ). receipt_text k films) (c.get.ensures.value ∙ is) ∙ receipt_told rules b source n missing books it known held.numbers films films_many,
-      subst (λ (o : Option ArrivalFound). IfSome o (λ it. length it.lines ≤ 100)) (sym (same ∙ c.in-Some.is)) (few_lines c.as_slice-lines.result.now it.lines c.as_slice-lines.ensures.value c.as_slice-lines.ensures.few),
+      c.in_ok-counted_text.ensures films (films_many ∙ sym all) ∙ ap (λ (k : ℕ). receipt_text k films) (c.get.ensures.value ∙ is) ∙ receipt_told rules b source n missing books it known held.numbers films films_many,
+      subst (λ (o : Option ArrivalFound). IfSome o (λ it. length it.lines ≤ 100)) (sym c.in-Some.is) (few_lines c.as_slice-lines.result.now it.lines c.as_slice-lines.ensures.value c.as_slice-lines.ensures.few),
     ))
 
 pub overflow_cast-count : goal.overflow_cast-count

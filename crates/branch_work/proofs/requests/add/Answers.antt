@@ -1,12 +1,12 @@
 use Rattle.shop_schema.proofs.Common.{◌≡◌, ◌≤◌, ◌∙◌, refl, ap, subst, arith, string_bytes, state, and_then, done, some_calls, accepted_answer, seen_command, Holds}
 use Rattle.branch_work.specs.Rules.{rules_of}
-use Rattle.branch_work.proofs.Acted.{acted_done}
+use Rattle.branch_work.proofs.Acted.{acted_done, out_calls}
 use Rattle.branch_work.proofs.Counting.{acted_once}
 use Rattle.branch_work.proofs.Decisions.{accepted_told}
 use Rattle.branch_work.proofs.requests.add.Goals as goal
 
 pub returns-clause-does : goal.returns-clause-does
-returns-clause-does g c = done (and_then (some_calls c.in_ok-text.ensures) (some_calls c.in_ok-keep.ensures)) (λ said. (
+returns-clause-does g c = done (and_then (out_calls c.in_ok-text.ensures) (some_calls c.in_ok-keep.ensures)) (λ said. (
   refl,
   λ limits books holds held agrees marked.
       let b = c.args.branch in
