@@ -2,7 +2,8 @@
 use Rattle.std.specs.Prelude.{◌≡◌, ℕ, ◌+◌, [], ◌∷◌, ◌++◌, length}
 use Rattle.sqlite.specs.State.{State}
 use Rattle.shop_model.specs.Values.{Text, OfficeAct, OfficeCommand}
-use Rattle.shop_model.specs.Machine.{Done, office_acted, office_told, office_text, office_done}
+use Rattle.shop_model.specs.Machine.{Done, office_text, office_done}
+use Rattle.shop_model.specs.OfficeActs.{office_acted, office_told}
 use Rattle.shop_model.specs.Answers.{Answer, answer_of}
 use Rattle.shop_model.specs.Books.{Books}
 use Rattle.shop_schema.specs.Counts.{Counts, counts_of, kept_kind, raise}

@@ -14,11 +14,16 @@ ghost use Rattle.catalogue_rows.specs.Added.{IsNumbered, IsKept, IsAdded};
 
 use crate::rows::{new_actor, new_branch, new_city, new_film, new_staff};
 use shop_ledger::{Answered, Count, Owner, put_kept, take_numbers};
-use shop_store::{
-    SharedTable, last_number, put_actor, put_branch, put_cast, put_category, put_city, put_country,
-    put_counts, put_film, put_language, put_staff, set_gone, set_manager, set_rate, set_rule,
-    set_withdrawn,
+use shop_store::branches::set_manager;
+use shop_store::chain::set_rule;
+use shop_store::counts::put_counts;
+use shop_store::films::{set_rate, set_withdrawn};
+use shop_store::lasts::{SharedTable, last_number};
+use shop_store::puts::{
+    put_actor, put_branch, put_cast, put_category, put_city, put_country, put_film, put_language,
+    put_staff,
 };
+use shop_store::staff::set_gone;
 use shop_types::{Branch, OfficeAct, OfficeCommand, Reply, RowNumber};
 use shop_views::office_text;
 use sql_rows::{Bytes, StoreFault};

@@ -11,10 +11,14 @@ ghost use Rattle.catalogue_rows.specs.Found.{shared_of, IsKeptFor, FindsFor};
 
 use catalogue_core::{BranchFound, SharedRows};
 use shop_ledger::{Count, count_of};
-use shop_store::{
-    branch_manager, film_withdrawn, has_actor, has_cast, has_category, has_city, has_country,
-    has_language, has_token, is_category, is_country, is_language, office_token, rule_at, staff_at,
+use shop_store::branches::branch_manager;
+use shop_store::chain::{office_token, rule_at};
+use shop_store::films::film_withdrawn;
+use shop_store::rows::{
+    has_actor, has_cast, has_category, has_city, has_country, has_language, has_token, is_category,
+    is_country, is_language,
 };
+use shop_store::staff::staff_at;
 use shop_types::{
     ActorNo, Branch, BranchNo, Film, FilmNo, OfficeAct, OfficeCommand, Rule, Staff, StaffFound,
     StaffNo, Token,

@@ -4,7 +4,7 @@ ghost use Rattle.std.specs.Prelude.{◌≡◌};
 ghost use Rattle.shop_types.specs.Seen.{seen_city, seen_actor, seen_film, seen_branch, seen_staff};
 ghost use Rattle.shop_store.specs.New.{seen_city as seen_city_row, seen_actor as seen_actor_row, seen_film as seen_film_row, seen_branch as seen_branch_row, seen_staff as seen_staff_row};
 
-use shop_store::{NewActor, NewBranch, NewCity, NewFilm, NewStaff};
+use shop_store::puts::{NewActor, NewBranch, NewCity, NewFilm, NewStaff};
 use shop_types::{
     Actor, ActorNo, Branch, BranchNo, City, CityNo, Film, FilmNo, Minutes, Staff, StaffNo,
 };

@@ -1,12 +1,10 @@
--- The rows of consignments stay such as the program can hold, where one is sent off and where one is received; and what is replied of them is a text.
-use Rattle.shop_schema.proofs.Common.{◌≡◌, ◌≤◌, ◌<◌, ◌+◌, ◌*◌, ◌^◌, ◌==◌, ◌&&◌, ℕ, zero, suc, List, [], ◌∷◌, ◌++◌, map, filter, not, cond, length, Bool, true, false, inl, inr, refl, ap, subst, ◌∙◌, arith, codes, decimal, IsUtf8, IsAscii, length-append, nat_le, nat_lt, if◌then◌else◌, AllByRecursion, flat_map, list_all, and_parts, cases_Bool, leb-true, nat_tests, IsAscii-decimal, IsUtf8-from_ascii, IsAscii-append, IsAscii-nil, IsAscii-cons, All-append, All-map, All-push, All-weaker, all-filter, comma_if, items_text, numbers_text, object, Row, arrived, mem, numbered_from, of, is_row, next, put_all, set_row, set_rows, total, Act, Command, Rules, arrival, Shop, here, incoming, numbers_from, parcels_to, Books, BookCopy, Line, Consignment, as_parcel, between, book_acted, book_done, checked, checked_line, come, is_consignment, new_consignment, put_state, rows_at, shop_of, under_way, unmarked, unpacked, is_parcel, IsSound, one, length_map, put_all_own, put_own, same_test, IsHeld, IsNumber, IsRow, IsCopy, IsLine, IsConsignment, IsAct, IsCommand, AreValues, FitsTables, by_table, AreRowValues, CopyRows}
+-- The rows of consignments stay such as the program can hold, where one is sent off and where one is received.
+use Rattle.shop_schema.proofs.Common.{◌≡◌, ◌≤◌, ◌<◌, ◌+◌, ◌*◌, ◌^◌, ◌==◌, ◌&&◌, ℕ, zero, suc, List, [], ◌∷◌, ◌++◌, map, filter, not, cond, length, Bool, true, false, inl, inr, refl, ap, subst, ◌∙◌, arith, length-append, nat_le, nat_lt, if◌then◌else◌, AllByRecursion, flat_map, list_all, and_parts, cases_Bool, leb-true, nat_tests, All-append, All-map, All-push, All-weaker, all-filter, Row, arrived, mem, numbered_from, of, is_row, next, put_all, set_row, set_rows, total, Act, Command, Rules, here, Books, BookCopy, Line, Consignment, as_parcel, between, book_acted, book_done, checked, checked_line, come, is_consignment, new_consignment, put_state, rows_at, shop_of, under_way, unmarked, unpacked, is_parcel, IsSound, one, length_map, put_all_own, put_own, same_test, IsHeld, IsNumber, IsRow, IsCopy, IsLine, IsConsignment, IsAct, IsCommand, AreValues, FitsTables, by_table, AreRowValues, CopyRows}
 use Rattle.std.proofs.lemmas.List.Filters.{length-filter_both}
 use Rattle.sqlite_keyed.proofs.ListLemmas.{all-flat_map, filter-filter}
-use Rattle.shop_model.specs.Json.{escape_byte}
 use Rattle.shop_model.specs.Rows.{put, update_where}
-use Rattle.shop_model.specs.Machine.{told}
-use Rattle.shop_model.proofs.ShopLemmas.{acted_own}
-use Rattle.shop_schema.proofs.Values.{IfConsigns, ascii_bytes, number_fits, small, values_done}
+use Rattle.shop_schema.proofs.Acts.{IfConsigns, values_done}
+use Rattle.shop_schema.proofs.Values.{number_fits}
 use Rattle.chain_calls.specs.Chains.{widest_rules}
 use Rattle.shop_model.specs.Values as model
 
@@ -145,39 +143,6 @@ module _ (books : Books) (sound : IsSound widest_rules books) where
       λ b. let same = counted (λ (it : Consignment). it.source == b) books.consignments in let few = sent_few b in omega (arith, same, few) in
       subst (λ n. n ≤ 4_294_967_296 * 1_000_000) (below_all books.consignments all) (below_few books.consignments each 4_294_967_296)
 
--- ---- replies
-
-sent_reply : (n to : ℕ) → n < 2 ^ 64 → to < 2 ^ 64 → IsUtf8 (object ((codes "consignment", decimal n) ∷ (codes "to", decimal to) ∷ []))
-unfolding escape_byte
-sent_reply n to a b = IsUtf8-from_ascii _
-    (IsAscii-append (codes "{\"consignment\":") (decimal n ++ (codes ",\"to\":" ++ (decimal to ++ codes "}"))) (ascii_bytes (codes "{\"consignment\":") refl)
-    (IsAscii-append (decimal n) (codes ",\"to\":" ++ (decimal to ++ codes "}")) (IsAscii-decimal n a)
-    (IsAscii-append (codes ",\"to\":") (decimal to ++ codes "}") (ascii_bytes (codes ",\"to\":") refl)
-    (IsAscii-append (decimal to) (codes "}") (IsAscii-decimal to b) (ascii_bytes (codes "}") refl)))))
-
-abbrev AreSmall : List ℕ → Type 0
-AreSmall ns = AllByRecursion (λ n. n < 2 ^ 64) ns
-
-comma_ascii : (later : Bool) → IsAscii (comma_if later)
-comma_ascii true = ascii_bytes (44 ∷ []) refl
-comma_ascii false = IsAscii-nil
-
-items_ascii : (later : Bool) (ns : List ℕ) → AreSmall ns → IsAscii (items_text later (map decimal ns))
-items_ascii later [] all = ascii_bytes (93 ∷ []) refl
-items_ascii later (n ∷ ns) all =
-    IsAscii-append (comma_if later) (decimal n ++ items_text true (map decimal ns)) (comma_ascii later)
-    (IsAscii-append (decimal n) (items_text true (map decimal ns)) (IsAscii-decimal n all.0) (items_ascii true ns all.1))
-
-received_reply : (ns : List ℕ) → AreSmall ns → IsUtf8 (object ((codes "copies", numbers_text ns) ∷ []))
-unfolding escape_byte
-received_reply ns all = IsUtf8-from_ascii _
-    (IsAscii-append (codes "{\"copies\":") (numbers_text ns ++ codes "}") (ascii_bytes (codes "{\"copies\":") refl)
-    (IsAscii-append (numbers_text ns) (codes "}") (IsAscii-cons 91 (items_text false (map decimal ns)) (omega arith) (items_ascii false ns all)) (ascii_bytes (codes "}") refl)))
-
-new_numbers : {A : Type 0} (k : ℕ) (xs : List A) → k + length xs ≤ 2_000_000 → AreSmall (numbers_from k xs)
-new_numbers k [] few = tt
-new_numbers k (x ∷ xs) few = (omega (arith, few), new_numbers (k + 1) xs (omega (arith, few)))
-
 -- ---- a dispatch and a receipt
 
 module _ (rules : Rules) (b : ℕ) (command : Command) (books : Books) (branch : IsNumber b) (held : IsHeld books) (sound : IsSound widest_rules books) where
@@ -204,13 +169,6 @@ module _ (rules : Rules) (b : ℕ) (command : Command) (books : Books) (branch :
         lasts = v.lasts;
       }
 
-  dispatch_reply : (to : ℕ) (xs : List ℕ) → IsNumber to → IsUtf8 (object (told rules (model.Dispatch to xs) (shop_of b books)))
-  dispatch_reply to xs addressee =
-      let few = filter_few (λ (it : model.Parcel). it.addressee == to) (shop_of b books).sent in
-      let fit = (sound.shops b).sent_fit in
-      let keys = (sound.shops b).keys in
-      sent_reply (length (parcels_to to (shop_of b books)) + 1) to (omega (arith, few, fit, keys)) (small to addressee)
-
   module _ (source number : ℕ) (missing : List ℕ) (few : length (shop_of b (book_acted rules b command (model.Receive source number missing) books)).copies ≤ 1_000_000) where
     abbrev lines : List Line
     lines = come source b number missing books.consignments
@@ -235,18 +193,6 @@ module _ (rules : Rules) (b : ℕ) (command : Command) (books : Books) (branch :
           lasts = v.lasts;
         }
 
-    receipt_reply : IsUtf8 (object (told rules (model.Receive source number missing) (shop_of b books)))
-    receipt_reply =
-        let shop : Shop = shop_of b books in
-        let films : List ℕ = incoming missing (arrival source number shop) in
-        let own = ap (λ (s : Shop). length s.copies) (acted_own rules b command (model.Receive source number missing) books sound.numbers (λ xs e. apart xs e)) in
-        let parts = length-append shop.copies (map here films) in
-        let came = length_map here films in
-        received_reply (numbers_from (length shop.copies + 1) films) (new_numbers (length shop.copies + 1) films (omega (arith, few, own, parts, came)))
-      where
-        apart : (xs : List ℕ) → ◌≡◌ {A = Act} (model.Receive source number missing) (model.Dispatch b xs) → ⊥
-        apart xs e = cc
-
 -- what an accepted command makes of books that are sound
 module _ (rules : Rules) (b : ℕ) (command : Command) (books : Books) (branch : IsNumber b) (is : IsCommand command) (held : IsHeld books) (sound : IsSound widest_rules books)
     (after : IsSound widest_rules (book_done rules b command books)) (fits : FitsTables rules command.act) where
@@ -262,10 +208,5 @@ module _ (rules : Rules) (b : ℕ) (command : Command) (books : Books) (branch :
   rows (model.Receive source number missing) same = receipt_values rules b command books branch held sound source number missing (few_come source number missing same)
   rows act same = tt
 
-  replies : (act : Act) → command.act ≡ act → IfConsigns act (IsUtf8 (object (told rules act (shop_of b books))))
-  replies (model.Dispatch to xs) same = let act : IsAct (model.Dispatch to xs) = subst IsAct same is.act in dispatch_reply rules b command books branch held sound to xs act.0
-  replies (model.Receive source number missing) same = receipt_reply rules b command books branch held sound source number missing (few_come source number missing same)
-  replies act same = tt
-
   pub accepted_values : AreValues (book_done rules b command books)
-  accepted_values = values_done rules b command books branch is held fits (rows command.act refl) (replies command.act refl)
+  accepted_values = values_done rules b command books branch is held fits (rows command.act refl)

@@ -36,8 +36,7 @@ stands_in_any trees books some = record {
   outs = in_any _ _ (λ s. s.outs) some;
   pairs = in_any _ _ (λ s. s.pairs) some;
   more = record {
-    terms_are = in_any _ _ (λ s. s.more.terms_are) some;
-    rule_is = in_any _ _ (λ s. s.more.rule_is) some;
+    rows = (in_any _ _ (λ s. s.more.rows.0) some, (in_any _ _ (λ s. s.more.rows.1.0) some, tt));
     termed = decided (one_bag same_key _ _) (∥∥₁_map some (λ s. s.more.termed));
   };
 }

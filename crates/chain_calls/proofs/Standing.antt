@@ -1,7 +1,7 @@
 -- What is known of a chain's books stays so by a request.
 use Rattle.shop_schema.proofs.Common.{◌≤◌, ℕ, inl, inr, refl, cases_Bool, Limits, lacks, Command, OfficeCommand, Verdict, Again, Refused, Accepted, verdict, office_verdict, Request, Unread, Do, Look, Office, OfficeLook, if_accepted, office_done, Books, Caller, Counter, HeadOffice, Nobody, shop_of, book_done, branch_after, office_after, known_caller, IsSound, after_sound, IsHeld, IsNumber, IsCommand, IsKey, IsOfficeAct, AreValues}
 use Rattle.shop_schema.proofs.Values.{held_by_sound, acts_fit}
-use Rattle.shop_schema.proofs.OfficeValues.{office_values_done}
+use Rattle.shop_schema.proofs.OfficeActs.{office_values_done}
 use Rattle.stock_csv.proofs.ReadingLemmas.{stock_fits}
 use Rattle.branch_work.specs.Rules.{rules_of}
 use Rattle.chain_calls.specs.Chains.{widest_rules}

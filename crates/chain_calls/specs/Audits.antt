@@ -7,8 +7,7 @@ use Rattle.shop_model.specs.Books.{Books}
 use Rattle.shop_model.specs.Office.{office_look}
 use Rattle.shop_types.specs.declared.audit.Audit.{Audit}
 use Rattle.shop_types.specs.Seen.{seen_audit}
-use Rattle.shop_schema.specs.Tables.{shop_schema}
-use Rattle.shop_schema.specs.Shop.{IsShop}
+use Rattle.shop_schema.specs.Shop.{IsShop, shop_schema}
 use Rattle.books_audit.specs.Shops.{AuditsTables}
 use Rattle.chain_calls.specs.Chains.{StandsSoundly}
 

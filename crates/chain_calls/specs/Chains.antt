@@ -19,7 +19,7 @@ use Rattle.chain_caches.specs.Films.{AreRows}
 use Rattle.chain_caches.specs.Callers.{AreCallers}
 use Rattle.shop_types.specs.declared.request.Request.{Request as Asked}
 use Rattle.shop_types.specs.Seen.{seen_request}
-use Rattle.shop_schema.specs.RowValues.{AreValues}
+use Rattle.shop_schema.specs.Held.{AreValues}
 use Rattle.shop_schema.specs.Shop.{StandsFor, Holds}
 use Rattle.stock_csv.specs.Stock.{stock_of}
 use Rattle.branch_work.specs.Rules.{rules_of}

@@ -14,9 +14,8 @@ use Rattle.sql_rows.specs.Files.{IsHeldIn, HoldsOne}
 use Rattle.shop_model.specs.Books.{Books}
 use Rattle.shop_model.specs.Migration.{IsSoundWithoutTerms, migrated}
 use Rattle.shop_model.specs.Sound.{IsSound}
-use Rattle.shop_schema.specs.RowValues.{AreValues}
-use Rattle.shop_schema.specs.Shop.{StandsFor, StandsForVersion1, HasVersion}
-use Rattle.shop_schema.specs.Tables.{shop_schema, version_1_schema}
+use Rattle.shop_schema.specs.Held.{AreValues}
+use Rattle.shop_schema.specs.Shop.{StandsFor, StandsForVersion1, HasVersion, shop_schema, version_1_schema}
 use Rattle.shop_schema.specs.Versions.{version_of}
 use Rattle.shop_schema.specs.declared.known.KnownVersion.{KnownVersion}
 use Rattle.shop_schema.specs.declared.known.KnownVersion.TheVariants.{This, Missing, First, Other}

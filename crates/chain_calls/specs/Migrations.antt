@@ -5,9 +5,9 @@ use Rattle.sqlite.specs.State.{State}
 use Rattle.shop_model.specs.Values.{Text}
 use Rattle.shop_model.specs.Books.{Books}
 use Rattle.shop_model.specs.Migration.{IsSoundWithoutTerms, migrated, without_terms}
-use Rattle.shop_schema.specs.Columns.{first_version}
 use Rattle.shop_migration.specs.Migrating.{Tells}
-use Rattle.shop_schema.specs.RowValues.{AreValues}
+use Rattle.shop_schema.specs.RowValues.{first_version}
+use Rattle.shop_schema.specs.Held.{AreValues}
 use Rattle.shop_schema.specs.Shop.{StandsFor, StandsForVersion1, IsShop, IsKeyed, IsFirstShop, IsFirstKeyed}
 use Rattle.chain_calls.specs.Chains.{Rests, StandsSoundly, widest_rules}
 

@@ -1,10 +1,10 @@
 -- What is read outside any transaction, and the reply that shows it.
-use Rattle.std.specs.Prelude.{◌≡◌, ℕ, flat_map}
+use Rattle.std.specs.Prelude.{◌≡◌, ℕ, map, flat_map}
 use Rattle.sqlite.specs.State.{State}
 use Rattle.shop_model.specs.Rows.{numbered}
 use Rattle.shop_model.specs.Values.{Branch}
-use Rattle.shop_model.specs.Views.{sales_by_store}
-use Rattle.shop_model.specs.Machine.{Shown, Shows, StoresListed, TransitIs}
+use Rattle.shop_model.specs.Views.{listed_store, sales_by_store}
+use Rattle.shop_model.specs.Machine.{Shown, Shows, RowsAre, TransitIs}
 use Rattle.shop_model.specs.Answers.{Answer, answer_of}
 use Rattle.shop_model.specs.Books.{Books, shop_of}
 use Rattle.shop_schema.specs.Held.{IsHeld}
@@ -16,7 +16,7 @@ use Rattle.chain_calls.specs.Chains.{Rests}
 
 abbrev pub shown_by : Report → Books → Shown
 shown_by (OfBranch b list) books = listed b list books
-shown_by Sales books = StoresListed (flat_map (λ (it : ℕ × Branch). sales_by_store it.0 books.catalogue (shop_of it.0 books)) (numbered books.catalogue.branches))
+shown_by Sales books = RowsAre (map listed_store (flat_map (λ (it : ℕ × Branch). sales_by_store it.0 books.catalogue (shop_of it.0 books)) (numbered books.catalogue.branches)))
 shown_by Transit books = TransitIs (under_way books)
 
 -- the answer shows it, of the books that the chain has

@@ -12,7 +12,8 @@ use Rattle.shop_types.specs.Seen.{seen_request, seen_office}
 use Rattle.chain_caches.specs.Films.{AreRows, KnownFilms}
 use Rattle.sql_rows.specs.Books.{no_schema}
 use Rattle.shop_schema.specs.Held.{IsHeld}
-use Rattle.shop_schema.specs.RowValues.{IsNumber, IsCommand, IsKey, IsOfficeAct}
+use Rattle.shop_schema.specs.RowValues.{IsNumber, IsKey}
+use Rattle.shop_schema.specs.Forms.{IsCommand, IsOfficeAct}
 use Rattle.shop_schema.specs.Shop.{StandsFor, Holds, first_books}
 pub use Rattle.branch_work.specs.Works.{told_to, left_by, IsDone, HasCome, IsHeldWith, IsKnown, IsTold, IsDecision, TellsDecision}
 use Rattle.branch_looks.specs.declared.work.Work.{Work}

@@ -9,7 +9,8 @@ ghost use Rattle.shop_types.specs.Seen.{seen_caller};
 ghost use Rattle.shop_ledger.specs.Calls.{Finds};
 ghost use Rattle.chain_calls.specs.Steps.{IsUndone, HasCaller};
 
-use shop_store::{branch_with, is_office};
+use shop_store::branches::branch_with;
+use shop_store::chain::is_office;
 use shop_types::{Caller, Token};
 use sql_rows::StoreFault;
 use sqlite::{Alter, Connection, Transaction};

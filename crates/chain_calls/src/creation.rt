@@ -5,14 +5,14 @@ ghost use Rattle.sqlite.specs.Held.{state};
 ghost use Rattle.sqlite.specs.Steps.{over_memory};
 ghost use Rattle.sqlite.specs.State.{HasCleanDisk, Survives};
 ghost use Rattle.sql_rows.specs.Books.{no_schema};
-ghost use Rattle.shop_schema.specs.RowValues.{AreValues};
+ghost use Rattle.shop_schema.specs.Held.{AreValues};
 ghost use Rattle.shop_schema.specs.Shop.{Holds};
 ghost use Rattle.chain_calls.specs.Chains.{Rests};
 ghost use Rattle.chain_calls.specs.Steps.{LeavesMade, books_with};
 
 use crate::faults::{OpenFault, named};
 use shop_schema::create_tables;
-use shop_store::{put_opening, put_token};
+use shop_store::opening::{put_opening, put_token};
 use shop_types::Token;
 use sql_rows::{StoreFault, fault_of};
 use sqlite::{Alter, Connection, MemStore, Transaction};

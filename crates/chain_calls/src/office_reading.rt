@@ -15,7 +15,8 @@ ghost use Rattle.chain_calls.specs.OfficeReads.{custody_told, TellsAudit, TellsC
 use crate::auditing::read_audit;
 use crate::reports::{Report, show};
 use consign_store::place_of;
-use shop_store::{branch_manager, copy_at};
+use shop_store::branches::branch_manager;
+use shop_store::copies::copy_at;
 use shop_types::{Mark, OfficeAsk, Refusal, Reply};
 use shop_views::{audit_text, custody_text};
 use sql_rows::StoreFault;
