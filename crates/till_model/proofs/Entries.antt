@@ -1,6 +1,6 @@
 -- Entries by place and by key, and those that acted.
 use Rattle.shop_model.proofs.Common.{◌≡◌, inl, inr, ◌∙◌, ℕ, zero, suc, ◌<◌, List, [], ◌∷◌, ◌++◌, filter, Bool, true, false, not, Some, refl, sym, subst, ap, arith, slice_get, list_any, bytes_eq, cases_Bool, and_parts, or_parts, not-true, false≢true, bytes_eq-Decides, Text, Command, Kept}
-use Rattle.shop_model.proofs.Resent.{bytes_same}
+use Rattle.shop_model.proofs.ActLaws.{bytes_same}
 use Rattle.shop_model.proofs.Resends.{same_some, same_none}
 use Rattle.till_model.specs.Tills.{Entry, are_marked, have_own_keys}
 use Rattle.till_model.proofs.KeptRows.{has, has_more, other_mark, or_false}

@@ -1,7 +1,7 @@
 -- What acted of a till's entries did so in the order of entering, as far as the branch has come.
 use Rattle.shop_model.proofs.Common.{◌≡◌, inl, inr, ◌∙◌, ℕ, suc, ◌<◌, List, [], ◌∷◌, ◌++◌, map, filter, Bool, true, false, Some, None, Option, refl, sym, subst, ap, arith, slice_get, bytes_eq, cases_Bool, false≢true, nat_tests, Moment, is_earlier, is_by, Text, Command, Rules, Kept, is_within, Verdict, Again, Refused, Accepted, first, refusals, is_before, verdict, Do, Unread, Look, Office, OfficeLook, Input, FromOffice, Arrive, Own, State, reply_text, reply_to, if_accepted, done, moved, state_after}
 use Rattle.shop_model.proofs.RowLemmas.{more_yes, more_no}
-use Rattle.shop_model.proofs.Isolation.{accepted_holds, none_kept}
+use Rattle.shop_model.proofs.Accepted.{accepted_holds, none_kept}
 use Rattle.till_model.specs.Tills.{Entry, Served, served_by, served_in, are_marked, have_own_keys, ComeFrom, ComeInOrder}
 use Rattle.till_model.proofs.KeptRows.{has, has_more, none_has, other_mark, one_of, or_false}
 use Rattle.till_model.proofs.Entries.{NoneAbove, acted, acted_other, acted_own, marked_at, same_entry}

@@ -1,7 +1,7 @@
 -- What became of a till's entries.
 use Rattle.shop_model.proofs.Common.{◌≡◌, inl, inr, ◌∙◌, ℕ, List, [], ◌∷◌, map, filter, Bool, true, false, Some, refl, sym, subst, ap, slice_get, bytes_eq, cases_Bool, false≢true, bytes_eq-Decides, Text, Command, Rules, Refusal, MomentBack, Kept, Shop, same_command, Verdict, Again, Refused, Accepted, first, resent, refusals, is_before, verdict, Do, Sorry, Done, Input, Own, State, reply_text, reply_by, if_accepted, done, moved, state_after, Answer, answer_of}
 use Rattle.shop_model.proofs.RowLemmas.{filter_away}
-use Rattle.shop_model.proofs.Resent.{command_same}
+use Rattle.shop_model.proofs.ActLaws.{command_same}
 use Rattle.till_model.specs.Tills.{Entry, Served, served_in, are_marked, have_own_keys, ComeFrom, ComeInOrder, IsBookOf}
 use Rattle.till_model.specs.Outcomes.{IsKeptAs, NoneBehind}
 use Rattle.till_model.specs.Laws.{ActsOnceInOrder}

@@ -1,9 +1,9 @@
 -- A command that was told 200 is kept with that reply, and its row is the only one.
 use Rattle.shop_model.proofs.Common.{◌≡◌, inl, inr, ◌∙◌, ℕ, List, [], ◌∷◌, ◌++◌, map, filter, Bool, true, Some, Option, refl, sym, ap, arith, slice_get, bytes_eq, cases_Bool, bytes_eq-Decides, Moment, Text, Command, Rules, Refusal, TooLong, NoCounter, NoRoute, BadBody, KeyUsed, Full, MomentBack, NoStaff, NoCustomer, CustomerInactive, NoCopy, CopyNotHere, CopyOut, FilmWithdrawn, SameMoment, NoRental, RentalReturned, WrongCustomer, NoFilm, LotIn, BadCsv, NoBranch, OwnBranch, NoArrival, ArrivalReceived, BadLines, BadThreshold, TokenTaken, NoSharedRow, Already, Usage, Kept, same_command, Verdict, Again, Refused, Accepted, first, resent, refusals, verdict, Sorry, Done, State, reply_text, reply_by, if_accepted, done, answer_of, filter-append}
 use Rattle.shop_model.proofs.RowLemmas.{filter_map, filter_away}
-use Rattle.shop_model.proofs.Resent.{bytes_same}
+use Rattle.shop_model.proofs.ActLaws.{bytes_same}
 use Rattle.shop_model.proofs.Resends.{never_again}
-use Rattle.shop_model.proofs.Isolation.{none_kept}
+use Rattle.shop_model.proofs.Accepted.{none_kept}
 use Rattle.till_model.specs.Tills.{Entry, are_marked, have_own_keys}
 use Rattle.till_model.proofs.KeptRows.{Grows, has, some_has, under}
 use Rattle.till_model.proofs.Entries.{acted, acted_one, marked_at}

@@ -1,7 +1,7 @@
 -- The row that an accepted rent adds is of its copy, and stays so.
 use Rattle.shop_types.proofs.Common.{◌≡◌, ◌∙◌, ◌+◌, ◌-◌, ℕ, Bool, true, false, List, [], ◌∷◌, ◌++◌, length, refl, sym, ap, subst, arith, list_any, Act, AddCustomer, SetActive, Rent, TakeBack, Pay, Import, Dispatch, Receive, Scrap, Rental, Rules, Command, at, Catalogue, Shop, Verdict, Again, Refused, Accepted, verdict, Unread, Do, Look, Office, OfficeLook, Input, FromOffice, Arrive, Own, State, acted, done, if_accepted, moved, state_after, object, any_at_more, any_at_set, equal_test, differ_test}
 use Rattle.std.specs.Prelude.{◌==◌}
-use Rattle.shop_model.specs.Machine.{told}
+use Rattle.shop_model.specs.Acts.{told}
 use Rattle.till_register.specs.Laws.{is_rental_of, RentsStayOfTheirCopies}
 
 last_at : {A : Type 0} (p : A → Bool) (xs : List A) (x : A) → p x ≡ true → list_any p (at (length xs + 1) (xs ++ x ∷ [])) ≡ true
