@@ -1,9 +1,13 @@
 //! The lists of rows as values, each once, of one row that is as short as it can be.
 use serde_json::Value;
 use shop_types::{ActorNo, BranchNo, CustomerNo, FilmNo, Minutes, Rate, Rating, StaffNo, Text};
+use shop_views::actors::ActorRow;
+use shop_views::films::ListedFilm;
+use shop_views::overdue_rows::OverdueRow;
+use shop_views::people::{ListedCustomer, ListedPerson, ListedStaff};
+use shop_views::sales::{CategoryRow, StoreRow};
 use shop_views::{
-    ActorRow, CategoryRow, ListedCustomer, ListedFilm, ListedPerson, ListedStaff, OverdueRow,
-    PersonName, StoreRow, actor_info, customer_list, film_list, overdue, sales_by_film_category,
+    PersonName, actor_info, customer_list, film_list, overdue, sales_by_film_category,
     sales_by_store, staff_list,
 };
 use std::alloc::{AllocError, Global};
@@ -16,25 +20,16 @@ fn text<const LOW: usize, const HIGH: usize>(alloc: Global, it: &str) -> Option<
 }
 
 fn mary(alloc: Global) -> Option<PersonName> {
-    match (text(alloc, "MARY"), text(alloc, "SMITH")) {
-        (Some(first), Some(last)) => Some(PersonName { first, last }),
-        _ => None,
-    }
+    let (first, last) = text(alloc, "MARY").zip(text(alloc, "SMITH"))?;
+    Some(PersonName { first, last })
 }
 
 fn person(alloc: Global) -> Option<ListedPerson> {
-    let (Some(name), Some(branch)) = (mary(alloc), BranchNo::new(1)) else {
-        return None;
-    };
-    let (Some(address), Some(postal), Some(phone), Some(city), Some(country)) = (
-        text(alloc, "1 Main"),
-        text(alloc, ""),
-        text(alloc, "555"),
-        text(alloc, "Lethbridge"),
-        text(alloc, "Canada"),
-    ) else {
-        return None;
-    };
+    let branch = BranchNo::new(1)?;
+    let home = text(alloc, "1 Main").zip(text(alloc, ""));
+    let place = text(alloc, "Lethbridge").zip(text(alloc, "Canada"));
+    let who = mary(alloc).zip(text(alloc, "555"));
+    let ((name, phone), ((address, postal), (city, country))) = who.zip(home.zip(place))?;
     Some(ListedPerson {
         branch,
         name,
@@ -57,43 +52,38 @@ fn is_text(alloc: Global, list: Result<Value, AllocError>, wanted: &str) -> bool
     }
 }
 
-/// Whether the lists of people are those of a request.
-fn are_people(alloc: Global) -> bool {
-    let (Some(person), Some(other)) = (person(alloc), person(alloc)) else {
-        return false;
-    };
-    let (Some(number), Some(customer)) = (StaffNo::new(2), CustomerNo::new(1)) else {
+fn is_staff_list(alloc: Global) -> bool {
+    let Some((number, person)) = StaffNo::new(2).zip(person(alloc)) else {
         return false;
     };
     let staff = [ListedStaff { number, person }];
-    let customers = [ListedCustomer {
-        number: customer,
-        person: other,
-        active: true,
-    }];
     is_text(
         alloc,
         staff_list(alloc, &staff),
         "[{\"address\":\"1 Main\",\"branch\":1,\"city\":\"Lethbridge\",\"country\":\"Canada\",\"id\":2,\"name\":\"MARY SMITH\",\"phone\":\"555\",\"postal\":\"\"}]",
-    ) && is_text(
+    )
+}
+
+fn is_customer_list(alloc: Global) -> bool {
+    let Some((number, person)) = CustomerNo::new(1).zip(person(alloc)) else {
+        return false;
+    };
+    let customers = [ListedCustomer {
+        number,
+        person,
+        active: true,
+    }];
+    is_text(
         alloc,
         customer_list(alloc, &customers),
         "[{\"address\":\"1 Main\",\"branch\":1,\"city\":\"Lethbridge\",\"country\":\"Canada\",\"id\":1,\"name\":\"MARY SMITH\",\"note\":\"active\",\"phone\":\"555\",\"postal\":\"\"}]",
     )
 }
 
-/// Whether the lists of films and of their actors are.
-fn are_films(alloc: Global) -> bool {
-    let (Some(title), Some(description), Some(category), Some(name)) = (
-        text(alloc, "RIVER DAWN"),
-        text(alloc, ""),
-        text(alloc, "Action"),
-        mary(alloc),
-    ) else {
-        return false;
-    };
-    let (Some(number), Some(rate), Some(actor)) = (FilmNo::new(1), Rate::new(499), ActorNo::new(1))
-    else {
+fn is_film_list(alloc: Global) -> bool {
+    let texts = text(alloc, "RIVER DAWN").zip(text(alloc, "").zip(text(alloc, "Action")));
+    let facts = FilmNo::new(1).zip(Rate::new(499));
+    let Some(((number, rate), (title, (description, category)))) = facts.zip(texts) else {
         return false;
     };
     let films = [ListedFilm {
@@ -106,37 +96,31 @@ fn are_films(alloc: Global) -> bool {
         rating: Rating::Pg13,
         actors: Vec::new(alloc),
     }];
-    let actors = [ActorRow {
-        number: actor,
-        name,
-        groups: Vec::new(alloc),
-    }];
     is_text(
         alloc,
         film_list(alloc, &films),
         "[{\"actors\":\"\",\"category\":\"Action\",\"description\":\"\",\"film\":1,\"length\":90,\"price\":499,\"rating\":\"PG-13\",\"title\":\"RIVER DAWN\"}]",
-    ) && is_text(
+    )
+}
+
+fn is_actor_info(alloc: Global) -> bool {
+    let Some((number, name)) = ActorNo::new(1).zip(mary(alloc)) else {
+        return false;
+    };
+    let actors = [ActorRow {
+        number,
+        name,
+        groups: Vec::new(alloc),
+    }];
+    is_text(
         alloc,
         actor_info(alloc, &actors),
         "[{\"actor\":1,\"film_info\":\"\",\"first\":\"MARY\",\"last\":\"SMITH\"}]",
     )
 }
 
-/// Whether the lists of what was sold, and of what is overdue, are.
-fn are_sales(alloc: Global) -> bool {
-    let (Some(city), Some(country), Some(category)) = (
-        text(alloc, "Lethbridge"),
-        text(alloc, "Canada"),
-        text(alloc, "Action"),
-    ) else {
-        return false;
-    };
-    let (Some(first), Some(last), Some(phone), Some(title)) = (
-        text(alloc, "MARY"),
-        text(alloc, "SMITH"),
-        text(alloc, "555"),
-        text(alloc, "RIVER DAWN"),
-    ) else {
+fn is_by_store(alloc: Global) -> bool {
+    let Some((city, country)) = text(alloc, "Lethbridge").zip(text(alloc, "Canada")) else {
         return false;
     };
     let stores = [StoreRow {
@@ -145,10 +129,34 @@ fn are_sales(alloc: Global) -> bool {
         manager: None,
         total: 499,
     }];
+    is_text(
+        alloc,
+        sales_by_store(alloc, &stores),
+        "[{\"manager\":\"\",\"store\":\"Lethbridge,Canada\",\"total\":499}]",
+    )
+}
+
+fn is_by_category(alloc: Global) -> bool {
+    let Some(category) = text(alloc, "Action") else {
+        return false;
+    };
     let categories = [CategoryRow {
         category,
         total: 499,
     }];
+    is_text(
+        alloc,
+        sales_by_film_category(alloc, &categories),
+        "[{\"category\":\"Action\",\"total\":499}]",
+    )
+}
+
+fn is_overdue(alloc: Global) -> bool {
+    let name = text(alloc, "MARY").zip(text(alloc, "SMITH"));
+    let rest = text(alloc, "555").zip(text(alloc, "RIVER DAWN"));
+    let Some(((first, last), (phone, title))) = name.zip(rest) else {
+        return false;
+    };
     let rentals = [OverdueRow {
         first,
         last,
@@ -157,14 +165,6 @@ fn are_sales(alloc: Global) -> bool {
     }];
     is_text(
         alloc,
-        sales_by_store(alloc, &stores),
-        "[{\"manager\":\"\",\"store\":\"Lethbridge,Canada\",\"total\":499}]",
-    ) && is_text(
-        alloc,
-        sales_by_film_category(alloc, &categories),
-        "[{\"category\":\"Action\",\"total\":499}]",
-    ) && is_text(
-        alloc,
         overdue(alloc, &rentals),
         "[{\"customer\":\"SMITH, MARY\",\"phone\":\"555\",\"title\":\"RIVER DAWN\"}]",
     )
@@ -172,5 +172,11 @@ fn are_sales(alloc: Global) -> bool {
 
 /// Whether lists of rows that come as values are those of a request, which has them row by row.
 pub fn are_lists(alloc: Global) -> bool {
-    are_people(alloc) && are_films(alloc) && are_sales(alloc)
+    is_staff_list(alloc)
+        && is_customer_list(alloc)
+        && is_film_list(alloc)
+        && is_actor_info(alloc)
+        && is_by_store(alloc)
+        && is_by_category(alloc)
+        && is_overdue(alloc)
 }

@@ -36,7 +36,12 @@ impl Values {
             return false;
         };
         match routes.read(alloc, &ClapWords { alloc }, message, Caller::Branch(branch)) {
-            Ok(Read::Asked(request)) => self.list.push((token, request)).is_ok(),
+            Ok(Read::Asked(request)) => {
+                let put = self.list.push((token, request));
+                let is_put = put.is_ok();
+                drop(put);
+                is_put
+            }
             Ok(Read::Refused(_)) | Err(_) => false,
         }
     }
@@ -62,7 +67,11 @@ impl Values {
             list: Vec::new(alloc),
         };
         let is_read = match Routes::new(alloc) {
-            Ok(routes) => values.put_all(alloc, &routes, input),
+            Ok(routes) => {
+                let is_read = values.put_all(alloc, &routes, input);
+                drop(routes);
+                is_read
+            }
             Err(_) => false,
         };
         told.needs(is_read, "a value isn't read");
