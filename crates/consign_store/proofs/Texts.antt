@@ -1,14 +1,15 @@
 -- What the texts on consignments and their lines say and make of the books.
-use Rattle.shop_schema.proofs.Common.{◌≡◌, ◌≤◌, ◌<◌, ◌&&◌, ℕ, pos, List, [], ◌∷◌, ◌++◌, append-nil, subst₂, IsPermutation-same, map, filter, length, Bool, true, false, Ok, Err, Result, refl, sym, ap, subst, ◌∙◌, IsPermutation, ⊤, IfOk, option_to_list, flat_map, map_push, IsPermutation-map, Int, column, ascending, Binary, Term, lit, col, Update, State, ExecutesInside, IsAscending, sort_by, update_where, map-map, Means, HasRows, PicksOne, by, number_value, flag_value, StoreFault, are_kept, length-map, Selects, plain_query, unmapped, number_test, number_tested, test_of, two_tested, three_tested, still_holds, writes_by, selects_bag, selects_one, selects_sorted, sets_row, Row, IsCounted, Books, BookCopy, Mark, LineState, UnderWay, Arrived, Missing, Consignment, is_consignment, is_mark, shop_schema, consignment_table, consignment_line_table, consignment_columns, copy_columns, line_value, line_rows, IsHeld, StandsFor, StandsWith, Reads, Writes, cols, values}
+use Rattle.shop_schema.proofs.Common.{◌≡◌, ◌≤◌, ◌<◌, ◌&&◌, ℕ, pos, List, [], ◌∷◌, ◌++◌, append-nil, subst₂, IsPermutation-same, map, filter, length, Bool, true, false, Ok, Err, Result, refl, sym, ap, subst, ◌∙◌, IsPermutation, ⊤, IfOk, option_to_list, flat_map, map_push, IsPermutation-map, Int, column, ascending, Binary, Term, lit, col, Update, State, ExecutesInside, IsAscending, sort_by, update_where, map-map, AllByRecursion, all_map, all_of, all-filter, Means, HasRows, PicksOne, by, number_value, flag_value, StoreFault, are_kept, length-map, Selects, plain_query, unmapped, number_test, number_tested, test_of, two_tested, three_tested, still_holds, writes_by, selects_bag, selects_one, selects_sorted, sets_row, Row, IsCounted, Books, BookCopy, Mark, LineState, UnderWay, Arrived, Missing, Consignment, is_consignment, is_mark, shop_schema, consignment_table, consignment_line_table, consignment_columns, copy_columns, line_value, line_rows, IsHeld, IsRow, IsCopy, CopyRows, StandsFor, StandsWith, Reads, Writes, cols, values}
 use Rattle.std.specs.Prelude.{Option, take, option_map}
 use Rattle.sqlite_value.specs.Order as sql
 use Rattle.sqlite_tied.specs.Compute.{everything}
 use Rattle.sqlite.specs.Listing.{understood}
 use Rattle.sqlite.specs.State.{Shown}
-use Rattle.sql_rows.proofs.SameBags.{same_bag}
+use Rattle.sql_rows.proofs.OfKind.{same_bag}
 use Rattle.shop_schema.proofs.Lists.{flat_map_push}
 use Rattle.shop_schema.proofs.Listed.{own_rows}
-use Rattle.shop_schema.proofs.SameRows.{same_copy}
+use Rattle.shop_schema.proofs.OneRow.{same_row}
+use Rattle.shop_schema.proofs.ShopTables as table
 use Rattle.shop_ledger.proofs.Equals.{equals, of_three}
 use Rattle.shop_ledger.proofs.Rising.{counted_rise, rise_differ, rise_sorted}
 use Rattle.shop_ledger.proofs.Puts.{puts_row}
@@ -113,23 +114,25 @@ unfolding understood everything
 select_copies_means = record { names = _; is = refl; plain = (refl, refl); unlisted = refl }
 
 -- a bag of columns is that of the values
-module _ {X R : Type 0} (columns : X → sql.Row) (one : (a b : X) → columns a ≡ columns b → a ≡ b) (seen : R → X) where
-  pub seen_bag : (xs : List X) (rows : List sql.Row) (all : List R) → IsPermutation (map columns xs) rows → map (λ x. columns (seen x)) all ≡ rows → IsPermutation xs (map seen all)
-  seen_bag xs rows all bag read = same_bag columns one xs (map seen all) (subst (IsPermutation (map columns xs)) (sym read ∙ sym (map-map columns seen all)) bag)
+module _ {X R : Type 0} (columns : X → sql.Row) (P : X → Type 0) (one : (a b : X) → P a → P b → columns a ≡ columns b → a ≡ b) (seen : R → X) where
+  seen_bag : (xs : List X) (rows : List sql.Row) (all : List R) → AllByRecursion P xs → AllByRecursion (λ x. P (seen x)) all → IsPermutation (map columns xs) rows → map (λ x. columns (seen x)) all ≡ rows
+      → IsPermutation xs (map seen all)
+  seen_bag xs rows all fit kinds bag read =
+      same_bag columns P one xs (map seen all) fit (all_map P seen all kinds) (subst (IsPermutation (map columns xs)) (sym read ∙ sym (map-map columns seen all)) bag)
 
 mark_tested : (mark it : Mark) (i j : ℕ) (vs : sql.Row) → column vs i ≡ number_value it.branch → column vs j ≡ number_value it.copy
     → (number_test i mark.branch vs && (number_test j mark.copy vs && true)) ≡ is_mark mark it
 mark_tested mark it i j vs branch copy = two_tested _ _ (test_of vs i it.branch mark.branch branch) (test_of vs j it.copy mark.copy copy)
 
 pub read_copies : {R : Type 0} (seen : R → Row BookCopy) (old new : State) (mark : Mark) (rows : List sql.Row) (all : List R) → Shown SELECT_COPIES.now (mark_params mark) old new rows
-    → map (λ x. copy_columns (seen x)) all ≡ rows → Reads old new (λ books. IsPermutation (filter (λ (row : Row BookCopy). is_mark mark row.it.mark) books.copies) (map seen all))
-read_copies seen old new mark rows all h read = λ books holds held.
+    → map (λ x. copy_columns (seen x)) all ≡ rows → AllByRecursion (λ x. IsRow IsCopy (seen x)) all → Reads old new (λ books. IsPermutation (filter (λ (row : Row BookCopy). is_mark mark row.it.mark) books.copies) (map seen all))
+read_copies seen old new mark rows all h read kinds = λ books holds held.
     let p : Row BookCopy → Bool = λ row. is_mark mark row.it.mark in
     let found : IsPermutation (map copy_columns (filter p books.copies)) rows =
     selects_bag shop_schema SELECT_COPIES.now 25 6 (equals 0 (5 ∷ 6 ∷ [])) (cols 1 1 6) [] select_copies_means (mark_params mark) old new rows holds.schema_is h copy_columns books.copies
     holds.stands.copies (own_rows old.now.trees 25) (λ vs. number_test 4 mark.branch vs && (number_test 5 mark.copy vs && true)) p (λ row. mark_tested mark row.it.mark 4 5 (copy_columns row) refl refl) (λ r. refl) in (
       still_holds shop_schema StandsFor SELECT_COPIES.now _ old new select_copies_means.plain rows h books holds,
-      seen_bag copy_columns same_copy seen (filter p books.copies) rows all found read,
+      seen_bag copy_columns (IsRow IsCopy) (same_row table.copies) seen (filter p books.copies) rows all (all-filter (IsRow IsCopy) p books.copies (held.values.rows CopyRows)) kinds found read,
     )
 
 select_marked_means : Selects shop_schema SELECT_MARKED.now (plain_query 37 (equals 0 (6 ∷ 7 ∷ [])) (cols 1 1 8) [])
@@ -144,7 +147,7 @@ read_marked seen old new mark rows all h read = λ books holds held.
     selects_bag shop_schema SELECT_MARKED.now 37 8 (equals 0 (6 ∷ 7 ∷ [])) (cols 1 1 8) [] select_marked_means (mark_params mark) old new rows holds.schema_is h placed_columns (all_placed books.consignments)
     (lines_stand old books holds.stands) (own_rows old.now.trees 37) (λ vs. number_test 5 mark.branch vs && (number_test 6 mark.copy vs && true)) p (λ row. mark_tested mark row.it.mark 5 6 (placed_columns row) refl refl) (λ r. refl) in (
       still_holds shop_schema StandsFor SELECT_MARKED.now _ old new select_marked_means.plain rows h books holds,
-      seen_bag placed_columns same_placed seen (filter p (all_placed books.consignments)) rows all found read,
+      seen_bag placed_columns (λ _. ⊤) (λ a b _ _. same_placed a b) seen (filter p (all_placed books.consignments)) rows all (all_of (λ _. ⊤) (λ _. tt) (filter p (all_placed books.consignments))) (all_of (λ _. ⊤) (λ _. tt) all) found read,
     )
 
 -- ---- writes of headers

@@ -1,11 +1,12 @@
 -- How a branch stands, as SQL has it: its row, joined with its count of kept commands.
-use Rattle.shop_schema.proofs.Common.{◌≡◌, ◌≤◌, ◌==◌, ℕ, zero, suc, pos, List, [], ◌∷◌, map, filter, Bool, true, false, cond, Some, None, refl, sym, ap, subst, ◌∙◌, arith, append-nil, inl, inr, ◌⊎◌, IfSome, slice_get, flat_map, AllByRecursion, IsPermutation-refl, Value, Null, Int, or_null, column, Trees, Term, col, lit, Query, Join, inner, left, end, Output, overlay, State, map-map, IsPermutation-same, PicksOne, columns_of, number_value, Selects, answers, kept_as_map, one_tested, number_tested, still_holds, joined_query, are_equal, or_blank, shown_of, few_list, left_pair, joined_rows, Moment, IsMoment, Owned, owned_by, at, is_empty, numbered, Branch, Books, head, shop_schema, moment_value, branch_columns, counter_columns, Count, is_count, count_in, counts_of, IsLast, IsHeld, StandsFor, Holds, Reads}
+use Rattle.shop_schema.proofs.Common.{◌≡◌, ◌≤◌, ◌==◌, ℕ, zero, suc, pos, List, [], ◌∷◌, map, filter, true, false, cond, Some, None, refl, sym, ap, subst, ◌∙◌, arith, append-nil, inl, inr, ◌⊎◌, IfSome, slice_get, flat_map, IsPermutation-refl, Value, Null, Int, or_null, column, Trees, Term, col, lit, Query, Join, inner, left, end, Output, overlay, State, map-map, IsPermutation-same, PicksOne, columns_of, number_value, Selects, answers, kept_as_map, one_tested, number_tested, still_holds, joined_query, are_equal, or_blank, shown_of, few_list, left_pair, joined_rows, IsMoment, owned_by, at, is_empty, numbered, Branch, Books, head, shop_schema, moment_value, branch_columns, counter_columns, Count, is_count, count_in, counts_of, IsHeld, StandsFor, Holds, Reads}
 use Rattle.sqlite_value.specs.Order as sql
 use Rattle.sqlite_tied.specs.Compute.{everything}
 use Rattle.sqlite.specs.Listing.{understood}
 use Rattle.sqlite.specs.State.{Shown}
-use Rattle.shop_schema.proofs.SameRows.{same_last}
-use Rattle.shop_schema.proofs.Lasts.{numbered_once}
+use Rattle.shop_schema.specs.Kinds as kinds
+use Rattle.shop_schema.proofs.OneRow.{same_value}
+use Rattle.shop_schema.proofs.Lasts.{numbered_once, last_fits}
 use Rattle.shop_schema.proofs.Numbers.{numbered_at}
 use Rattle.shop_ledger.specs.declared.branches.Standing.{Standing}
 use Rattle.shop_ledger.specs.declared.branches.TheConstants.{SELECT_STANDING}
@@ -97,14 +98,6 @@ shows_standing old new b rows h books holds held =
     ∙ map-map (λ (o : Output). o.1) (standing_output books) mine
     ∙ ap (map (standing_row books)) (numbered_at b books.catalogue.branches)
 
-last_kind : (b : ℕ) (lasts : List (Owned Moment)) → AllByRecursion IsLast lasts → IfSome (head (owned_by b lasts)) IsMoment
-last_kind b [] all = tt
-last_kind b (row ∷ lasts) all = go (row.owner == b) (last_kind b lasts all.1)
-  where
-    go : (t : Bool) → IfSome (head (owned_by b lasts)) IsMoment → IfSome (head (map (λ (it : Owned Moment). it.it) (cond t (row ∷ filter (λ it. it.owner == b) lasts) (filter (λ it. it.owner == b) lasts)))) IsMoment
-    go true more = all.0
-    go false more = more
-
 -- the count that is shown is the books'
 keys_are : (b n : ℕ) (books : Books) → 1 ≤ b → (l : List Count) → keys_of books b ≡ l → keys_value l ≡ number_value n → n ≡ count_in 4 b books
 keys_are b n books low [] e is = cc
@@ -141,6 +134,6 @@ told_standing old new b rows h low = (
     known row it moment real keys books held (branch ∷ more) e =
         let same : standing_row books (b, branch) ≡ row = cc in (
           refl,
-          same_last it.last (head (owned_by b books.lasts)) real (last_kind b books.lasts held.values.lasts) (sym moment ∙ ap (λ r. column r 0) (sym same)),
+          same_value kinds.MomentOrNull it.last (head (owned_by b books.lasts)) real (last_fits b books.lasts held.values.lasts) (sym moment ∙ ap (λ r. column r 0) (sym same)),
           keys_are b it.keys books low (keys_of books b) refl (ap (λ r. column r 1) same ∙ keys),
         )

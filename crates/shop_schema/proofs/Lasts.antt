@@ -1,5 +1,5 @@
 -- The last moment of a branch, as a column of its row, and shared rows by their numbers.
-use Rattle.shop_schema.proofs.Common.{◌≡◌, ◌≤◌, ◌+◌, ◌==◌, ◌&&◌, ℕ, List, [], ◌∷◌, map, filter, not, length, Bool, true, false, cond, refl, sym, ap, ◌∙◌, arith, nat_tests, Value, or_null, column, update_where, number_test, number_tested, one_tested, Moment, Owned, owned_by, numbered_from, IsCounted, Branch, head, set_last, moment_value, branch_columns}
+use Rattle.shop_schema.proofs.Common.{◌≡◌, ◌≤◌, ◌+◌, ◌==◌, ◌&&◌, ℕ, List, [], ◌∷◌, map, filter, not, length, Bool, true, false, cond, refl, sym, ap, ◌∙◌, arith, nat_tests, IfSome, AllByRecursion, all-filter, all_map, Value, or_null, column, update_where, number_test, number_tested, one_tested, Moment, IsMoment, Owned, owned_by, numbered_from, IsCounted, Branch, head, set_last, moment_value, branch_columns, IsLast}
 use Rattle.sqlite_value.specs.Order as sql
 use Rattle.shop_schema.proofs.Lists.{counted_once}
 
@@ -10,6 +10,14 @@ numbered_counted k (x ∷ xs) = (refl, numbered_counted (k + 1) xs)
 -- at most one shared row has the number
 pub numbered_once : {A : Type 0} (k : ℕ) (xs : List A) (n : ℕ) → length (filter (λ (it : ℕ × A). it.0 == n) (numbered_from k xs)) ≤ 1
 numbered_once {A} k xs n = counted_once (λ (it : ℕ × A). it.0) k (numbered_from k xs) n (numbered_counted k xs)
+
+-- the last moment of a branch is one
+pub last_fits : (b : ℕ) (lasts : List (Owned Moment)) → AllByRecursion IsLast lasts → IfSome (head (owned_by b lasts)) IsMoment
+last_fits b lasts all = first (owned_by b lasts) (all_map IsMoment (λ (row : Owned Moment). row.it) (filter (λ (row : Owned Moment). row.owner == b) lasts) (all-filter IsLast (λ (row : Owned Moment). row.owner == b) lasts all))
+  where
+    first : (ms : List Moment) → AllByRecursion IsMoment ms → IfSome (head ms) IsMoment
+    first [] fit = tt
+    first (m ∷ ms) fit = fit.0
 
 -- ---- what an UPDATE of the column does
 

@@ -13,7 +13,6 @@ pub mod Acts
 pub mod OneToOne
 pub mod OfficeActs
 pub mod OfficeOneToOne
-pub mod SameRows
 pub mod OneRow
 pub mod ShopTables
 pub mod CellTexts

@@ -1,5 +1,5 @@
 -- Rows of kinds are one to one, and so are those of a table.
-use Rattle.shop_schema.proofs.Common.{◌≡◌, List, [], ◌∷◌, Some, Bool, true, false, refl, sym, ap, ◌∙◌, same_flag, rating_text, rating_of, features_text, features_of, seen_rule, seen_state, seen_line_state, Rating, Features, rule_value, state_value, line_value, Kind, value_of, Fits, FitEach, TableOf}
+use Rattle.shop_schema.proofs.Common.{◌≡◌, ℕ, List, [], ◌∷◌, Option, Some, None, IfSome, or_null, Bool, true, false, refl, sym, ap, ◌∙◌, same_flag, same_number, same_or_null, number_value, Moment, IsMoment, moment_text, moment_value, rating_text, rating_of, features_text, features_of, seen_rule, seen_state, seen_line_state, Rating, Features, rule_value, state_value, line_value, Kind, value_of, Fits, FitEach, TableOf}
 use Rattle.sqlite_value.specs.Order as sql
 use Rattle.shop_types.specs.declared.film.Rating.TheVariants as rating
 use Rattle.shop_types.specs.declared.rule.Rule.{Rule}
@@ -10,7 +10,7 @@ use Rattle.shop_types.specs.declared.custody.LineState.{LineState}
 use Rattle.shop_types.specs.declared.custody.LineState.TheVariants as line
 use Rattle.shop_schema.specs.Kinds as kind
 use Rattle.shop_schema.specs.Kinds.{Held, Values, columns_of}
-use Rattle.shop_schema.proofs.SameRows.{same_moment_value, same_last, same_number_or_null}
+use Rattle.shop_schema.proofs.OneToOne.{one_moment}
 
 rated : (it : Rating) → rating_of (rating_text it) ≡ Some it
 rated rating.G = refl
@@ -69,7 +69,18 @@ same_line_state line.Arrived line.Arrived h = refl
 same_line_state line.Missing line.Missing h = refl
 same_line_state a b h = cc
 
-same_value : (k : Kind) (x y : Held k) → Fits k x → Fits k y → value_of k x ≡ value_of k y → x ≡ y
+same_moment : (x y : Moment) → IsMoment x → IsMoment y → moment_value x ≡ moment_value y → x ≡ y
+same_moment x y p q h = let text : moment_text x ≡ moment_text y = cc in one_moment x y p q text
+
+same_or_none : (x y : Option Moment) → IfSome x IsMoment → IfSome y IsMoment → or_null moment_value x ≡ or_null moment_value y → x ≡ y
+same_or_none None None p q h = refl
+same_or_none (Some m) (Some n) p q h = ap Some (same_moment m n p q h)
+same_or_none m n p q h = cc
+
+same_number_or_null : (x y : Option ℕ) → or_null number_value x ≡ or_null number_value y → x ≡ y
+same_number_or_null = same_or_null number_value (λ n h. cc) same_number
+
+pub same_value : (k : Kind) (x y : Held k) → Fits k x → Fits k y → value_of k x ≡ value_of k y → x ≡ y
 same_value kind.Number x y p q h = cc
 same_value (kind.Within low high) x y p q h = cc
 same_value (kind.AtMost high) x y p q h = cc
@@ -86,11 +97,11 @@ same_value kind.Features x y p q h = let text : features_text x ≡ features_tex
 same_value kind.Rule x y p q h = same_rule x y h
 same_value kind.Copy x y p q h = same_copy_state x y h
 same_value kind.Line x y p q h = same_line_state x y h
-same_value kind.Moment x y p q h = same_moment_value x y p q h
+same_value kind.Moment x y p q h = same_moment x y p q h
 same_value kind.Bytes x y p q h = cc
 same_value kind.NumberOrNull x y p q h = same_number_or_null x y h
 same_value (kind.WithinOrNull low high) x y p q h = same_number_or_null x y h
-same_value kind.MomentOrNull x y p q h = same_last x y p q h
+same_value kind.MomentOrNull x y p q h = same_or_none x y p q h
 
 same_values : (ks : List Kind) (u v : Values ks) → FitEach ks u → FitEach ks v → columns_of ks u ≡ columns_of ks v → u ≡ v
 same_values [] u v p q h = refl

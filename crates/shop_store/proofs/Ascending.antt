@@ -21,3 +21,11 @@ all_of P b (row ∷ rows) all = elim (cases_Bool (is_of b row)) [
   | inl ours ↦ rw ours (all.0.2, all_of P b rows all.1)
   | inr other ↦ rw other (all_of P b rows all.1)
 ]
+
+-- and of the row of a number
+pub all_at : {A : Type 0} (P : A → Type 0) (n : ℕ) (xs : List A) → AllByRecursion P xs → AllByRecursion P (at n xs)
+all_at P n [] all = tt
+all_at P n (x ∷ xs) all = elim (cases_Bool (n == 1)) [
+  | inl one ↦ rw one (all.0, tt)
+  | inr other ↦ rw other (all_at P (n - 1) xs all.1)
+]

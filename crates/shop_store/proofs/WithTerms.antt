@@ -1,7 +1,8 @@
 -- What is shown of rentals with their terms, and what is read of it.
 use Rattle.shop_schema.proofs.Common.{◌≡◌, ◌<◌, ◌+◌, ℕ, List, [], ◌∷◌, ◌++◌, length, map, filter, Bool, false, inl, inr, refl, sym, ap, subst, ◌∙◌, arith, append_assoc, is_eq, is_lt, zip, AllByRecursion, cases_Bool, Null, or_null, ascending, Binary, then-Equal, Term, Query, Join, Output, output_cmp, map-map, ascending-map, ascending_weaker, all-filter, all_map, number_value, joined_query, Climbs, unmapped_kind, number_cmp, Row, IsCounted, at, is_of, of, Rental, Terms, Books, shop_of, termed, same_if, moment_value, IsRental, IsTerms, IsHeld, Rentals, TermRows}
 use Rattle.std.proofs.lemmas.List.{length-append}
-use Rattle.shop_schema.proofs.SameRows.{same_moment_value, same_last}
+use Rattle.shop_schema.proofs.OneRow.{same_row}
+use Rattle.shop_schema.proofs.ShopTables as table
 use Rattle.shop_ledger.proofs.Rising.{Rise, of_which}
 use Rattle.shop_store.specs.declared.termed.TermedRental.{TermedRental}
 use Rattle.shop_store.specs.Seen.{seen_termed, termed_columns, IsTermed}
@@ -78,20 +79,14 @@ module _ {Z : Type 0} (b : ℕ) (q : Rental → Bool) (terms : List (Row Terms))
 
 -- ---- what is read
 
+abbrev row_of : {A : Type 0} → A → Row A
+row_of it = record { branch = 1; number = 1; it = it }
+
 same_termed : (x y : Rental × Terms) → IsTermed x → IsTermed y → termed_columns x ≡ termed_columns y → x ≡ y
 same_termed x y p q h =
-    let rented : x.0.rented ≡ y.0.rented = same_moment_value x.0.rented y.0.rented p.0.rented q.0.rented cc in
-    let copy : x.0.copy ≡ y.0.copy = cc in
-    let customer : x.0.customer ≡ y.0.customer = cc in
-    let returned : x.0.returned ≡ y.0.returned = same_last x.0.returned y.0.returned p.0.returned q.0.returned cc in
-    let staff : x.0.staff ≡ y.0.staff = cc in
-    let rate : x.1.rate ≡ y.1.rate = cc in
-    let period : x.1.period ≡ y.1.period = cc in
-    let replacement : x.1.replacement ≡ y.1.replacement = cc in
-    (λ i. (
-      record { rented = rented i; copy = copy i; customer = customer i; returned = returned i; staff = staff i },
-      record { rate = rate i; period = period i; replacement = replacement i },
-    ))
+    let rental : row_of x.0 ≡ row_of y.0 = same_row table.rentals (row_of x.0) (row_of y.0) (refl, refl, p.0) (refl, refl, q.0) cc in
+    let terms : row_of x.1 ≡ row_of y.1 = same_row table.terms (row_of x.1) (row_of y.1) (refl, refl, p.1) (refl, refl, q.1) cc in
+    (λ i. ((rental i).it, (terms i).it))
 
 all_termed : (rentals : List Rental) (terms : List Terms) → AllByRecursion IsRental rentals → AllByRecursion IsTerms terms → AllByRecursion IsTermed (zip rentals terms)
 all_termed [] [] p q = tt

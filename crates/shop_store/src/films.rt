@@ -6,7 +6,7 @@ ghost use Rattle.sql_rows.specs.Calls.{DoesInside};
 ghost use Rattle.shop_model.specs.Rows.{at, set_at};
 ghost use Rattle.shop_model.specs.Books.{head};
 ghost use Rattle.shop_ledger.specs.Calls.{Finds, Stores};
-ghost use Rattle.shop_schema.specs.RowValues.{film_columns};
+ghost use Rattle.shop_schema.specs.RowValues.{IsShared, IsFilm, film_columns};
 ghost use Rattle.shop_store.specs.SharedSeen.{seen_film_row, withdrawn_of};
 
 use shop_schema::tables::FilmCells;
@@ -27,7 +27,7 @@ pub struct FilmRow {
 impl Stored for FilmRow {
     ghost columns = { λ row. film_columns (row.number, seen_film_row row) };
 
-    ghost fits = { λ _. ⊤ };
+    ghost fits = { λ row. IsShared IsFilm (row.number, seen_film_row row) };
 
     fn read(row: &Row) -> Result<FilmRow, StoreFault> {
         let (number, (title, (description, (language, (category, priced))))) = read_cells::<

@@ -23,7 +23,6 @@ pub mod Projects
 pub mod Stays
 pub mod Tells
 pub mod Upserts
-pub mod SameBags
 pub mod Drops
 pub mod TextLemmas
 pub mod EachLemmas

@@ -6,7 +6,8 @@ use Rattle.sqlite.specs.State.{Shown}
 use Rattle.shop_model.specs.Calendar.{day_of}
 use Rattle.shop_model.specs.Views.{overdue_text}
 use Rattle.shop_schema.proofs.Lists.{filter_twice}
-use Rattle.shop_schema.proofs.SameRows.{same_moment_value}
+use Rattle.shop_schema.specs.Kinds as kind
+use Rattle.shop_schema.proofs.OneRow.{same_value}
 use Rattle.shop_store.proofs.Ascending.{all_of}
 use Rattle.shop_store.proofs.WithTerms.{termed_rows}
 use Rattle.shop_views.specs.declared.overdue_rows.OverdueRow.{OverdueRow}
@@ -71,7 +72,7 @@ module _ (b : ℕ) (books : Books) (held : IsHeld books) where
 pub late_is : (row : sql.Row) (rented moment : Moment) (period : ℕ) (late : Bool) → IsMoment rented → column row 0 ≡ moment_value rented → column row 1 ≡ number_value period
     → late ≡ nat_lt (day_of rented + period) (day_of moment) → (catalogue : Catalogue) (shop : Shop) (it : Rental × Terms) → IsReal it → row ≡ shown_out catalogue shop it → late ≡ is_late moment it
 late_is row rented moment period late real at0 at1 told catalogue shop it its is =
-    let day : rented ≡ it.0.rented = same_moment_value rented it.0.rented real its (sym at0 ∙ ap (λ r. column r 0) is) in
+    let day : rented ≡ it.0.rented = same_value kind.Moment rented it.0.rented real its (sym at0 ∙ ap (λ r. column r 0) is) in
     let days : period ≡ it.1.period = same_number period it.1.period (sym at1 ∙ ap (λ r. column r 1) is) in
     told ∙ (λ i. nat_lt (day_of (day i) + days i) (day_of moment))
 

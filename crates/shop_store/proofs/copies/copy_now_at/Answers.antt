@@ -5,7 +5,9 @@ use Rattle.sqlite_tied.specs.Compute.{everything}
 use Rattle.sqlite.specs.Listing.{understood}
 use Rattle.sqlite.specs.State.{Shown}
 use Rattle.shop_schema.proofs.Lists.{picks_row}
-use Rattle.shop_schema.proofs.SameRows.{same_copy}
+use Rattle.shop_schema.proofs.OneRow.{same_value}
+use Rattle.shop_schema.proofs.ShopTables.{state_is}
+use Rattle.shop_schema.specs.Kinds as kind
 use Rattle.shop_ledger.proofs.Equals.{of_two}
 use Rattle.shop_ledger.proofs.Fews.{climbs_few}
 use Rattle.shop_ledger.proofs.Outs.{open_of, outs_numbered, picks_out}
@@ -124,14 +126,11 @@ module _ (old new : State) (b n : ℕ) (rows slice : List sql.Row) (h : Shown SE
   copy_told outs once [] few row it e is = cc
   copy_told outs once (c ∷ []) few row it e is =
       let shown : shown_with outs c ≡ row = cc in
-      let film : number_value c.it.film ≡ number_value it.film = ap (λ (r : sql.Row). column r 0) shown ∙ is.0 in
-      let state : state_value c.it.state ≡ state_value (seen_state it.state) = ap (λ (r : sql.Row). column r 1) shown ∙ is.1 in
-      let found : Row BookCopy = record c { it = record c.it { film = it.film; state = seen_state it.state } } in
-      let whole : c ≡ found =
-      same_copy c found (λ i. number_value c.branch ∷ number_value c.number ∷ film i ∷ state i ∷ number_value c.it.mark.branch ∷ number_value c.it.mark.copy ∷ []) in (
-        ap (λ (d : Row BookCopy). unmarked d.it ∷ []) (sym whole),
-        rental_told outs once it.out (ap (λ (r : sql.Row). column r 2) shown ∙ is.2),
-      )
+      let film : it.film ≡ c.it.film = sym (same_number c.it.film it.film (ap (λ (r : sql.Row). column r 0) shown ∙ is.0)) in
+      let seen = state_is c.it.state in
+      let same : seen.0 ≡ it.state = same_value kind.Copy seen.0 it.state tt tt (ap state_value seen.1 ∙ ap (λ (r : sql.Row). column r 1) shown ∙ is.1) in
+      let state : seen_state it.state ≡ c.it.state = sym (ap seen_state same) ∙ seen.1 in
+      ((λ i. record { film = film i; state = state i } ∷ []), rental_told outs once it.out (ap (λ (r : sql.Row). column r 2) shown ∙ is.2))
   copy_told outs once (c ∷ d ∷ cs) few row it e is = absurd (omega (arith, few))
 
   -- what the first row tells
