@@ -1,6 +1,5 @@
 pub mod SameBooks
 pub mod SameConsignments
-pub mod SameBranches
 pub mod SameKept
 pub mod SameCanon
 pub mod FullLists

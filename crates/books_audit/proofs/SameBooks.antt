@@ -1,7 +1,10 @@
 -- A table stands for one list, one bag or one value.
-use Rattle.shop_schema.proofs.Common.{◌≡◌, ℕ, List, [], ◌∷◌, map, arith, IsPermutation, AllByRecursion, IsPermutation-trans, IsPermutation-sym, short_bag, numbered, IsShared, AreShared, TableOf}
+use Rattle.shop_schema.proofs.Common.{◌≡◌, ℕ, List, [], ◌∷◌, map, Option, sym, subst, arith, IsPermutation, AllByRecursion, all_map, all_weaker, IsPermutation-trans, IsPermutation-sym, short_bag, Moment, Owned, owned_by, numbered, Branch, head, branch_columns, IsLast, IsBranch, IsShared, AreShared, TableOf}
 use Rattle.shop_schema.proofs.OneRow.{same_row}
+use Rattle.shop_schema.proofs.Lasts.{last_fits}
+use Rattle.audit_rows.proofs.Maps.{map-twice}
 use Rattle.audit_rows.proofs.Standing.{same_rows, one_numbered}
+use Rattle.audit_tables.specs.Columns.{told_columns, IsTold}
 use Rattle.books_audit.proofs.FullLists.{each_shared}
 use Rattle.sqlite_value.specs.Order as sql
 
@@ -22,3 +25,16 @@ one_value {columns = columns} t {x = x} {y = y} f g p q = same_row t x y f g (fi
   where
     first : (r s : sql.Row) → ◌≡◌ {A = List sql.Row} (r ∷ []) (s ∷ []) → r ≡ s
     first r s h = cc
+
+-- ---- branches, each with its last moment
+
+abbrev pub told : List (Owned Moment) → ℕ × Branch → ℕ × (Branch × Option Moment)
+told lasts it = (it.0, (it.1, head (owned_by it.0 lasts)))
+
+pub told_fit : (lasts : List (Owned Moment)) (bs : List Branch) → AllByRecursion IsLast lasts → AreShared IsBranch bs → AllByRecursion (IsShared IsTold) (map (told lasts) (numbered bs))
+told_fit lasts bs l fit =
+    all_map (IsShared IsTold) (told lasts) (numbered bs)
+    (all_weaker (IsShared IsBranch) (λ it. IsShared IsTold (told lasts it)) (λ it h. (h.0, (h.1, last_fits it.0 lasts l))) (numbered bs) (each_shared IsBranch bs fit))
+
+pub told_rows : (lasts : List (Owned Moment)) (bs : List Branch) {rows : List sql.Row} → IsPermutation rows (map (branch_columns lasts) (numbered bs)) → IsPermutation rows (map told_columns (map (told lasts) (numbered bs)))
+told_rows lasts bs {rows} p = subst (IsPermutation rows) (sym (map-twice told_columns (told lasts) (numbered bs))) p

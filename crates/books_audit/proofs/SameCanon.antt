@@ -1,18 +1,40 @@
 -- Of two books for which the same tables stand, the one in the order of its keys is the other in that order.
-use Rattle.shop_schema.proofs.Common.{sym, ap, ◌∙◌, list_all, Moment, Owned, has_row, Books, IsName, IsCity, IsActor, IsFilm, IsStaff}
+use Rattle.shop_schema.proofs.Common.{◌≡◌, ℕ, map, true, Option, refl, sym, ap, subst₂, ◌∙◌, list_all, IsPermutation, IsPermutation-map, all_map, all_of, Moment, Owned, owned_by, numbered, Branch, has_row, Books, head, IsName, IsCity, IsActor, IsFilm, IsStaff}
+use Rattle.sqlite_trees.proofs.ListLemmas.{all_from_map}
+use Rattle.shop_schema.proofs.Numbers.{of_row}
 use Rattle.shop_schema.proofs.ShopTables as table
 use Rattle.audit_rows.specs.Canons.{IsCanonOf}
+use Rattle.audit_rows.proofs.Maps.{map-undone}
+use Rattle.audit_rows.proofs.Standing.{all_moved, one_numbered}
+use Rattle.audit_tables.specs.AuditTables as audited
 use Rattle.audit_tables.specs.BranchTables.{table_of}
 use Rattle.books_audit.specs.declared.tables.TableRows.{TableRows}
 use Rattle.books_audit.specs.Audits.{HaveBooks, AreInOrder}
-use Rattle.books_audit.proofs.SameBooks.{one_shared, one_bag, one_value}
-use Rattle.books_audit.proofs.SameBranches as branch
+use Rattle.books_audit.proofs.SameBooks.{one_shared, one_bag, one_value, told, told_fit, told_rows}
 use Rattle.books_audit.proofs.SameConsignments as sent
 use Rattle.books_audit.proofs.SameKept as kept
 
+module _ (tables : TableRows) (c b : Books) (s : HaveBooks tables c) (t : HaveBooks tables b) where
+  -- branches with their last moments
+  same_told : IsPermutation (map (told c.lasts) (numbered c.catalogue.branches)) (map (told b.lasts) (numbered b.catalogue.branches))
+  same_told =
+      one_bag audited.branches (told_fit c.lasts c.catalogue.branches s.values.lasts s.values.catalogue.branches) (told_fit b.lasts b.catalogue.branches t.values.lasts t.values.catalogue.branches)
+      (told_rows c.lasts c.catalogue.branches s.rows.branches) (told_rows b.lasts b.catalogue.branches t.rows.branches)
+
+  same_branches : b.catalogue.branches ≡ c.catalogue.branches
+  same_branches =
+      let branch : ℕ × (Branch × Option Moment) → ℕ × Branch = λ it. (it.0, it.1.0) in
+      one_numbered b.catalogue.branches c.catalogue.branches (subst₂ IsPermutation (map-undone branch (told c.lasts) (λ it. refl) (numbered c.catalogue.branches)) (map-undone branch (told b.lasts) (λ it. refl) (numbered b.catalogue.branches))
+      (IsPermutation-map branch _ _ same_told))
+
+  same_lasts : (n : ℕ) → has_row b.catalogue.branches n ≡ true → head (owned_by n c.lasts) ≡ head (owned_by n b.lasts)
+  same_lasts =
+      let Is : ℕ × (Branch × Option Moment) → Type 0 = λ it. head (owned_by it.0 c.lasts) ≡ it.1.1 in
+      of_row (λ n. head (owned_by n c.lasts) ≡ head (owned_by n b.lasts)) b.catalogue.branches (all_from_map Is (told b.lasts) (numbered b.catalogue.branches)
+      (all_moved Is _ _ same_told (all_map Is (told c.lasts) (numbered c.catalogue.branches) (all_of _ (λ it. refl) (numbered c.catalogue.branches)))))
+
 pub one_canon : (tables : TableRows) (c b : Books) → HaveBooks tables c → HaveBooks tables b → AreInOrder c → IsCanonOf c b
 one_canon tables c b s t o =
-    let branches = branch.branches tables c b s t in
     let f = s.values.catalogue in
     let g = t.values.catalogue in
     record {
@@ -26,7 +48,7 @@ one_canon tables c b s t o =
         categories = one_shared IsName table.named f.categories g.categories s.rows.categories t.rows.categories i;
         actors = one_shared IsActor table.actors f.actors g.actors s.rows.actors t.rows.actors i;
         films = one_shared IsFilm table.films f.films g.films s.rows.films t.rows.films i;
-        branches = branches i;
+        branches = sym (same_branches tables c b s t) i;
         staff = one_shared IsStaff table.staff f.staff g.staff s.rows.staff t.rows.staff i;
         rule = one_value table.chain_rule tt tt s.rows.rule t.rows.rule i;
       };
@@ -38,7 +60,7 @@ one_canon tables c b s t o =
       kept = kept.kept tables c b s t;
       consignments = sent.consignments tables c b s t o.by_key o.joined o.headers o.lines;
       in_order = o.places;
-      lasts = branch.lasts tables c b s t;
-      owners = ap (λ bs. list_all (λ (row : Owned Moment). has_row bs row.owner) c.lasts) (sym branches) ∙ o.lasts;
+      lasts = same_lasts tables c b s t;
+      owners = ap (λ bs. list_all (λ (row : Owned Moment). has_row bs row.owner) c.lasts) (same_branches tables c b s t) ∙ o.lasts;
       lasts_apart = o.lasts_apart;
     }

@@ -1,8 +1,10 @@
 -- All tables, where they stand for books, can be read.
-use Rattle.shop_schema.proofs.Common.{◌∙◌, ◌==◌, ◌&&◌, [], ◌∷◌, refl, sym, subst, all_of, IsPermutation, length_permutation, bytes_eq, Owned, Text, Cast, Books, rows_of, chain_columns, rule_columns, IsToken, IsName, IsCity, IsActor, IsFilm, IsStaff}
+use Rattle.shop_schema.proofs.Common.{◌∙◌, ◌==◌, ◌&&◌, ◌<◌, ◌^◌, [], ◌∷◌, map, IsCounted, numbered, refl, sym, subst, all_of, length_permutation, bytes_eq, Owned, Text, Cast, Books, rows_of, chain_columns, rule_columns, IsToken, IsName, IsCity, IsActor, IsFilm, IsStaff}
+use Rattle.shop_schema.proofs.Lasts.{numbered_counted}
 use Rattle.shop_schema.proofs.ShopTables as table
 use Rattle.audit_rows.specs.Ordered.{city_row, film_row, cast_row, staff_row, lot_row}
 use Rattle.audit_rows.specs.Tables.{all_tables, checked_row, checked_key}
+use Rattle.audit_rows.proofs.Maps.{length-map, map-twice}
 use Rattle.audit_rows.proofs.Tests.{different_congr}
 use Rattle.audit_tables.specs.AuditTables as audited
 use Rattle.audit_tables.specs.BranchTables.{place_of, table_of, IsKeptRow}
@@ -16,10 +18,10 @@ use Rattle.books_audit.specs.ReadInOrder.{CanBeRead}
 use Rattle.books_audit.specs.ReadLists.{AreKeyed}
 use Rattle.books_audit.proofs.Canonical.{row_test, two}
 use Rattle.books_audit.proofs.FullLists.{ones}
-use Rattle.books_audit.proofs.SameBranches.{told, as_told, told_shared}
+use Rattle.books_audit.proofs.SameBooks.{told, told_fit, told_rows}
 use Rattle.books_audit.proofs.StandKept.{kept_can_be_read}
 use Rattle.books_audit.proofs.StandKeyed.{stands_keyed}
-use Rattle.books_audit.proofs.StandPlaces.{stands_in_places}
+use Rattle.books_audit.proofs.StandPlaces.{stands_in_places, counted_stand, so_many}
 use Rattle.books_audit.proofs.StandSent.{headers_can_be_read, lines_can_be_read, can_be_joined}
 
 pub can_be_read : (tables : TableRows) (b : Books) → HaveBooks tables b → CanBeRead tables
@@ -46,8 +48,10 @@ can_be_read tables b t =
           stands_keyed table.casts cast_row (rows_in tables CASTS) all.casts fit.casts t.rows.casts (λ x. x.film ∷ x.actor ∷ [])
           (sym (different_congr (λ (x y : Cast). x.film == y.film && x.actor == y.actor) _ (λ x y. two (x.film == y.film) (x.actor == y.actor)) all.casts) ∙ t.keys.casts);
       branches =
-          stands_in_places IsTold audited.branches told_row (rows_in tables BRANCHES) (told b.lasts 1 all.branches) (told_shared b.lasts t.values.lasts all.branches fit.branches)
-          (subst (IsPermutation (rows_in tables BRANCHES)) (as_told b.lasts 1 all.branches) t.rows.branches);
+          counted_stand IsTold audited.branches told_row (rows_in tables BRANCHES) (map (told b.lasts) (numbered all.branches))
+          (subst (λ n. n < 2 ^ 32) (sym (length-map (told b.lasts) (numbered all.branches) ∙ so_many 1 all.branches)) fit.branches.0)
+          (subst (IsCounted 1) (sym (map-twice (λ it. it.0) (told b.lasts) (numbered all.branches))) (numbered_counted 1 all.branches))
+          (told_fit b.lasts all.branches t.values.lasts fit.branches) (told_rows b.lasts all.branches t.rows.branches);
       staff = stands_in_places IsStaff table.staff staff_row (rows_in tables STAFF) all.staff fit.staff t.rows.staff;
       by_table = all_of (λ n. AreKeyed (IsKeptRow n) checked_key (rows_in tables (place_of n)))
           (λ n. stands_keyed (table_of n) (checked_row n) (rows_in tables (place_of n)) (rows_of b n) (t.values.rows n) (t.rows.rows n) checked_key (sym (different_congr same_row _ row_test (rows_of b n)) ∙ t.keys.rows n))

@@ -1,5 +1,5 @@
 -- Shared rows that are joined by their numbers: `LEFT JOIN t ON t.number = key`.
-use Rattle.shop_schema.proofs.Common.{◌≡◌, ◌≤◌, ◌==◌, ◌&&◌, ◌+◌, ℕ, zero, suc, List, [], ◌∷◌, ◌++◌, map, filter, true, false, cond, refl, sym, ap, ◌∙◌, arith, flat_map, nat_tests, Null, column, or_nulls, HasRows, columns_of, number_value, or_blank, equals, left_key, left_no_key, at, numbered, numbered_from}
+use Rattle.shop_schema.proofs.Common.{◌≡◌, ◌≤◌, ◌==◌, ◌&&◌, ◌+◌, ℕ, zero, suc, List, [], ◌∷◌, ◌++◌, map, filter, true, false, not, cond, refl, sym, ap, subst, ◌∙◌, arith, AllByRecursion, all-filter, flat_map, nat_tests, Null, column, or_nulls, HasRows, columns_of, number_value, or_blank, equals, left_key, left_no_key, at, is_empty, has_row, numbered, numbered_from}
 use Rattle.sqlite_value.specs.Order.{Row}
 use Rattle.shop_schema.proofs.Lasts.{numbered_once}
 use Rattle.shop_schema.proofs.Numbered.{picked}
@@ -18,6 +18,14 @@ numbered_at {A} zero xs = none_below 1 (omega arith) xs ∙ ap (map (λ x. (0, x
     nowhere [] = refl
     nowhere (x ∷ xs) = nowhere xs
 numbered_at (suc n) xs = picked (suc n) (omega arith) xs
+
+-- what holds of the number of each row holds of that of any
+pub of_row : {A : Type 0} (P : ℕ → Type 0) (xs : List A) → AllByRecursion (λ (it : ℕ × A). P it.0) (numbered xs) → (n : ℕ) → has_row xs n ≡ true → P n
+of_row {A} P xs all n has = first (at n xs) has (subst (AllByRecursion (λ (it : ℕ × A). P it.0)) (numbered_at n xs) (all-filter (λ (it : ℕ × A). P it.0) (λ it. it.0 == n) (numbered xs) all))
+  where
+    first : (found : List A) → not (is_empty found) ≡ true → AllByRecursion (λ (it : ℕ × A). P it.0) (map (λ x. (n, x)) found) → P n
+    first [] has all = cc
+    first (x ∷ found) has all = all.0
 
 module _ {A Z : Type 0} (width : ℕ) (columns : ℕ × A → Row) (tree : List Row) (xs : List A) (has : HasRows width tree (map columns (numbered xs)))
     (numbers : (it : ℕ × A) → column (columns it) 0 ≡ number_value it.0) (first : (r : Row) → column r 1 ≡ column (columns_of width r) 0)
