@@ -79,6 +79,7 @@ module _ {Z : Type 0} (b : ℕ) (q : Rental → Bool) (terms : List (Row Terms))
 
 -- ---- what is read
 
+-- as the row of some branch, with some number
 abbrev row_of : {A : Type 0} → A → Row A
 row_of it = record { branch = 1; number = 1; it = it }
 
