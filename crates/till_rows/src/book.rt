@@ -1,6 +1,4 @@
 //! A till's book in files in memory, where words are typed.
-ghost use Rattle.std.specs.Prelude.{◌≡◌, false};
-
 use crate::disks::{Calls, Image, InMemory, NEVER, closed, crashed, disks, image_of};
 use crate::fault::Fault;
 use crate::kit::Kit;
@@ -15,7 +13,7 @@ use std::mem;
 use till_book::{BookReply, BookRows, read_book};
 use till_files::{close_book, create_book, open_book, restart_book};
 
-const NO_BOOK: Fault = Fault::Line("no book is opened");
+pub const NO_BOOK: Fault = Fault::Line("no book is opened");
 
 /// What the files of a new book hold.
 pub fn new_book<D: InMemory>(alloc: Global) -> Result<Image, Fault> {
@@ -76,9 +74,10 @@ fn count_of(rows: &BookRows) -> usize {
 }
 
 /// How many rows the book has, where it can be read.
-fn count_in<S: Alter>(alloc: Global, conn: &mut Connection<S>) -> Option<usize>
-    requires { conn.old.in_transaction ≡ false }
-{
+fn count_in<S: Alter>(alloc: Global, conn: &mut Connection<S>) -> Option<usize> {
+    if !conn.is_autocommit() {
+        return None;
+    }
     match read_book(alloc, conn) {
         Ok(rows) => {
             let count = count_of(&rows);
@@ -120,9 +119,10 @@ fn put_book<S: Alter>(
     alloc: Global,
     conn: &mut Connection<S>,
     text: &mut Vec<u8>,
-) -> Result<(), Fault>
-    requires { conn.old.in_transaction ≡ false }
-{
+) -> Result<(), Fault> {
+    if !conn.is_autocommit() {
+        return Err(NO_BOOK);
+    }
     match read_book(alloc, conn) {
         Ok(rows) => {
             let is_put = put_rows(text, &rows);
@@ -180,8 +180,8 @@ impl<D: InMemory> Book<D> {
     fn count(&mut self) -> Option<usize> {
         let alloc = self.alloc;
         match &mut self.conn {
-            Some(conn) if conn.is_autocommit() => count_in(alloc, conn),
-            _ => None,
+            Some(conn) => count_in(alloc, conn),
+            None => None,
         }
     }
 
@@ -195,8 +195,8 @@ impl<D: InMemory> Book<D> {
     ) -> Result<bool, Fault> {
         let alloc = self.alloc;
         match &mut self.conn {
-            Some(conn) if conn.is_autocommit() => type_at(alloc, world, kit, conn, line, told),
-            _ => Err(NO_BOOK),
+            Some(conn) => type_at(alloc, world, kit, conn, line, told),
+            None => Err(NO_BOOK),
         }
     }
 
@@ -268,8 +268,8 @@ impl<D: InMemory> Book<D> {
     pub fn put_text(&mut self, text: &mut Vec<u8>) -> Result<(), Fault> {
         let alloc = self.alloc;
         match &mut self.conn {
-            Some(conn) if conn.is_autocommit() => put_book(alloc, conn, text),
-            _ => Err(NO_BOOK),
+            Some(conn) => put_book(alloc, conn, text),
+            None => Err(NO_BOOK),
         }
     }
 

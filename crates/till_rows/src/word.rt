@@ -1,6 +1,7 @@
 //! A word that is typed at an open book, and what is printed of it.
 ghost use Rattle.std.specs.Prelude.{◌≡◌, false};
 
+use crate::book::NO_BOOK;
 use crate::fault::Fault;
 use crate::kit::Kit;
 use crate::line::{Counter, Line};
@@ -101,9 +102,10 @@ pub fn type_at<'x, S: Alter, C: Counter>(
     conn: &mut Connection<S>,
     line: &str,
     told: &mut Texts,
-) -> Result<bool, Fault>
-    requires { conn.old.in_transaction ≡ false }
-{
+) -> Result<bool, Fault> {
+    if !conn.is_autocommit() {
+        return Err(NO_BOOK);
+    }
     let server = Line { wire: kit.wire() };
     let desk = Desk {
         alloc,

@@ -1,21 +1,18 @@
 //! What the rows are played on: a chain in files on disks in memory, and the whole program.
 use crate::calls::call;
 use crate::disks::{InMemory, calls_of, disks};
-use crate::serving::{answer, put_replies, serve_alone, serve_by_turns};
+use crate::serving::{listen, put_replies, serve_as};
 use crate::tables::work;
 use crate::values::Values;
 use chain_calls::{connect, give_back};
 use chain_engine::{Chain, OpenFault, over_a_stop};
-use office_words::ClapWords;
-use row_player::{Calls, Come, Deed, How, Image, NEVER, Opening, Stage, Texts, Tills};
-use sakila_office::{run, serve_listener, serve_port};
+use row_player::{Calls, Deed, How, Image, NEVER, Opening, Stage, Texts, Tills};
+use sakila_office::run;
 use shop_types::{Limits, Token};
 use sqlite::{FileStore, Files};
 use std::alloc::Global;
 use std::marker::Model;
 use std::mem;
-use std::net::TcpListener;
-use std::time::Duration;
 
 /// A chain, files in which there is none, or neither.
 #[derive(Drop)]
@@ -132,27 +129,15 @@ impl<D: InMemory> Stage for Counter<D> {
         let Held::Open(chain) = &mut self.held else {
             return told.needs(false, "there is no chain yet");
         };
-        match how.come {
-            Come::Alone => serve_alone(alloc, input, how, told, chain),
-            Come::ByTurns(turns) => serve_by_turns(alloc, input, how, turns, told, chain),
-            Come::AsValues(branch) => answer(alloc, input, branch, told, chain),
-        }
+        serve_as(alloc, input, how, told, chain);
     }
 
     fn listen(&mut self, tills: &Tills<'_>, comers: u32, millis: Option<u32>) -> u8 {
-        let words = ClapWords { alloc: self.alloc };
-        let Held::Open(chain) = &mut self.held else {
-            return 3;
-        };
-        let Some(millis) = millis else {
-            return serve_port(tills, chain, 0, comers);
-        };
-        let Ok(listener) = TcpListener::bind(tills, "127.0.0.1:0") else {
-            return 3;
-        };
-        let _ = tills.play();
-        let patience = Duration::from_millis(u64::from(millis));
-        serve_listener(tills, &listener, chain, &words, comers, patience)
+        let alloc = self.alloc;
+        match &mut self.held {
+            Held::Open(chain) => listen(alloc, tills, comers, millis, chain),
+            _ => 3,
+        }
     }
 
     fn known_films(&self) -> usize {

@@ -1,14 +1,18 @@
-//! A connection to a chain, alone or by turns, and requests that are put to it as values.
+//! A connection to a chain, alone or by turns, tills side by side, and requests that are put to it as values: over any
+//! store, since a call costs a fraction where the store isn't named.
 use crate::values::Values;
 use chain_engine::Chain;
 use counter_http::{
     Connection, End, ServeFault, Standing, Switchboard, TurnFault, reply_bytes, serve,
 };
 use office_words::ClapWords;
-use row_player::{How, Pieces, Texts};
+use row_player::{Come, How, Pieces, Texts, Tills};
+use sakila_office::{serve_listener, serve_port};
 use shop_types::{BranchNo, Caller, Reply, Request, Token};
 use sqlite::Alter;
 use std::alloc::Global;
+use std::net::TcpListener;
+use std::time::Duration;
 
 /// An end's word.
 fn word_of(end: End) -> &'static str {
@@ -23,7 +27,7 @@ fn word_of(end: End) -> &'static str {
 }
 
 /// Serves a connection by turns that answer so many requests each, until no next turn is to come.
-pub fn serve_by_turns<S: Alter>(
+fn serve_by_turns<S: Alter>(
     alloc: Global,
     input: &[u8],
     how: &How,
@@ -61,7 +65,7 @@ pub fn serve_by_turns<S: Alter>(
 }
 
 /// Serves a connection alone, to its end.
-pub fn serve_alone<S: Alter>(
+fn serve_alone<S: Alter>(
     alloc: Global,
     input: &[u8],
     how: &How,
@@ -117,7 +121,7 @@ fn answer_each<S: Alter>(
 
 /// Has the requests read, and the chain answer them as values, with their tokens or as those of that branch. The replies
 /// are told, and how many there are.
-pub fn answer<S: Alter>(
+fn answer<S: Alter>(
     alloc: Global,
     input: &[u8],
     branch: Option<u32>,
@@ -135,4 +139,39 @@ pub fn answer<S: Alter>(
         },
     };
     told.needs(is_put, "the requests aren't answered");
+}
+
+/// Serves a connection to which these bytes come so, or has their requests answered as values.
+pub fn serve_as<S: Alter>(
+    alloc: Global,
+    input: &[u8],
+    how: &How,
+    told: &mut Texts,
+    chain: &mut Chain<S>,
+) {
+    match how.come {
+        Come::Alone => serve_alone(alloc, input, how, told, chain),
+        Come::ByTurns(turns) => serve_by_turns(alloc, input, how, turns, told, chain),
+        Come::AsValues(branch) => answer(alloc, input, branch, told, chain),
+    }
+}
+
+/// Serves tills side by side, each waited for so many milliseconds, or else at a port: the status.
+pub fn listen<S: Alter>(
+    alloc: Global,
+    tills: &Tills<'_>,
+    comers: u32,
+    millis: Option<u32>,
+    chain: &mut Chain<S>,
+) -> u8 {
+    let Some(millis) = millis else {
+        return serve_port(tills, chain, 0, comers);
+    };
+    let Ok(listener) = TcpListener::bind(tills, "127.0.0.1:0") else {
+        return 3;
+    };
+    let _ = tills.play();
+    let words = ClapWords { alloc };
+    let patience = Duration::from_millis(u64::from(millis));
+    serve_listener(tills, &listener, chain, &words, comers, patience)
 }
