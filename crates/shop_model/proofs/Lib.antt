@@ -34,3 +34,14 @@ pub mod RowsOfViews
 pub mod RowsOfConsignments
 pub mod RowsOfHistories
 pub mod Refusing
+pub mod StockFigures
+pub mod SalesFigures
+pub mod Balances
+pub mod Reentered
+pub mod Imports
+pub mod Arrivals
+pub mod Alike
+pub mod Interleaved
+pub mod OfficeOrder
+pub mod Swapped
+pub mod AnyOrder

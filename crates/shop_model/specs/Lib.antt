@@ -24,3 +24,6 @@ pub mod SameStates
 pub mod Laws
 pub mod Stops
 pub mod Migration
+pub mod Reentered
+pub mod Figures
+pub mod Interleaved

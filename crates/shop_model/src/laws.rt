@@ -3,6 +3,9 @@
 ghost use Rattle.shop_model.specs.Resends.{KeptRowsAreKept, RunsResend};
 ghost use Rattle.shop_model.specs.Stops.{EachActsOnce, LivesAreOneHistory, LivesFollow, ResentFirst};
 ghost use Rattle.shop_model.specs.Migration.{MigratedIsSound, SoundWithoutTerms, MigratedKeepsBalances};
+ghost use Rattle.shop_model.specs.Figures.{BalancesFollowActs, CopiesAreOfImports, HoldersAreTold, OverdueIsOut, SalesAddUp, StockIsSplit};
+ghost use Rattle.shop_model.specs.Reentered.{AcceptedAreKept, BooksAreOfAccepted, LostIsBroughtBack};
+ghost use Rattle.shop_model.specs.Interleaved.{AlikeStayAlike, AnyOrderTellsAlike, BranchesCommute, LostIsBroughtBackAlike, OfficeCommutes, OrderIsWithinViews, OrderMayDiffer};
 ghost use Rattle.shop_model.specs.Laws.{
   BranchesAreAlone,
   BranchesAreIsolated,
@@ -166,4 +169,92 @@ pub fn sound_without_terms()
 #[tactic(auto, using(crate::proofs::Migration::keeps_balances))]
 pub fn migrated_keeps_balances()
     ensures { MigratedKeepsBalances }
+{}
+
+/// The copies of a film that are here stand each in just one of two lists, those in stock and those that aren't.
+pub fn stock_is_split()
+    ensures { StockIsSplit }
+{}
+
+/// Somebody has a copy exactly where it isn't in stock, and is named: the customer of its one rental that has no return.
+pub fn holders_are_told()
+    ensures { HoldersAreTold }
+{}
+
+/// What is overdue is out, of a copy that is here, and its row names the customer who has it.
+pub fn overdue_is_out()
+    ensures { OverdueIsOut }
+{}
+
+/// A branch's sales by category add up to its sales, and head office is shown the branches' own rows.
+pub fn sales_add_up()
+    ensures { SalesAddUp }
+{}
+
+/// A rent raises its customer's balance by the film's rate, a return by a dollar for each late day, a payment lowers it by its
+/// amount, and nothing else changes one but head office's choice of the rule.
+#[tactic(auto, using(crate::proofs::Balances::follow_acts))]
+pub fn balances_follow_acts()
+    ensures { BalancesFollowActs }
+{}
+
+/// A branch has made as many copies as its accepted imports have rows, and nothing else makes one.
+#[tactic(auto, using(crate::proofs::Imports::of_imports))]
+pub fn copies_are_of_imports()
+    ensures { CopiesAreOfImports }
+{}
+
+/// The commands that were accepted, alone and in their order, make the books, and are answered as they were; so they do among
+/// any of the other events.
+pub fn books_are_of_accepted()
+    ensures { BooksAreOfAccepted }
+{}
+
+/// What is kept is what was accepted, each caller's in its order.
+#[tactic(auto, using(crate::proofs::Reentered::are_kept))]
+pub fn accepted_are_kept()
+    ensures { AcceptedAreKept }
+{}
+
+/// What was lost with a disk is brought back from a copy of it by sending the accepted commands again, all or the later ones.
+pub fn lost_is_brought_back()
+    ensures { LostIsBroughtBack }
+{}
+
+/// Two histories in which a branch sees the same leave it the same, in whatever order all else came.
+pub fn order_is_within_views()
+    ensures { OrderIsWithinViews }
+{}
+
+/// Requests of two branches may come in either order, but for a dispatch to the other and its receipt there, or a reading.
+pub fn branches_commute()
+    ensures { BranchesCommute }
+{}
+
+/// A command of a branch and one of head office may come in either order where the branch's doesn't read what the other changes.
+pub fn office_commutes()
+    ensures { OfficeCommutes }
+{}
+
+/// In books that differ only in how the branches' rows stand among one another each request but a list of arrivals, and each
+/// command of head office, is answered alike and leaves such books.
+pub fn alike_stay_alike()
+    ensures { AlikeStayAlike }
+{}
+
+/// Such requests of a history may change places, neighbour by neighbour, wherever they may come in either order: each is
+/// answered as it was, and the books are alike.
+pub fn order_may_differ()
+    ensures { OrderMayDiffer }
+{}
+
+/// They may come in any order in which none comes before one that it may not change places with: each caller is told the
+/// same, and the books are alike.
+pub fn any_order_tells_alike()
+    ensures { AnyOrderTellsAlike }
+{}
+
+/// What was lost with a disk is brought back, alike, also where it is sent again in another such order.
+pub fn lost_is_brought_back_alike()
+    ensures { LostIsBroughtBackAlike }
 {}
