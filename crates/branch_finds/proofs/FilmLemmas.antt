@@ -3,7 +3,7 @@ use Rattle.shop_schema.proofs.Common.{◌≡◌, ◌∙◌, refl, sym, ap, ℕ, 
 use Rattle.std.specs.Prelude.{◌==◌, ◌&&◌}
 use Rattle.shop_store.specs.declared.copies.CopyRow.{CopyRow}
 use Rattle.shop_store.specs.Seen.{seen_copy_row}
-use Rattle.shop_ledger.proofs.Rising.{filter_twice}
+use Rattle.shop_schema.proofs.Lists.{filter_twice}
 use Rattle.branch_core.specs.declared.film_copies.FilmCopy.{FilmCopy}
 use Rattle.branch_core.specs.Agreed.{seen_film_copy, AreOfFilm}
 use Rattle.branch_finds.specs.Finds.{copy_shown}

@@ -13,13 +13,14 @@ ghost use Rattle.branch_core.specs.Agreed.{copy_at, rental_at, seen_copy, seen_r
 use crate::known::find_film;
 use branch_core::{CopyFound, FilmCopy, RentalFound};
 use chain_caches::FilmCache;
-use consign_finds::is_here;
 use shop_ledger::out_at;
 use shop_store::copies::{CopyRow, copies_of_film, copy_now_at};
 use shop_store::customers::active_at;
 use shop_store::rentals::rental_at;
 use shop_store::rows::has_city;
-use shop_types::{BranchNo, CityNo, CopyNo, CopyState, CustomerNo, FilmNo, Rental, RentalNo};
+use shop_types::{
+    BranchNo, CityNo, CopyNo, CopyState, CustomerNo, FilmNo, Rental, RentalNo, is_here,
+};
 use sql_rows::StoreFault;
 use sqlite::{Alter, Transaction};
 use std::alloc::Global;

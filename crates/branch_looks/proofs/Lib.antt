@@ -1,3 +1,2 @@
-pub use Rattle.branch_reports.proofs.Decisions
 pub mod Shows
 pub mod Telling

@@ -6,6 +6,5 @@ mod looks;
 mod readings;
 mod work;
 
-pub use branch_finds::find_for_command;
 pub use readings::{look, reads_row};
 pub use work::{Listing, Work};

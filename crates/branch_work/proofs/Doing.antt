@@ -2,12 +2,12 @@
 use Rattle.shop_schema.proofs.Common.{◌≡◌, ◌∙◌, refl, sym, ap, subst, ℕ, true, false, List, State, Limits, lacks, Text, Command, Ask, Verdict, Again, Refused, Accepted, verdict, Request, Do, Look, Done, Sorry, reply_to, reply_by, reply_text, if_accepted, answer_of, Books, Caller, Counter, shop_of, book_done, branch_after, seen_reply, Holds}
 use Rattle.shop_model.specs.Refusals as named
 use Rattle.shop_ledger.specs.declared.answered.Answered.{Answered}
-use Rattle.branch_looks.specs.Looks.{IsShown}
+use Rattle.branch_looks.specs.Looks.{IsShown, listed}
 use Rattle.branch_looks.specs.declared.work.Listing.{Listing}
 use Rattle.branch_looks.specs.declared.work.Work.{Work}
 use Rattle.branch_looks.specs.declared.work.Work.TheVariants as work
 use Rattle.branch_work.specs.Rules.{rules_of}
-use Rattle.branch_work.specs.Works.{listed, told_to, left_by, GoesBy, IsDone, HasCome}
+use Rattle.branch_work.specs.Works.{told_to, left_by, GoesBy, IsDone, HasCome}
 
 -- ---- by the verdict, whoever asks
 

@@ -18,8 +18,7 @@ use Rattle.shop_ledger.specs.declared.answered.Answered.{Answered}
 use Rattle.shop_ledger.specs.declared.branches.Standing.{Standing}
 use Rattle.shop_ledger.specs.Standings.{HasStanding}
 use Rattle.branch_core.specs.Agreed.{Agrees, ActAgrees}
-pub use Rattle.branch_looks.specs.Told.{IsTold, IsDecision}
-pub use Rattle.branch_looks.specs.Looks.{listed, TellsDecision}
+use Rattle.branch_looks.specs.Looks.{listed}
 use Rattle.branch_looks.specs.declared.work.Listing.{Listing}
 use Rattle.branch_looks.specs.declared.work.Work.{Work}
 use Rattle.branch_looks.specs.declared.work.Work.TheVariants as work

@@ -7,7 +7,7 @@ ghost use Rattle.shop_model.specs.Machine.{Sorry};
 ghost use Rattle.shop_model.specs.Answers.{answer_of, accepted_answer};
 ghost use Rattle.shop_types.specs.Replies.{seen_reply};
 ghost use Rattle.shop_types.specs.Verdicts.{verdict_by};
-ghost use Rattle.branch_work.specs.Works.{IsDecision};
+ghost use Rattle.branch_reports.specs.Told.{IsDecision};
 
 use shop_ledger::Answered;
 use shop_types::{Refusal, Reply};

@@ -7,12 +7,15 @@ ghost use Rattle.shop_model.specs.Machine.{Do};
 ghost use Rattle.shop_types.specs.Seen.{seen_command, seen_request};
 ghost use Rattle.shop_types.specs.Replies.{seen_reply};
 ghost use Rattle.shop_schema.specs.Forms.{command_form};
-ghost use Rattle.branch_work.specs.Works.{Works, WorksFor, WorksBy, IsAdded, IsDecision, TellsDecision};
+ghost use Rattle.branch_work.specs.Works.{Works, WorksFor, WorksBy, IsAdded};
+ghost use Rattle.branch_reports.specs.Told.{IsDecision};
+ghost use Rattle.branch_looks.specs.Looks.{TellsDecision};
 
 use crate::adding::{carry_out, keep};
 use crate::answering::{again, refuse};
 use branch_core::{Found, RowsFound, decide};
-use branch_looks::{Listing, Work, find_for_command, look, reads_row};
+use branch_finds::find_for_command;
+use branch_looks::{Listing, Work, look, reads_row};
 use chain_caches::FilmCache;
 use shop_ledger::{Answered, Owner, Standing, kept_at, kept_found, standing_at};
 use shop_schema::{command_form, command_values};

@@ -3,10 +3,10 @@ use Rattle.shop_schema.proofs.Common.{◌≡◌, ◌≢◌, refl, inl, State, Li
 use Rattle.shop_types.specs.declared.request.OfficeAsk.{OfficeAsk}
 use Rattle.chain_caches.specs.Films.{AreRows, KnownFilms}
 use Rattle.branch_work.specs.Rules.{rules_of}
-use Rattle.branch_work.specs.Works.{GoesBy}
+use Rattle.branch_work.specs.Works.{GoesBy, told_to, left_by, IsHeldWith}
 use Rattle.chain_calls.specs.OfficeReads.{TellsOffice}
 use Rattle.chain_calls.specs.Chains.{Rests, widest_rules}
-use Rattle.chain_calls.specs.Steps.{told_to, left_by, IsHeldWith, IsUndone, LeavesEitherOf}
+use Rattle.chain_calls.specs.Steps.{IsUndone, LeavesEitherOf}
 
 -- head office's command goes by the verdict
 pub office_goes : (limits : Limits) (command : OfficeCommand) (books : Books)

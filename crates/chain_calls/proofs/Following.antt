@@ -4,7 +4,8 @@ use Rattle.std.specs.Prelude.{◌||◌, ◌==◌}
 use Rattle.shop_model.proofs.Origins.{all_append}
 use Rattle.branch_work.specs.Rules.{rules_of}
 use Rattle.chain_calls.specs.Holding.{Holding}
-use Rattle.chain_calls.specs.Chains.{Runs, failing}
+use Rattle.chain_calls.specs.Chains.{Runs}
+use Rattle.shop_model.specs.Stops.{failing}
 use Rattle.chain_calls.proofs.Branches.{runs_keep}
 
 -- once an answer before them was the store's failure, so are all of these

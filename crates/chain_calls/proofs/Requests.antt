@@ -11,7 +11,8 @@ use Rattle.sql_rows.specs.declared.fault.StoreFault.TheVariants as fault
 use Rattle.branch_work.specs.Rules.{rules_of}
 use Rattle.chain_calls.specs.Holding.{Chained, Holding, holding}
 use Rattle.chain_calls.specs.Chains.{Rests, IsAt, Takes, failed_at, Answers, AnswersEvent, event_of, widest_rules}
-use Rattle.chain_calls.specs.Steps.{IsAsker, IsAsked, IsMade, IsUndone, LeavesEitherOf, HasCaller, told_to, left_by}
+use Rattle.chain_calls.specs.Steps.{IsAsker, IsAsked, IsMade, IsUndone, LeavesEitherOf, HasCaller}
+use Rattle.branch_work.specs.Works.{told_to, left_by}
 use Rattle.chain_calls.specs.Audits.{AuditsState}
 use Rattle.chain_calls.specs.Decisions.{FindsCaller, FindsAudit, IsStoreRefusal, IsStoreRefusalAt, refusal_for, is_final}
 use Rattle.chain_calls.proofs.Failures.{decided_fine}

@@ -12,7 +12,8 @@ use Rattle.branch_looks.specs.declared.work.Work.{Work}
 use Rattle.branch_looks.specs.declared.work.Work.TheVariants as work
 use Rattle.chain_calls.specs.declared.reports.Report.{Report}
 use Rattle.chain_calls.specs.Reports.{shown_by, ShowsReport}
-use Rattle.chain_calls.specs.Steps.{left_by, HasCome, IsDone, Works, IsMade, IsUndone, LeavesAfter, LeavesEitherOf, LeavesMade}
+use Rattle.branch_work.specs.Works.{left_by, HasCome, IsDone}
+use Rattle.chain_calls.specs.Steps.{Works, IsMade, IsUndone, LeavesAfter, LeavesEitherOf, LeavesMade}
 
 pub holds_as : (s t : State) (books : Books) → t.now ≡ s.now → Holds s books → Holds t books
 holds_as s t books same h = record {

@@ -4,7 +4,8 @@ use Rattle.std.specs.Prelude.{◌||◌}
 use Rattle.shop_model.proofs.Callers.{known_same}
 use Rattle.branch_work.specs.Rules.{rules_of}
 use Rattle.chain_calls.specs.Holding.{Holding}
-use Rattle.chain_calls.specs.Chains.{Runs, AnswersEvent, failing}
+use Rattle.chain_calls.specs.Chains.{Runs, AnswersEvent}
+use Rattle.shop_model.specs.Stops.{failing}
 use Rattle.chain_calls.proofs.Branches.{runs_keep}
 use Rattle.chain_calls.proofs.Requests.{failed_same}
 

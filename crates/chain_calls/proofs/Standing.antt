@@ -5,7 +5,8 @@ use Rattle.shop_schema.proofs.OfficeActs.{office_values_done}
 use Rattle.stock_csv.proofs.ReadingLemmas.{stock_fits}
 use Rattle.branch_work.specs.Rules.{rules_of}
 use Rattle.chain_calls.specs.Chains.{widest_rules}
-use Rattle.chain_calls.specs.Steps.{IsAsker, IsAsked, left_by}
+use Rattle.chain_calls.specs.Steps.{IsAsker, IsAsked}
+use Rattle.branch_work.specs.Works.{left_by}
 use Rattle.chain_calls.proofs.ConsignValues.{accepted_values}
 
 pub are_held : (books : Books) → IsSound widest_rules books → AreValues books → IsHeld books

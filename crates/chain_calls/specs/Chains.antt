@@ -13,7 +13,7 @@ use Rattle.shop_model.specs.Sound.{IsSound}
 use Rattle.shop_model.specs.Office.{office_look}
 use Rattle.shop_model.specs.Histories.{IsStep, IsRun, is_store_failure, has_failed}
 use Rattle.shop_model.specs.Resends.{Resends}
-pub use Rattle.shop_model.specs.Stops.{failing}
+use Rattle.shop_model.specs.Stops.{failing}
 use Rattle.chain_calls.specs.Branches.{KeepsBranches}
 use Rattle.chain_caches.specs.Films.{AreRows}
 use Rattle.chain_caches.specs.Callers.{AreCallers}

@@ -1,4 +1,3 @@
-pub use Rattle.branch_work.specs.Rules
 pub mod Holding
 pub mod Branches
 pub mod Chains

@@ -8,7 +8,7 @@ use Rattle.shop_model.specs.Machine.{Shown, Shows, RowsAre, TransitIs}
 use Rattle.shop_model.specs.Answers.{Answer, answer_of}
 use Rattle.shop_model.specs.Books.{Books, shop_of}
 use Rattle.shop_schema.specs.Held.{IsHeld}
-use Rattle.branch_work.specs.Works.{listed}
+use Rattle.branch_looks.specs.Looks.{listed}
 use Rattle.consign_store.specs.Listed.{under_way}
 use Rattle.chain_calls.specs.declared.reports.Report.{Report}
 use Rattle.chain_calls.specs.declared.reports.Report.TheVariants.{OfBranch, Sales, Transit}

@@ -15,7 +15,7 @@ use Rattle.shop_schema.specs.Held.{IsHeld}
 use Rattle.shop_schema.specs.RowValues.{IsNumber, IsKey}
 use Rattle.shop_schema.specs.Forms.{IsCommand, IsOfficeAct}
 use Rattle.shop_schema.specs.Shop.{StandsFor, Holds, first_books}
-pub use Rattle.branch_work.specs.Works.{told_to, left_by, IsDone, HasCome, IsHeldWith, IsKnown, IsTold, IsDecision, TellsDecision}
+use Rattle.branch_work.specs.Works.{told_to, left_by, HasCome, IsKnown}
 use Rattle.branch_looks.specs.declared.work.Work.{Work}
 use Rattle.chain_calls.specs.declared.asked.Asked.{Asked}
 use Rattle.chain_calls.specs.declared.asked.Asked.TheVariants.{OfBranch, OfOffice}

@@ -5,7 +5,9 @@ ghost use Rattle.shop_model.specs.Books.{Counter, HeadOffice};
 ghost use Rattle.shop_model.specs.Machine.{Office};
 ghost use Rattle.shop_types.specs.Seen.{seen_office, seen_request};
 ghost use Rattle.sql_rows.specs.Calls.{DoesInside};
-ghost use Rattle.chain_calls.specs.Steps.{IsHeldBy, IsKnown, IsKnownFor, TellsDecision, Works, asker, asked_of};
+ghost use Rattle.chain_calls.specs.Steps.{IsHeldBy, IsKnownFor, Works, asker, asked_of};
+ghost use Rattle.branch_work.specs.Works.{IsKnown};
+ghost use Rattle.branch_looks.specs.Looks.{TellsDecision};
 
 use crate::asked::Asked;
 use crate::office_commands::answer_office;

@@ -9,7 +9,7 @@ ghost use Rattle.shop_types.specs.Replies.{seen_reply};
 ghost use Rattle.shop_schema.specs.Forms.{office_command_form};
 ghost use Rattle.branch_work.specs.Works.{Does};
 ghost use Rattle.chain_calls.specs.OfficeWorks.{WorksBeside};
-ghost use Rattle.chain_calls.specs.Steps.{IsDecision};
+ghost use Rattle.branch_reports.specs.Told.{IsDecision};
 
 use branch_work::{again, refuse};
 use catalogue_core::{Shared, decide_office};

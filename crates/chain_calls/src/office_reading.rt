@@ -9,7 +9,8 @@ ghost use Rattle.shop_model.specs.Sound.{HasCustody, is_mark, made};
 ghost use Rattle.shop_types.specs.Seen.{seen_mark};
 ghost use Rattle.shop_types.specs.Replies.{seen_reply};
 ghost use Rattle.shop_ledger.specs.Calls.{Finds};
-ghost use Rattle.chain_calls.specs.Steps.{IsDecision, IsUndone};
+ghost use Rattle.branch_reports.specs.Told.{IsDecision};
+ghost use Rattle.chain_calls.specs.Steps.{IsUndone};
 ghost use Rattle.chain_calls.specs.OfficeReads.{custody_told, TellsAudit, TellsCustody, TellsOffice};
 
 use crate::auditing::read_audit;

@@ -9,8 +9,9 @@ ghost use Rattle.shop_model.specs.Answers.{shown_text};
 ghost use Rattle.shop_types.specs.Replies.{seen_reply};
 ghost use Rattle.shop_schema.specs.Shop.{Holds};
 ghost use Rattle.shop_schema.specs.Held.{IsHeld};
-ghost use Rattle.branch_work.specs.Works.{listed};
-ghost use Rattle.chain_calls.specs.Steps.{IsDecision, IsUndone};
+ghost use Rattle.branch_looks.specs.Looks.{listed};
+ghost use Rattle.branch_reports.specs.Told.{IsDecision};
+ghost use Rattle.chain_calls.specs.Steps.{IsUndone};
 ghost use Rattle.chain_calls.specs.Reports.{shown_by, ShowsReport};
 
 use branch_work::Listing;

@@ -1,14 +1,3 @@
-pub use Rattle.chain_steps.specs.Rules
-pub use Rattle.chain_steps.specs.Holding
-pub use Rattle.chain_steps.specs.Branches
-pub use Rattle.chain_steps.specs.Chains
-pub use Rattle.chain_steps.specs.Steps
-pub use Rattle.chain_steps.specs.Decisions
-pub use Rattle.chain_steps.specs.Faults
-pub use Rattle.chain_steps.specs.Files
-pub use Rattle.chain_steps.specs.Openings
-pub use Rattle.chain_steps.specs.Reports
-pub use Rattle.chain_steps.specs.Audits
 pub mod Leaving
 pub mod Failing
 pub mod Laws

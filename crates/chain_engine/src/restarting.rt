@@ -7,10 +7,10 @@ ghost use Rattle.sqlite_wal.specs.Files.{outcomes};
 ghost use Rattle.sqlite_wal.specs.Reads.{AreClean};
 ghost use Rattle.sqlite_wal.specs.Recovery.{Image};
 ghost use Rattle.shop_model.specs.Books.{Books};
-ghost use Rattle.chain_steps.specs.Chains.{IsAt};
+ghost use Rattle.chain_calls.specs.Chains.{IsAt};
 
 use crate::chain::Chain;
-use chain_steps::OpenFault;
+use chain_calls::OpenFault;
 use shop_types::Limits;
 use sqlite::{FileStore, Files};
 use sqlite_disk::Crash;

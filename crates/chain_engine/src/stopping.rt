@@ -5,13 +5,13 @@ ghost use Rattle.sqlite.specs.State.{HasCleanDisk};
 ghost use Rattle.sqlite.specs.Files.{over_files, file_state};
 ghost use Rattle.shop_model.specs.Books.{Books};
 ghost use Rattle.shop_types.specs.Replies.{seen_reply};
-ghost use Rattle.chain_steps.specs.Rules.{rules_of};
-ghost use Rattle.chain_steps.specs.Chains.{IsAt, event_of};
+ghost use Rattle.branch_work.specs.Rules.{rules_of};
+ghost use Rattle.chain_calls.specs.Chains.{IsAt, event_of};
 ghost use Rattle.chain_engine.specs.Resumes.{Resumes};
 
 use crate::chain::Chain;
 use crate::restarting::restart;
-use chain_steps::OpenFault;
+use chain_calls::OpenFault;
 use shop_types::{Limits, NoMemory, Reply, Request, Token};
 use sqlite::FileStore;
 use sqlite_disk::Crash;

@@ -1,9 +1,0 @@
-pub use Rattle.chain_calls.proofs.Asking
-pub use Rattle.chain_calls.proofs.Failures
-pub use Rattle.chain_calls.proofs.Following
-pub use Rattle.chain_calls.proofs.NewFiles
-pub use Rattle.chain_calls.proofs.OldFiles
-pub use Rattle.chain_calls.proofs.Opening
-pub use Rattle.chain_calls.proofs.Requests
-pub use Rattle.chain_calls.proofs.Running
-pub use Rattle.chain_calls.proofs.Taking

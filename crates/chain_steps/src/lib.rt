@@ -1,6 +1,5 @@
 //! What a chain of shops does to its connection in one step: the transaction of a request, whose token it is, what an
-//! audit says, of which version its tables are, and how those of version 1 become those of this version. What the
-//! chain needs of the calls below is passed on.
+//! audit says, of which version its tables are, and how those of version 1 become those of this version.
 #![tactic(auto)]
 
 mod audits;
@@ -11,10 +10,6 @@ mod versions;
 
 pub use audits::audit_unless_failed;
 pub use callers::caller_unless_failed;
-pub use chain_calls::{
-    Asked, FirstRows, OpenFault, asked_values, connect, create, files_at, first_values, give_back,
-    in_memory, is_missing, read_office,
-};
 pub use migrations::migrate_first;
 pub use steps::step;
 pub use versions::{chain_version, examine};

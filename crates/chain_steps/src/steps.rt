@@ -4,7 +4,8 @@ ghost use Rattle.std.specs.Prelude.{◌≡◌, ◌≢◌, false, IfOk, IfErr};
 ghost use Rattle.sqlite.specs.Held.{state};
 ghost use Rattle.sqlite.specs.State.{HasCleanDisk, Survives};
 ghost use Rattle.shop_types.specs.Replies.{seen_reply};
-ghost use Rattle.chain_calls.specs.Steps.{IsDecision, IsHeldBy, IsKnownFor, IsMade, IsUndone, LeavesAfter, LeavesEitherOf, asker, asked_of};
+ghost use Rattle.branch_reports.specs.Told.{IsDecision};
+ghost use Rattle.chain_calls.specs.Steps.{IsHeldBy, IsKnownFor, IsMade, IsUndone, LeavesAfter, LeavesEitherOf, asker, asked_of};
 
 use chain_caches::FilmCache;
 use chain_calls::{Asked, Work, answer_inside, is_open, show};

@@ -6,11 +6,10 @@ ghost use Rattle.std.specs.List.{list_any};
 ghost use Rattle.sql_rows.specs.Calls.{DoesWithin};
 ghost use Rattle.shop_model.specs.Rows.{at, lacks, mem, of};
 ghost use Rattle.shop_model.specs.Values as model;
-ghost use Rattle.shop_model.specs.Stock.{in_stock, is_here};
+ghost use Rattle.shop_model.specs.Stock.{in_stock};
 ghost use Rattle.shop_model.specs.Books.{shop_of};
 ghost use Rattle.shop_ledger.specs.Calls.{Finds};
 ghost use Rattle.shop_store.specs.Seen.{seen_copy_row};
-ghost use Rattle.shop_types.specs.Seen.{seen_state};
 ghost use Rattle.branch_core.specs.Marked.{IsArrival};
 ghost use Rattle.consign_finds.specs.Finds.{AgreesAt, AreListed, copy_parcel, line_parcel};
 
@@ -19,20 +18,12 @@ use consign_store::{ConsignmentKey, LineRow, header_at, lines_of};
 use shop_ledger::{Count, CountKind, copies_out, count_of, out_at};
 use shop_store::branches::branch_manager;
 use shop_store::copies::{CopyRow, copies_in_state, copy_at};
-use shop_types::{BranchNo, ConsignmentNo, CopyNo, CopyNos, CopyState, ParcelLine, ParcelLines};
+use shop_types::{
+    BranchNo, ConsignmentNo, CopyNo, CopyNos, CopyState, ParcelLine, ParcelLines, is_here,
+};
 use sql_rows::StoreFault;
 use sqlite::{Alter, Transaction};
 use std::alloc::Global;
-
-/// Whether a copy of the state is in the shop.
-pub fn is_here(state: CopyState) -> bool
-    ensures { (film : ℕ) → result ≡ is_here (record { film = film; state = seen_state state }) }
-{
-    match state {
-        CopyState::Here => true,
-        CopyState::Sent | CopyState::Scrapped => false,
-    }
-}
 
 /// Whether the addressee is there, and what there is of the copies that are to be sent.
 pub fn find_for_dispatch<S: Alter>(

@@ -1,4 +1,3 @@
-pub use Rattle.http_messages.proofs.WriteLemmas
 pub mod KnownBytes
 mod Runs
 pub mod Serving

@@ -2,7 +2,7 @@
 use Rattle.shop_types.proofs.Common.{◌∙◌, ap, sym, map, List, flat_map, State, Input, replies, Answer, answer_of, state_of}
 use Rattle.shop_values.specs.LimitValues.{Limits}
 use Rattle.shop_model.proofs.SameStates.{told_same}
-use Rattle.chain_engine.specs.Rules.{rules_of}
+use Rattle.branch_work.specs.Rules.{rules_of}
 use Rattle.counter_http.specs.Exchanges.{text_of}
 use Rattle.counter_http.specs.Branches.{BranchesAreSentTheSame, seen_of}
 

@@ -1,7 +1,7 @@
 -- Numbers that rise, and some of a branch's rows in order of number.
 use Rattle.shop_schema.proofs.Common.{◌≡◌, ◌≢◌, ◌&&◌, ◌<◌, ◌+◌, ℕ, List, [], ◌∷◌, map, filter, length, Bool, false, cond, refl, sym, ap, subst, ◌∙◌, arith, AllByRecursion, nat_tests, sort_by, insert_sorted, filter-map, length-map, IsAscending, ascending-filter, ascending_weaker, by, Differ, Row, is_of, of, numbered_from, IsCounted, AreNumbered}
 use Rattle.std.specs.Ordering.{is_gt}
-pub use Rattle.shop_schema.proofs.Lists.{filter_twice}
+use Rattle.shop_schema.proofs.Lists.{filter_twice}
 
 module _ {X : Type 0} (number : X → ℕ) where
   abbrev pub Rises : List X → Type 0

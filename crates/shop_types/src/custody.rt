@@ -1,3 +1,7 @@
+ghost use Rattle.std.specs.Prelude.{◌≡◌, ℕ};
+ghost use Rattle.shop_model.specs.Stock.{is_here};
+ghost use Rattle.shop_types.specs.Seen.{seen_state};
+
 use shop_values::{BranchNo, ConsignmentNo, CopyNo};
 
 /// What a copy was when it came into the chain: the branch that imported it, and its number there. It keeps its mark
@@ -34,6 +38,16 @@ pub enum CopyState {
     /// Sent to another branch.
     Sent,
     Scrapped,
+}
+
+/// Whether a copy in that state is in the branch, or rented out by it.
+pub fn is_here(state: CopyState) -> bool
+    ensures { (film : ℕ) → result ≡ is_here (record { film = film; state = seen_state state }) }
+{
+    match state {
+        CopyState::Here => true,
+        CopyState::Sent | CopyState::Scrapped => false,
+    }
 }
 
 /// What became of a line of a consignment.

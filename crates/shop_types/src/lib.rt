@@ -27,7 +27,7 @@ pub use audit::Audit;
 pub use catalogue::{Actor, Branch, City, Staff};
 pub use change::Change;
 pub use command::{Act, Command};
-pub use custody::{CopyState, LineState, Mark, Place};
+pub use custody::{CopyState, LineState, Mark, Place, is_here};
 pub use film::{Features, Film, Minutes, Period, Rating};
 pub use found::{KeptFound, StaffFound};
 pub use line::{Line, LineAct, Usage};

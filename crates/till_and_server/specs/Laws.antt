@@ -12,9 +12,9 @@ use Rattle.shop_model.specs.Sound.{HasNumbers}
 use Rattle.shop_model.specs.Office.{office_look}
 use Rattle.shop_model.specs.Stops.{Lives, in_flight}
 use Rattle.counter_routes.specs.Words.{Meaning}
-use Rattle.chain_engine.specs.Rules.{rules_of}
-use Rattle.chain_engine.specs.Holding.{Chained, Holding}
-use Rattle.chain_engine.specs.Chains.{IsAt, Takes, Runs}
+use Rattle.branch_work.specs.Rules.{rules_of}
+use Rattle.chain_calls.specs.Holding.{Chained, Holding}
+use Rattle.chain_calls.specs.Chains.{IsAt, Takes, Runs}
 use Rattle.counter_http.specs.Events.{event_of}
 use Rattle.counter_http.specs.Exchanges.{Exchange, events_of, answers_of, RunsOver}
 use Rattle.counter_http.specs.Together.{Till, Mixes}

@@ -1,5 +1,5 @@
 use Rattle.shop_schema.proofs.Common.{refl, BadCsv, seen_refusal}
-use Rattle.branch_work.proofs.Decisions.{refused_told, refused_by}
+use Rattle.branch_reports.proofs.Decisions.{refused_told, refused_by}
 use Rattle.branch_work.proofs.answering.refuse.Goals as goal
 
 pub returns-in-Ok-clause-decided : goal.returns-in-Ok-clause-decided

@@ -2,7 +2,7 @@ use Rattle.shop_schema.proofs.Common.{◌≡◌, ◌≤◌, ◌∙◌, refl, ap,
 use Rattle.branch_work.specs.Rules.{rules_of}
 use Rattle.branch_work.proofs.Acted.{acted_done, out_calls}
 use Rattle.branch_work.proofs.Counting.{acted_once}
-use Rattle.branch_work.proofs.Decisions.{accepted_told}
+use Rattle.branch_reports.proofs.Decisions.{accepted_told}
 use Rattle.branch_work.proofs.requests.add.Goals as goal
 
 pub returns-clause-does : goal.returns-clause-does

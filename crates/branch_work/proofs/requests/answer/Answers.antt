@@ -2,7 +2,7 @@ use Rattle.shop_schema.proofs.Common.{◌∙◌, refl, ap, Result, Ok, IfOk-weak
 use Rattle.shop_types.specs.declared.change.Change.TheVariants as change
 use Rattle.branch_work.specs.Rules.{rules_of}
 use Rattle.branch_work.proofs.Doing.{branch_goes, again_done, accepted_done, refused_done}
-use Rattle.branch_work.proofs.Decisions.{accepted_told}
+use Rattle.branch_reports.proofs.Decisions.{accepted_told}
 use Rattle.branch_work.proofs.requests.answer.Goals as goal
 
 abbrev known : Change → Result Change Refusal

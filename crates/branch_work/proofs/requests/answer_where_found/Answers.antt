@@ -8,7 +8,7 @@ use Rattle.sql_rows.proofs.Chaining.{done_inside, first_done, first_last}
 use Rattle.branch_looks.proofs.Telling.{within_by}
 use Rattle.branch_work.specs.Works.{IsDone}
 use Rattle.branch_work.proofs.Doing.{nobody_done, kept_done, look_come}
-use Rattle.branch_work.proofs.Decisions.{refused_told}
+use Rattle.branch_reports.proofs.Decisions.{refused_told}
 use Rattle.branch_work.proofs.requests.answer_where_found.Goals as goal
 
 pub returns-in_default-clause-does : goal.returns-in_default-clause-does

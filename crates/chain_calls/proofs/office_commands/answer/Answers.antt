@@ -1,7 +1,7 @@
 use Rattle.shop_schema.proofs.Common.{◌∙◌, Ok, Result, refl, ap, subst, IfOk-weaker, some_calls, and_last, office_verdict, Change, Refusal, IsVerdict, seen_office}
 use Rattle.branch_work.specs.Rules.{rules_of}
 use Rattle.branch_work.proofs.Doing.{again_done, accepted_done, refused_done}
-use Rattle.branch_work.proofs.Decisions.{accepted_told}
+use Rattle.branch_reports.proofs.Decisions.{accepted_told}
 use Rattle.chain_calls.proofs.Asking.{office_goes}
 use Rattle.sql_rows.proofs.Chaining.{and_told}
 use Rattle.chain_calls.proofs.office_commands.answer.Goals as goal

@@ -2,7 +2,7 @@ use Rattle.shop_schema.proofs.Common.{◌≡◌, ◌∙◌, ℕ, List, [], ◌�
 use Rattle.sql_rows.proofs.Chaining.{one_call, first_done, done_inside}
 use Rattle.shop_store.specs.SharedSeen.{manager_of}
 use Rattle.chain_calls.proofs.Marks.{held_once}
-use Rattle.branch_work.proofs.Decisions.{accepted_told, refused_told}
+use Rattle.branch_reports.proofs.Decisions.{accepted_told, refused_told}
 use Rattle.chain_calls.proofs.office_reading.place_in.Goals as goal
 
 nobody : {A B : Type 0} (f : A → B) (xs : List A) → head (map f xs) ≡ None → is_empty xs ≡ true

@@ -1,6 +1,6 @@
 use Rattle.shop_schema.proofs.Common.{◌∙◌, ap, state, answer_of, accepted_answer}
 use Rattle.chain_calls.proofs.Audits.{audit_of_books}
-use Rattle.branch_work.proofs.Decisions.{accepted_told}
+use Rattle.branch_reports.proofs.Decisions.{accepted_told}
 use Rattle.chain_calls.proofs.office_reading.tell_audit.Goals as goal
 
 pub returns-in-Ok-clause-told : goal.returns-in-Ok-clause-told

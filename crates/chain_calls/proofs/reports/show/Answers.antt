@@ -1,5 +1,5 @@
 use Rattle.shop_schema.proofs.Common.{◌∙◌, ap, accepted_answer}
-use Rattle.branch_work.proofs.Decisions.{accepted_told}
+use Rattle.branch_reports.proofs.Decisions.{accepted_told}
 use Rattle.chain_calls.proofs.Resting.{looks_before}
 use Rattle.chain_calls.proofs.reports.show.Goals as goal
 

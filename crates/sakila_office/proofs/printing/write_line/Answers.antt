@@ -1,5 +1,5 @@
 use Rattle.shop_schema.proofs.Common.{[], ◌∷◌, on_err_weaker}
-use Rattle.counter_http.proofs.WriteLemmas.{OnErr-all, first_front, second_front}
+use Rattle.http_messages.proofs.WriteLemmas.{OnErr-all, first_front, second_front}
 use Rattle.sakila_office.proofs.printing.write_line.Goals as goal
 
 pub returns-in_err-write_whole-clause-err : goal.returns-in_err-write_whole-clause-err

@@ -1,9 +1,9 @@
 use Rattle.shop_schema.proofs.Common.{◌≡◌, ◌∙◌, refl, ap, subst, arith, Ok, Err, state, Failed}
-use Rattle.chain_steps.specs.Holding.{Chained}
-use Rattle.chain_steps.specs.Chains.{Takes}
-use Rattle.chain_steps.specs.Audits.{AuditsState}
-use Rattle.chain_steps.specs.Decisions.{FindsAudit}
-use Rattle.chain_steps.proofs.Requests.{audited}
+use Rattle.chain_calls.specs.Holding.{Chained}
+use Rattle.chain_calls.specs.Chains.{Takes}
+use Rattle.chain_calls.specs.Audits.{AuditsState}
+use Rattle.chain_calls.specs.Decisions.{FindsAudit}
+use Rattle.chain_calls.proofs.Requests.{audited}
 use Rattle.chain_engine.proofs.Failing.{is_live, leaves_no_more, stays_refused, look_refused, refused_fails, refused_leaves}
 use Rattle.chain_engine.proofs.chain.Chain.audit.Goals as goal
 

@@ -1,8 +1,8 @@
 use Rattle.shop_schema.proofs.Common.{◌≡◌, ◌∙◌, true, refl, sym, ap, subst, arith, Ok, Err, false≢true, Failed}
-use Rattle.chain_steps.specs.Holding.{Chained}
-use Rattle.chain_steps.specs.Chains.{Takes}
-use Rattle.chain_steps.specs.Decisions.{FindsCaller}
-use Rattle.chain_steps.proofs.Requests.{found, known_already, found_and_kept}
+use Rattle.chain_calls.specs.Holding.{Chained}
+use Rattle.chain_calls.specs.Chains.{Takes}
+use Rattle.chain_calls.specs.Decisions.{FindsCaller}
+use Rattle.chain_calls.proofs.Requests.{found, known_already, found_and_kept}
 use Rattle.chain_engine.proofs.Failing.{is_live, leaves_no_more, stays_refused, look_refused, refused_fails, refused_leaves}
 use Rattle.chain_engine.proofs.chain.Chain.caller.Goals as goal
 
