@@ -15,3 +15,9 @@ pub mod OrderedLemmas
 pub mod MarkLemmas
 pub mod CustodyLemmas
 pub mod OfBooks
+mod BranchLemmas
+mod CatalogueLemmas
+mod ConsignmentLemmas
+mod PartLemmas
+mod PlaceLemmas
+mod SoundLemmas

@@ -7,3 +7,7 @@ pub mod Canons
 pub mod Joins
 pub mod Ordered
 pub mod Marked
+pub mod Parts
+pub mod Catalogues
+pub mod Consignments
+pub mod Checked

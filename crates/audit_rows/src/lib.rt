@@ -2,13 +2,21 @@
 #![tactic(auto)]
 
 pub mod books;
+mod branches;
+mod catalogue;
+mod consignments;
 mod custody_counts;
 mod groups;
+mod held;
 mod join;
 mod laws;
+mod links;
 mod order;
+mod part;
 mod places;
 mod rows;
+mod shop;
+mod sound;
 
 pub use books::{NumberedRows, OrderedBooks, are_ordered};
 pub use custody_counts::{copies_made, copies_under, lines_under};
@@ -21,3 +29,4 @@ pub use rows::{
     CheckedBranch, CheckedCast, CheckedCity, CheckedFilm, CheckedHeader, CheckedKept, CheckedLine,
     CheckedLot, CheckedRow, CheckedStaff,
 };
+pub use sound::is_sound;

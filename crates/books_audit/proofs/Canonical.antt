@@ -5,8 +5,8 @@ use Rattle.audit_rows.specs.Lists.{Key, climbs, is_below}
 use Rattle.audit_rows.specs.Joins.{Header, header, placed, put_line, header_key}
 use Rattle.audit_rows.proofs.Keys.{below_apart, different_along}
 use Rattle.audit_rows.proofs.Canon.{ascending_from_climbs}
-use Rattle.audit_tables.specs.Columns.{IsHeader, IsPlaced}
-use Rattle.audit_tables.proofs.Ranges.{in_range}
+use Rattle.books_audit.specs.Columns.{IsHeader, IsPlaced}
+use Rattle.books_audit.proofs.Ranges.{in_range}
 use Rattle.books_audit.specs.Audits.{same_row}
 
 -- ---- keys that climb are different

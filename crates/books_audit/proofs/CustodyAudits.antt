@@ -11,11 +11,11 @@ use Rattle.audit_rows.specs.Seen.{seen_copy, seen_placed, seen_line}
 use Rattle.audit_rows.proofs.CustodyLemmas.{custody_moved}
 use Rattle.audit_rows.proofs.Standing.{same_rows}
 use Rattle.audit_rows.proofs.Transfer.{total_along}
-use Rattle.audit_tables.specs.AuditTables as audited
-use Rattle.audit_tables.specs.Columns.{placed_columns, IsPlaced}
-use Rattle.audit_tables.specs.Listed.{AreRows, IsListed}
-use Rattle.audit_tables.specs.Rows.{placed_row, IsLineRow}
-use Rattle.audit_tables.specs.BranchTables.{IsKeptRow}
+use Rattle.books_audit.specs.AuditTables as audited
+use Rattle.books_audit.specs.Columns.{placed_columns, IsPlaced}
+use Rattle.books_audit.specs.Listed.{AreRows, IsListed}
+use Rattle.books_audit.specs.Rows.{placed_row, IsLineRow}
+use Rattle.books_audit.specs.BranchTables.{IsKeptRow}
 use Rattle.audit_rows.specs.States.{line_state_again}
 use Rattle.audit_rows.specs.Tables.{CheckedOf, checked_row}
 use Rattle.audit_rows.proofs.OrderedLemmas.{copy_again}

@@ -15,11 +15,11 @@ use Rattle.audit_rows.specs.declared.rows.CheckedKept.{CheckedKept}
 use Rattle.audit_rows.proofs.JoinLemmas.{join_sound}
 use Rattle.audit_rows.proofs.Maps.{length-map}
 use Rattle.audit_rows.proofs.Standing.{all_moved}
-use Rattle.audit_tables.specs.Columns.{told_columns, IsTold, header_columns, IsHeader, placed_columns, IsPlaced}
-use Rattle.audit_tables.specs.Rows.{chain_row, rule_row, AnyRule, told_row, header_row, placed_row}
-use Rattle.audit_tables.specs.BranchTables.{place_of, row_columns}
+use Rattle.books_audit.specs.Columns.{told_columns, IsTold, header_columns, IsHeader, placed_columns, IsPlaced}
+use Rattle.books_audit.specs.Rows.{chain_row, rule_row, AnyRule, told_row, header_row, placed_row}
+use Rattle.books_audit.specs.BranchTables.{place_of, row_columns}
 use Rattle.books_audit.proofs.CustodyAudits.{placed_again}
-use Rattle.audit_tables.specs.declared.shared.RuleRow.{RuleRow}
+use Rattle.books_audit.specs.declared.shared.RuleRow.{RuleRow}
 use Rattle.books_audit.specs.declared.tables.TableRows.{TableRows}
 use Rattle.books_audit.specs.declared.tables.TheConstants.{CHAIN, COUNTRIES, LANGUAGES, CATEGORIES, CITIES, ACTORS, FILMS, CASTS, BRANCHES, STAFF, LOTS, CONSIGNMENTS, LINES, KEPT, RULE}
 use Rattle.books_audit.specs.Tables.{rows_in}

@@ -4,8 +4,8 @@ use Rattle.sqlite_value.specs.Order as sql
 use Rattle.audit_rows.proofs.JoinLemmas.{unmapped_bag}
 use Rattle.audit_rows.proofs.Maps.{map-undone}
 use Rattle.audit_rows.proofs.Standing.{all_moved}
-use Rattle.audit_tables.specs.Listed.{AreRows, IsListed, FullOf}
-use Rattle.audit_tables.proofs.Ranges.{ranged}
+use Rattle.books_audit.specs.Listed.{AreRows, IsListed, FullOf}
+use Rattle.books_audit.proofs.Ranges.{ranged}
 use Rattle.books_audit.specs.ReadLists.{RowsRead}
 
 -- the values of which so much is kept, and whose columns are the table's rows

@@ -9,7 +9,7 @@ use Rattle.audit_rows.proofs.LastLemmas.{lasts_owned, lasts_apart}
 use Rattle.audit_rows.proofs.OrderedLemmas.{rows_climb, headers_climb, lines_climb}
 use Rattle.audit_rows.proofs.ShopLemmas.{has_row_is}
 use Rattle.audit_rows.proofs.Tests.{all_congr}
-use Rattle.audit_tables.specs.BranchTables.{place_of, IsKeptRow}
+use Rattle.books_audit.specs.BranchTables.{place_of, IsKeptRow}
 use Rattle.books_audit.specs.Audits.{AreInOrder}
 use Rattle.books_audit.specs.ReadInOrder.{AreReadInOrder}
 use Rattle.books_audit.specs.ReadLists.{KeyedRead}

@@ -4,9 +4,9 @@ use Rattle.sqlite_value.specs.Order as sql
 use Rattle.audit_rows.specs.Lists.{Key}
 use Rattle.audit_rows.specs.Ordered.{kept_row}
 use Rattle.audit_rows.specs.declared.rows.CheckedKept.{CheckedKept}
-use Rattle.audit_tables.specs.Kept.{AnyKept, OfBranch, OfOffice, any_columns, AnyFits, caller_row, IsCallerRow}
-use Rattle.audit_tables.specs.declared.kept.CallerRow.{CallerRow}
-use Rattle.audit_tables.proofs.Ranges.{in_range}
+use Rattle.books_audit.specs.Kept.{AnyKept, OfBranch, OfOffice, any_columns, AnyFits, caller_row, IsCallerRow}
+use Rattle.books_audit.specs.declared.kept_rows.CallerRow.{CallerRow}
+use Rattle.books_audit.proofs.Ranges.{in_range}
 use Rattle.books_audit.specs.Keys.{office_caller, branch_caller}
 use Rattle.books_audit.specs.ReadLists.{RowsRead}
 use Rattle.books_audit.proofs.FullLists.{full_rows}

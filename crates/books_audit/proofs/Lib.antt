@@ -27,3 +27,10 @@ pub mod PairRows
 pub mod SoundKeys
 pub mod ShopAudits
 pub mod CounterRows
+pub mod RowLists
+pub mod Ranges
+pub mod KeptCells
+pub mod Ends
+pub mod PartForms
+pub mod ActLemmas
+pub mod OfficeLemmas

@@ -6,7 +6,7 @@ use Rattle.sqlite.specs.Listing.{understood}
 use Rattle.shop_schema.proofs.Lists.{◌also◌}
 use Rattle.shop_schema.proofs.Stands as stands
 use Rattle.audit_rows.specs.Tables.{each}
-use Rattle.audit_tables.specs.BranchTables.{place_of, row_columns}
+use Rattle.books_audit.specs.BranchTables.{place_of, row_columns}
 use Rattle.books_audit.specs.declared.tables.TheConstants.{CHAIN, COUNTRIES, LANGUAGES, CATEGORIES, CITIES, ACTORS, FILMS, CASTS, BRANCHES, STAFF, CUSTOMERS, COPIES, RENTALS, PAYMENTS, LOTS, CONSIGNMENTS, LINES, KEPT, COUNTERS, OUTS, PAIRS, TERMS, RULE, CHAIN_TEXT, COPIES_TEXT, LINES_TEXT, OTHER_TEXTS}
 use Rattle.books_audit.specs.declared.tables.TableRows.{TableRows}
 use Rattle.books_audit.specs.Audits.{HaveRowsOf, HaveCountsOf}

@@ -4,7 +4,7 @@ use Rattle.shop_schema.proofs.OneRow.{same_row}
 use Rattle.shop_schema.proofs.Lasts.{last_fits}
 use Rattle.audit_rows.proofs.Maps.{map-twice}
 use Rattle.audit_rows.proofs.Standing.{same_rows, one_numbered}
-use Rattle.audit_tables.specs.Columns.{told_columns, IsTold}
+use Rattle.books_audit.specs.Columns.{told_columns, IsTold}
 use Rattle.books_audit.proofs.FullLists.{each_shared}
 use Rattle.sqlite_value.specs.Order as sql
 

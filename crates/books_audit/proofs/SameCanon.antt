@@ -6,8 +6,8 @@ use Rattle.shop_schema.proofs.ShopTables as table
 use Rattle.audit_rows.specs.Canons.{IsCanonOf}
 use Rattle.audit_rows.proofs.Maps.{map-undone}
 use Rattle.audit_rows.proofs.Standing.{all_moved, one_numbered}
-use Rattle.audit_tables.specs.AuditTables as audited
-use Rattle.audit_tables.specs.BranchTables.{table_of}
+use Rattle.books_audit.specs.AuditTables as audited
+use Rattle.books_audit.specs.BranchTables.{table_of}
 use Rattle.books_audit.specs.declared.tables.TableRows.{TableRows}
 use Rattle.books_audit.specs.Audits.{HaveBooks, AreInOrder}
 use Rattle.books_audit.proofs.SameBooks.{one_shared, one_bag, one_value, told, told_fit, told_rows}

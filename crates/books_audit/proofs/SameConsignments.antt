@@ -6,9 +6,9 @@ use Rattle.audit_rows.specs.Joins.{Header, header_key, placed_key, header, place
 use Rattle.audit_rows.proofs.Canon.{ascending_from_climbs}
 use Rattle.audit_rows.proofs.JoinLemmas.{join_again, join_complete, unmapped_ascending}
 use Rattle.audit_rows.proofs.Standing.{same_rows}
-use Rattle.audit_tables.specs.AuditTables as audited
-use Rattle.audit_tables.specs.Columns.{header_columns, IsHeader, placed_columns, IsPlaced}
-use Rattle.audit_tables.proofs.Ranges.{ranged}
+use Rattle.books_audit.specs.AuditTables as audited
+use Rattle.books_audit.specs.Columns.{header_columns, IsHeader, placed_columns, IsPlaced}
+use Rattle.books_audit.proofs.Ranges.{ranged}
 use Rattle.books_audit.specs.declared.tables.TableRows.{TableRows}
 use Rattle.books_audit.specs.declared.tables.TheConstants.{CONSIGNMENTS, LINES}
 use Rattle.books_audit.specs.Tables.{rows_in}

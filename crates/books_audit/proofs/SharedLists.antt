@@ -1,9 +1,9 @@
 -- Tables of shared rows stand for lists.
 use Rattle.shop_schema.proofs.Common.{◌≡◌, ◌<◌, ◌≤◌, ◌+◌, ◌-◌, ◌==◌, ◌^◌, ◌++◌, ℕ, List, [], ◌∷◌, map, length, false, Option, Some, None, refl, sym, ap, subst, ◌∙◌, arith, IsPermutation, length_permutation, IfSome, if◌then◌else◌, AllByRecursion, all_map, all_weaker, nat_tests, map-map, Moment, IsMoment, Owned, IsCounted, numbered, numbered_from, at, owned_by, Branch, head, branch_columns, IsShared, AreShared, IsLast, IsBranch}
 use Rattle.sqlite_value.specs.Order as sql
-use Rattle.audit_tables.specs.Rows.{shared_row, told_row, IsSharedRow}
-use Rattle.audit_tables.specs.declared.shared.SharedRow.{SharedRow}
-use Rattle.audit_tables.specs.Columns.{told_columns, IsTold}
+use Rattle.books_audit.specs.Rows.{shared_row, told_row, IsSharedRow}
+use Rattle.books_audit.specs.declared.shared.SharedRow.{SharedRow}
+use Rattle.books_audit.specs.Columns.{told_columns, IsTold}
 use Rattle.audit_rows.specs.Ordered.{last_of, lasts_from}
 use Rattle.audit_rows.specs.declared.rows.CheckedBranch.{CheckedBranch}
 use Rattle.audit_rows.proofs.LastLemmas.{last_at, last_in}

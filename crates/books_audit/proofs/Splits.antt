@@ -1,11 +1,11 @@
 -- Rows moved one by one into one of two lists.
 use Rattle.shop_schema.proofs.Common.{◌≡◌, ◌≤◌, ◌==◌, ◌++◌, ℕ, Bool, true, false, List, [], ◌∷◌, length, map, Some, None, refl, sym, subst, arith, IsPermutation, if◌then◌else◌, nat_tests, IsNumber, IsPermutation-refl, IsPermutation-trans, IsPermutation-sym, IsPermutation-append, IsPermutation-middle, append-nil, append_assoc, map_push}
 use Rattle.sqlite_value.specs.Order as sql
-use Rattle.audit_tables.specs.Listed.{AreRows}
-use Rattle.audit_tables.proofs.Ranges.{ranged}
+use Rattle.books_audit.specs.Listed.{AreRows}
+use Rattle.books_audit.proofs.Ranges.{ranged}
 use Rattle.audit_rows.specs.Lists.{Key}
 use Rattle.audit_rows.specs.declared.rows.CheckedKept.{CheckedKept}
-use Rattle.audit_tables.specs.declared.kept.CallerRow.{CallerRow}
+use Rattle.books_audit.specs.declared.kept_rows.CallerRow.{CallerRow}
 use Rattle.books_audit.specs.Keys.{office_caller, branch_caller}
 
 module _ {X : Type 0} where

@@ -6,10 +6,10 @@ use Rattle.audit_rows.specs.Ordered.{city_row, film_row, cast_row, staff_row, lo
 use Rattle.audit_rows.specs.Tables.{all_tables, checked_row, checked_key}
 use Rattle.audit_rows.proofs.Maps.{length-map, map-twice}
 use Rattle.audit_rows.proofs.Tests.{different_congr}
-use Rattle.audit_tables.specs.AuditTables as audited
-use Rattle.audit_tables.specs.BranchTables.{place_of, table_of, IsKeptRow}
-use Rattle.audit_tables.specs.Columns.{IsTold}
-use Rattle.audit_tables.specs.Rows.{AnyRule, chain_row, rule_row, told_row}
+use Rattle.books_audit.specs.AuditTables as audited
+use Rattle.books_audit.specs.BranchTables.{place_of, table_of, IsKeptRow}
+use Rattle.books_audit.specs.Columns.{IsTold}
+use Rattle.books_audit.specs.Rows.{AnyRule, chain_row, rule_row, told_row}
 use Rattle.books_audit.specs.declared.tables.TableRows.{TableRows}
 use Rattle.books_audit.specs.declared.tables.TheConstants.{CHAIN, COUNTRIES, LANGUAGES, CATEGORIES, CITIES, ACTORS, FILMS, CASTS, BRANCHES, STAFF, LOTS, RULE}
 use Rattle.books_audit.specs.Tables.{rows_in}

@@ -1,8 +1,8 @@
 -- The table of kept commands, where it stands for books, can be read.
 use Rattle.shop_schema.proofs.Common.{◌≡◌, ◌∙◌, List, [], ◌∷◌, ◌++◌, map, true, refl, sym, ap, IsPermutation, AllByRecursion, bytes_eq, IsPermutation-sym, IsPermutation-trans, Owned, are_different, Kept, OfficeKept, Books, kept_rows, IsNumber, IsKept, IsOfficeKept}
-use Rattle.audit_tables.specs.Listed.{AreRows, IsListed}
-use Rattle.audit_tables.specs.Kept.{OfBranch, OfOffice, caller_row, IsCallerRow}
-use Rattle.audit_tables.specs.declared.kept.CallerRow.{CallerRow}
+use Rattle.books_audit.specs.Listed.{AreRows, IsListed}
+use Rattle.books_audit.specs.Kept.{OfBranch, OfOffice, caller_row, IsCallerRow}
+use Rattle.books_audit.specs.declared.kept_rows.CallerRow.{CallerRow}
 use Rattle.audit_rows.specs.Lists.{Key}
 use Rattle.audit_rows.specs.Canons.{office_key}
 use Rattle.audit_rows.specs.Ordered.{kept_row}

@@ -5,7 +5,7 @@ use Rattle.shop_schema.proofs.OneRow.{same_row}
 use Rattle.audit_rows.specs.Lists.{Key}
 use Rattle.audit_rows.proofs.Keys.{different_along, different-map, bytes_eq_symm}
 use Rattle.audit_rows.proofs.Standing.{same_rows}
-use Rattle.audit_tables.specs.Listed.{AreRows, FullOf}
+use Rattle.books_audit.specs.Listed.{AreRows, FullOf}
 use Rattle.books_audit.proofs.FullLists.{fulls, seen_all, ones}
 use Rattle.books_audit.specs.ReadLists.{AreKeyed}
 

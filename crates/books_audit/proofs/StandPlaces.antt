@@ -6,9 +6,9 @@ use Rattle.shop_schema.proofs.OneRow.{same_row}
 use Rattle.audit_rows.proofs.Canon.{counted_ascends}
 use Rattle.audit_rows.proofs.Maps.{length-map, map-twice}
 use Rattle.audit_rows.proofs.Standing.{same_rows}
-use Rattle.audit_tables.specs.Listed.{AreRows}
-use Rattle.audit_tables.specs.Rows.{shared_row, IsSharedRow}
-use Rattle.audit_tables.specs.declared.shared.SharedRow.{SharedRow}
+use Rattle.books_audit.specs.Listed.{AreRows}
+use Rattle.books_audit.specs.Rows.{shared_row, IsSharedRow}
+use Rattle.books_audit.specs.declared.shared.SharedRow.{SharedRow}
 use Rattle.books_audit.proofs.FullLists.{fulls, ones, each_shared}
 use Rattle.books_audit.specs.ReadLists.{AreInPlaces}
 

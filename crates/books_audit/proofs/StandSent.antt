@@ -1,9 +1,9 @@
 -- The tables of consignments, where they stand for books, can be read in the order of their keys and joined.
 use Rattle.shop_schema.proofs.Common.{◌≡◌, ◌∙◌, ◌+◌, ◌<◌, ◌==◌, ◌&&◌, ◌||◌, ℕ, List, [], ◌∷◌, ◌++◌, map, not, Bool, true, false, refl, sym, ap, arith, IsPermutation, AllByRecursion, flat_map, list_any, bytes_eq, nat_tests, IsPermutation-map, IsPermutation-sym, IsPermutation-trans, map-map, numbered_from, are_different, Books, Line, Consignment}
 use Rattle.std.proofs.lemmas.List.Folds.{list_any-append}
-use Rattle.audit_tables.specs.Listed.{AreRows}
-use Rattle.audit_tables.specs.AuditTables as audited
-use Rattle.audit_tables.specs.Rows.{header_row, IsHeaderRow, placed_row, IsLineRow}
+use Rattle.books_audit.specs.Listed.{AreRows}
+use Rattle.books_audit.specs.AuditTables as audited
+use Rattle.books_audit.specs.Rows.{header_row, IsHeaderRow, placed_row, IsLineRow}
 use Rattle.audit_rows.specs.Lists.{climbs}
 use Rattle.audit_rows.specs.Joins.{Header, Placed, header, placed, put_line, header_key, placed_key}
 use Rattle.audit_rows.specs.Seen.{seen_header, seen_placed}

@@ -1,7 +1,7 @@
 -- Rows of three numbers are their keys.
 use Rattle.shop_schema.proofs.Common.{◌≡◌, ◌∙◌, ◌≤◌, ℕ, List, [], ◌∷◌, map, length, Bool, true, false, refl, sym, ap, subst, subst₂, arith, IsPermutation, AllByRecursion, all_of, all-map, bytes_eq, bytes_eq-Decides, IsPermutation-refl, IsPermutation-trans, IsPermutation-sym, IsPermutation-cons, IsPermutation-middle, IsPermutation-map, map-map, column, number_value, one, pair_columns, Pair}
 use Rattle.sqlite_value.specs.Order as sql
-use Rattle.audit_tables.specs.Listed.{AreRows}
+use Rattle.books_audit.specs.Listed.{AreRows}
 use Rattle.audit_rows.specs.Lists.{Key, count, SameCounts}
 use Rattle.audit_rows.proofs.Bags.{count_along}
 use Rattle.audit_rows.proofs.Standing.{same_bag_of, all_moved}

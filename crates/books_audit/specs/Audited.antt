@@ -9,7 +9,7 @@ use Rattle.shop_model.specs.Sound.{rows_made, rows_in, lines_in}
 use Rattle.shop_schema.specs.RowValues.{IsRow, IsCopy, copy_columns}
 use Rattle.audit_rows.specs.Joins.{Placed}
 use Rattle.audit_rows.specs.Marked.{AreInCustody, any_mark}
-use Rattle.audit_tables.specs.Columns.{placed_columns, IsPlaced}
+use Rattle.books_audit.specs.Columns.{placed_columns, IsPlaced}
 use Rattle.shop_types.specs.declared.audit.Audit.{Audit}
 
 -- the rows are those of these copies and of these lines, in any order

@@ -21,7 +21,7 @@ use Rattle.shop_schema.specs.Held.{AreValues}
 use Rattle.shop_schema.specs.Shop.{AreTermed}
 use Rattle.books_audit.specs.declared.tables.TableRows.{TableRows}
 use Rattle.shop_types.specs.declared.audit.Audit.{Audit}
-use Rattle.audit_tables.specs.BranchTables.{place_of, row_columns}
+use Rattle.books_audit.specs.BranchTables.{place_of, row_columns}
 use Rattle.books_audit.specs.Audited.{CountsCustody, CountsNothing}
 use Rattle.books_audit.specs.Tables.{rows_in}
 use Rattle.books_audit.specs.declared.tables.TheConstants.{CHAIN, COUNTRIES, LANGUAGES, CATEGORIES, CITIES, ACTORS, FILMS, CASTS, BRANCHES, STAFF, LOTS, CONSIGNMENTS, LINES, KEPT, COUNTERS, OUTS, PAIRS, RULE}

@@ -6,9 +6,9 @@ use Rattle.shop_model.specs.Links.{are_different}
 use Rattle.shop_schema.specs.RowValues.{IsNumber}
 use Rattle.audit_rows.specs.Lists.{Key, climbs}
 use Rattle.audit_rows.specs.declared.rows.CheckedKept.{CheckedKept}
-use Rattle.audit_tables.specs.Listed.{AreRows, IsListed}
-use Rattle.audit_tables.specs.Kept.{IsCallerRow}
-use Rattle.audit_tables.specs.declared.kept.CallerRow.{CallerRow}
+use Rattle.books_audit.specs.Listed.{AreRows, IsListed}
+use Rattle.books_audit.specs.Kept.{IsCallerRow}
+use Rattle.books_audit.specs.declared.kept_rows.CallerRow.{CallerRow}
 use Rattle.books_audit.specs.ReadLists.{RowsRead}
 use Rattle.books_audit.specs.Tables.{rows_in}
 use Rattle.books_audit.specs.declared.tables.TableRows.{TableRows}

@@ -7,3 +7,11 @@ pub mod ReadInOrder
 pub mod Triples
 pub mod Shops
 pub mod Tables
+pub mod Listed
+pub mod Columns
+pub mod Rows
+pub mod BranchTables
+pub mod Kept
+pub mod TableRows
+pub mod AuditTables
+pub mod Forms

@@ -8,9 +8,9 @@ use Rattle.audit_rows.specs.Tables.{OfEach, checked_rows, checked_key}
 use Rattle.audit_rows.specs.declared.books.OrderedBooks.{OrderedBooks}
 use Rattle.audit_rows.specs.declared.rows.CheckedHeader.{CheckedHeader}
 use Rattle.audit_rows.specs.declared.rows.CheckedLine.{CheckedLine}
-use Rattle.audit_tables.specs.BranchTables.{place_of, IsKeptRow}
-use Rattle.audit_tables.specs.Rows.{IsChainRow, IsRuleRow, IsNamedRow, IsCityRow, IsActorRow, IsFilmRow, IsCastRow, IsBranchRow, IsStaffRow, IsLotRow, IsHeaderRow, IsLineRow}
-use Rattle.audit_tables.specs.declared.shared.RuleRow.{RuleRow}
+use Rattle.books_audit.specs.BranchTables.{place_of, IsKeptRow}
+use Rattle.books_audit.specs.Rows.{IsChainRow, IsRuleRow, IsNamedRow, IsCityRow, IsActorRow, IsFilmRow, IsCastRow, IsBranchRow, IsStaffRow, IsLotRow, IsHeaderRow, IsLineRow}
+use Rattle.books_audit.specs.declared.shared.RuleRow.{RuleRow}
 use Rattle.books_audit.specs.Keys.{KeptAreRead, KeptCanBeRead}
 use Rattle.books_audit.specs.ReadLists.{RowsRead, IsSingle, KeyedRead, AreKeyed, PlacesRead, AreInPlaces}
 use Rattle.books_audit.specs.Tables.{rows_in}

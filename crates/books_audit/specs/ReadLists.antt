@@ -8,7 +8,7 @@ use Rattle.sqlite_value.specs.Order as sql
 use Rattle.shop_model.specs.Links.{are_different}
 use Rattle.shop_model.specs.Rows.{IsCounted}
 use Rattle.audit_rows.specs.Lists.{Key, climbs}
-use Rattle.audit_tables.specs.Listed.{AreRows, IsListed}
+use Rattle.books_audit.specs.Listed.{AreRows, IsListed}
 
 -- what was kept of a table's rows, in another order
 pub record RowsRead {X : Type 0} (Is : X → sql.Row → Type 0) (table : List sql.Row) (kept : List X) : Type 0 where

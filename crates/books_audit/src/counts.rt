@@ -11,10 +11,10 @@ ghost use Rattle.audit_rows.specs.declared.rows.CheckedHeader.{CheckedHeader};
 ghost use Rattle.books_audit.specs.Read.{HaveCounts, are_termed, counters_in, counts_of_branch, outs_among, pairs_among};
 ghost use Rattle.books_audit.specs.Triples.{IsWhole, IsTriple, OneTriple, triple_columns, seen_pair, AreMany, AreTallies};
 
+use crate::listed::{Listed, read_rows};
 use crate::tables::{COUNTERS, OUTS, PAIRS, TableRows};
 use audit_rows::books::CheckedTerms;
 use audit_rows::{CheckedHeader, CheckedRow, Keyed, OrderedBooks, Owned, same_bag};
-use audit_tables::{Listed, read_rows};
 use shop_types::{NoMemory, Rental};
 use sql_rows::{StoreFault, fault_of};
 use sqlite::Row;

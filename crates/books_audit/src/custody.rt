@@ -7,10 +7,10 @@ ghost use Rattle.shop_schema.specs.Shop.{IsShop};
 ghost use Rattle.audit_rows.specs.Seen.{seen_copy, seen_line};
 ghost use Rattle.books_audit.specs.Audited.{AuditsRows, CountsCustody, IsCustodyAudit};
 
+use crate::listed::read_rows;
 use crate::tables::{COPIES_TEXT, LINES_TEXT, read_whole};
 use audit_rows::books::CheckedCopy;
 use audit_rows::{CheckedLine, CheckedRow, are_in_custody, copies_made, copies_under, lines_under};
-use audit_tables::read_rows;
 use shop_types::{Audit, CopyState, LineState, NoMemory};
 use sql_rows::StoreFault;
 use sqlite::{Alter, Row, Transaction};

@@ -6,10 +6,11 @@ ghost use Rattle.shop_schema.specs.RowValues.{IsNumber};
 ghost use Rattle.audit_rows.specs.declared.rows.CheckedKept.{CheckedKept};
 ghost use Rattle.books_audit.specs.Keys.{office_caller, branch_caller, KeptAreRead, KeptCanBeRead};
 
+use crate::kept_rows::CallerRow;
+use crate::listed::read_rows;
 use crate::lists::Unread;
 use crate::tables::{KEPT, TableRows};
 use audit_rows::{CheckedKept, climbs, sort_rows};
-use audit_tables::{CallerRow, read_rows};
 use shop_types::{BranchNo, Key, NoMemory};
 use std::alloc::Global;
 

@@ -7,9 +7,10 @@ ghost use Rattle.audit_rows.specs.Lists.{counts_from};
 ghost use Rattle.books_audit.specs.ReadLists.{RowsRead, IsSingle, KeyedRead, AreKeyed, PlacesRead, AreInPlaces};
 ghost use Rattle.books_audit.specs.Tables.{rows_in};
 
+use crate::listed::{Listed, read_rows};
+use crate::shared::SharedRow;
 use crate::tables::TableRows;
 use audit_rows::{Keyed, climbs, sort_rows};
-use audit_tables::{Listed, SharedRow, read_rows};
 use shop_types::NoMemory;
 use std::alloc::Global;
 

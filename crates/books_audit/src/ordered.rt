@@ -5,8 +5,7 @@ ghost use Rattle.audit_rows.specs.Ordered.{AreOrdered};
 ghost use Rattle.books_audit.specs.Read.{AuditsOrdered};
 
 use crate::custody::counted;
-use audit_checks::is_sound;
-use audit_rows::OrderedBooks;
+use audit_rows::{OrderedBooks, is_sound};
 use shop_types::{Audit, NoMemory};
 use std::alloc::Global;
 

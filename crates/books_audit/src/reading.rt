@@ -5,12 +5,12 @@ ghost use Rattle.books_audit.specs.ReadInOrder.{AreReadInOrder, CanBeRead};
 
 use crate::kept::{Keys, read_kept};
 use crate::lists::{Unread, read_keyed, read_one, read_shared};
+use crate::shared::{ChainRow, RuleRow, SharedRow};
 use crate::tables::{
     ACTORS, BRANCHES, CASTS, CATEGORIES, CHAIN, CITIES, CONSIGNMENTS, COPIES, COUNTRIES, CUSTOMERS,
     FILMS, LANGUAGES, LINES, LOTS, PAYMENTS, RENTALS, RULE, STAFF, TERMS, TableRows,
 };
 use audit_rows::{CheckedBranch, CheckedCity, CheckedFilm, CheckedStaff, OrderedBooks, are_joined};
-use audit_tables::{ChainRow, RuleRow, SharedRow};
 use shop_types::T45;
 use std::alloc::Global;
 

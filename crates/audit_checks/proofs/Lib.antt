@@ -1,6 +1,0 @@
-mod BranchLemmas
-mod CatalogueLemmas
-mod ConsignmentLemmas
-mod PartLemmas
-mod PlaceLemmas
-mod SoundLemmas

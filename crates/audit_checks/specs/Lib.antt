@@ -1,4 +1,0 @@
-pub mod Parts
-pub mod Catalogues
-pub mod Consignments
-pub mod Checked

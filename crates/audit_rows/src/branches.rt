@@ -1,0 +1,48 @@
+//! One branch after another, over rows in the order of their branches.
+
+ghost use Rattle.std.specs.Prelude.{◌≡◌};
+ghost use Rattle.audit_rows.specs.Parts.{rows_of, front_rows, AreBehind};
+
+use crate::{CheckedHeader, CheckedKept, CheckedLot, NumberedRows, split_branch};
+
+/// What one branch has: its rows, and how many lots, kept commands and consignments that it sent.
+#[derive(Clone, Copy)]
+pub struct Part<'a> {
+    pub rows: NumberedRows<'a>,
+    pub lots: usize,
+    pub kept: usize,
+    pub sent: usize,
+}
+
+/// The rows of all branches behind those that were taken.
+#[derive(Clone, Copy)]
+pub struct Rest<'a> {
+    pub rows: NumberedRows<'a>,
+    pub lots: &'a [CheckedLot],
+    pub kept: &'a [CheckedKept],
+    pub headers: &'a [CheckedHeader],
+}
+
+/// What the branch has in front, and all behind it.
+pub fn take_branch<'a>(rest: Rest<'a>, branch: u32) -> (Part<'a>, Rest<'a>)
+    ensures part { rows_of result.0 ≡ front_rows rest.entry branch }
+    ensures more { AreBehind rest.entry result.1 branch }
+{
+    let (rows, more) = rest.rows.split(branch);
+    let (lots, more_lots) = split_branch(rest.lots, branch);
+    let (kept, more_kept) = split_branch(rest.kept, branch);
+    let (sent, headers) = split_branch(rest.headers, branch);
+    let part = Part {
+        rows,
+        lots: lots.len(),
+        kept: kept.len(),
+        sent: sent.len(),
+    };
+    let more = Rest {
+        rows: more,
+        lots: more_lots,
+        kept: more_kept,
+        headers,
+    };
+    (part, more)
+}

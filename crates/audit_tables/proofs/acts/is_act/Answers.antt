@@ -1,8 +1,0 @@
-use Rattle.audit_tables.proofs.ActLemmas.{is_act_form}
-use Rattle.audit_tables.proofs.acts.is_act.Goals as goal
-
-pub returns : goal.returns
-returns c =
-    let it = is_act_form c.args.bytes.now in
-    let one = c.is_one_of.ensures in
-    (λ h. it.0 (one.0 h), λ f. one.1 (it.1 f))

@@ -1,5 +1,0 @@
-use Rattle.audit_tables.proofs.RowLists.{all_kept}
-use Rattle.audit_tables.proofs.listed.read_rows.Goals as goal
-
-pub returns-clause-found : goal.returns-clause-found
-returns-clause-found g c = all_kept g.T.Listed.is_row c.loop-row.all.items c.args.rows.now c.loop-row.row-index c.loop-row-test.false c.loop-row.invariant

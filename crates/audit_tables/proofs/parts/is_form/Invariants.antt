@@ -1,6 +1,0 @@
-use Rattle.std.proofs.Common.{◌↔◌, drop}
-use Rattle.audit_tables.specs.Forms.{IsForm}
-use Rattle.audit_tables.proofs.parts.is_form.Given as goal
-
-abbrev pub invariant-loop-part : goal.invariant-loop-part
-invariant-loop-part l = IsForm (drop l.part-index l.parts) l.rest ↔ IsForm l.parts l.fn.bytes

@@ -1,6 +1,0 @@
-use Rattle.std.proofs.Common.{◌≡◌, ◌+◌, ℕ}
-use Rattle.audit_tables.proofs.Ends.{EachLeft}
-use Rattle.audit_tables.proofs.parts.skip_each.Given as goal
-
-abbrev pub invariant-loop : goal.invariant-loop
-invariant-loop l = (left : ℕ) → left + l.counter ≡ l.count → EachLeft l.bytes l.count l.rest left

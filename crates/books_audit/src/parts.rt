@@ -1,0 +1,297 @@
+//! A form is judged part after part, each of which shows where it ends, so that no value is made and no memory is
+//! taken.
+
+ghost use Rattle.std.specs.Prelude.{◌≡◌, ◌≢◌, ◌↔◌, ◌++◌, IsTrue, ℕ, List, IfSome, IfNone, length, map};
+ghost use Rattle.shop_schema.specs.Forms.{number_form, text_form, AreNumbers, AreBytes};
+ghost use Rattle.books_audit.specs.Forms.{IsPartForm, IsForm, IsOneOf, form_of_each};
+
+use crate::texts::{are_features, is_key, is_rating, is_text, is_utf8};
+use shop_types::{Moment, Token};
+
+/// A part of a stored form.
+#[derive(Clone, Copy)]
+pub(crate) enum Part {
+    /// A number from the one to the other.
+    Number(u32, u32),
+    /// A text of so many bytes, from the one to the other, with no control byte.
+    Text(usize, usize),
+    /// A key, or the name of a lot.
+    Key,
+    /// The token of a branch or of head office.
+    Token,
+    /// A film's rating.
+    Rating,
+    /// A film's special features.
+    Features,
+    /// So many bytes at most.
+    Bytes(usize),
+    /// A truth value.
+    Flag,
+    /// The truth value false.
+    Unset,
+    /// A moment.
+    Moment,
+    /// So many numbers of rows at most.
+    Numbers(u32),
+    /// A number from the one to the other, or none.
+    Optional(u32, u32),
+}
+
+// ---- numbers and texts
+
+/// The number at the front, and what follows it.
+fn number_at(bytes: &[u8]) -> Option<(u32, &[u8])>
+    ensures found { IfSome result (λ x. bytes.now ≡ number_form x.0 ++ x.1.now) }
+    ensures none { IfNone result ((n : ℕ) (rest : List ℕ) → bytes.now ≢ number_form n ++ rest) }
+{
+    match bytes {
+        [a, b, c, d, rest @ ..] => {
+            let low = *a as u32 + 256 * (*b as u32);
+            let high = *c as u32 + 256 * (*d as u32);
+            Some((low + 65_536 * high, rest))
+        }
+        _ => None,
+    }
+}
+
+/// The text at the front, and what follows it.
+fn text_at(bytes: &[u8]) -> Option<(&[u8], &[u8])>
+    ensures found { IfSome result (λ x. bytes.now ≡ text_form x.0.now ++ x.1.now) }
+    ensures none { IfNone result ((t : List ℕ) (rest : List ℕ) → bytes.now ≢ text_form t ++ rest) }
+{
+    let (count, rest) = number_at(bytes)?;
+    let count = count as usize;
+    if rest.len() < count {
+        return None;
+    }
+    Some(rest.split_at(count))
+}
+
+// ---- parts
+
+/// What follows the number at the front, where it is within these bounds.
+fn skip_number(low: u32, high: u32, bytes: &[u8]) -> Option<&[u8]>
+    ensures found { IfSome result (λ rest. (piece : List ℕ) × IsPartForm (Part.Number low high) piece
+        × (bytes.now ≡ piece ++ rest.now)) }
+    ensures none { IfNone result ((piece rest : List ℕ) → IsPartForm (Part.Number low high) piece
+        → bytes.now ≢ piece ++ rest) }
+{
+    let (number, rest) = number_at(bytes)?;
+    if low <= number && number <= high {
+        Some(rest)
+    } else {
+        None
+    }
+}
+
+/// What follows the text at the front, where it is of so many bytes.
+fn skip_text(low: usize, high: usize, bytes: &[u8]) -> Option<&[u8]>
+    ensures found { IfSome result (λ rest. (piece : List ℕ) × IsPartForm (Part.Text low high) piece
+        × (bytes.now ≡ piece ++ rest.now)) }
+    ensures none { IfNone result ((piece rest : List ℕ) → IsPartForm (Part.Text low high) piece
+        → bytes.now ≢ piece ++ rest) }
+{
+    let (text, rest) = text_at(bytes)?;
+    if !is_text(low, high, text) {
+        return None;
+    }
+    if !is_utf8(text) {
+        return None;
+    }
+    Some(rest)
+}
+
+/// What follows the key at the front.
+fn skip_key(bytes: &[u8]) -> Option<&[u8]>
+    ensures found { IfSome result (λ rest. (piece : List ℕ) × IsPartForm Part.Key piece
+        × (bytes.now ≡ piece ++ rest.now)) }
+    ensures none { IfNone result ((piece rest : List ℕ) → IsPartForm Part.Key piece → bytes.now ≢ piece ++ rest) }
+{
+    let (text, rest) = text_at(bytes)?;
+    if is_key(text) { Some(rest) } else { None }
+}
+
+/// What follows the token at the front.
+fn skip_token(bytes: &[u8]) -> Option<&[u8]>
+    ensures found { IfSome result (λ rest. (piece : List ℕ) × IsPartForm Part.Token piece
+        × (bytes.now ≡ piece ++ rest.now)) }
+    ensures none { IfNone result ((piece rest : List ℕ) → IsPartForm Part.Token piece → bytes.now ≢ piece ++ rest) }
+{
+    let (text, rest) = text_at(bytes)?;
+    if Token::read(text).is_some() {
+        Some(rest)
+    } else {
+        None
+    }
+}
+
+/// What follows the rating at the front.
+fn skip_rating(bytes: &[u8]) -> Option<&[u8]>
+    ensures found { IfSome result (λ rest. (piece : List ℕ) × IsPartForm Part.Rating piece
+        × (bytes.now ≡ piece ++ rest.now)) }
+    ensures none { IfNone result ((piece rest : List ℕ) → IsPartForm Part.Rating piece → bytes.now ≢ piece ++ rest) }
+{
+    let (text, rest) = text_at(bytes)?;
+    if is_rating(text) { Some(rest) } else { None }
+}
+
+/// What follows the special features at the front.
+fn skip_features(bytes: &[u8]) -> Option<&[u8]>
+    ensures found { IfSome result (λ rest. (piece : List ℕ) × IsPartForm Part.Features piece
+        × (bytes.now ≡ piece ++ rest.now)) }
+    ensures none { IfNone result ((piece rest : List ℕ) → IsPartForm Part.Features piece → bytes.now ≢ piece ++ rest) }
+{
+    let (text, rest) = text_at(bytes)?;
+    if are_features(text) { Some(rest) } else { None }
+}
+
+/// A byte is below 256, and no more is said.
+fn bytes_values(bytes: &[u8])
+    ensures { AreBytes bytes.now }
+{}
+
+/// What follows the bytes at the front, where there are so many at most.
+fn skip_bytes(most: usize, bytes: &[u8]) -> Option<&[u8]>
+    ensures found { IfSome result (λ rest. (piece : List ℕ) × IsPartForm (Part.Bytes most) piece
+        × (bytes.now ≡ piece ++ rest.now)) }
+    ensures none { IfNone result ((piece rest : List ℕ) → IsPartForm (Part.Bytes most) piece
+        → bytes.now ≢ piece ++ rest) }
+{
+    let (text, rest) = text_at(bytes)?;
+    bytes_values(text);
+    if text.len() <= most { Some(rest) } else { None }
+}
+
+/// What follows the truth value at the front.
+fn skip_flag(bytes: &[u8]) -> Option<&[u8]>
+    ensures found { IfSome result (λ rest. (piece : List ℕ) × IsPartForm Part.Flag piece
+        × (bytes.now ≡ piece ++ rest.now)) }
+    ensures none { IfNone result ((piece rest : List ℕ) → IsPartForm Part.Flag piece → bytes.now ≢ piece ++ rest) }
+{
+    let (first, rest) = bytes.split_first()?;
+    if *first <= 1 { Some(rest) } else { None }
+}
+
+/// What follows the truth value at the front, where it is false.
+fn skip_unset(bytes: &[u8]) -> Option<&[u8]>
+    ensures found { IfSome result (λ rest. (piece : List ℕ) × IsPartForm Part.Unset piece
+        × (bytes.now ≡ piece ++ rest.now)) }
+    ensures none { IfNone result ((piece rest : List ℕ) → IsPartForm Part.Unset piece → bytes.now ≢ piece ++ rest) }
+{
+    let (first, rest) = bytes.split_first()?;
+    if *first == 0 { Some(rest) } else { None }
+}
+
+/// What follows the moment at the front.
+fn skip_moment(bytes: &[u8]) -> Option<&[u8]>
+    ensures found { IfSome result (λ rest. (piece : List ℕ) × IsPartForm Part.Moment piece
+        × (bytes.now ≡ piece ++ rest.now)) }
+    ensures none { IfNone result ((piece rest : List ℕ) → IsPartForm Part.Moment piece → bytes.now ≢ piece ++ rest) }
+{
+    if bytes.len() < 19 {
+        return None;
+    }
+    let (text, rest) = bytes.split_at(19);
+    let Ok(words) = std::str::from_utf8(text) else {
+        return None;
+    };
+    match Moment::read(words) {
+        Some(_) => Some(rest),
+        None => None,
+    }
+}
+
+/// What follows so many numbers of rows.
+fn skip_each(count: u32, bytes: &[u8]) -> Option<&[u8]>
+    ensures found { IfSome result (λ rest. (ns : List ℕ) × (length ns ≡ count) × AreNumbers ns
+        × (bytes.now ≡ form_of_each ns ++ rest.now)) }
+    ensures none { IfNone result ((ns rest : List ℕ) → length ns ≡ count → AreNumbers ns
+        → bytes.now ≢ form_of_each ns ++ rest) }
+{
+    let mut rest = bytes;
+    for _ in 0..count {
+        rest = skip_number(1, 4_294_967_295, rest)?;
+    }
+    Some(rest)
+}
+
+/// What follows the numbers of rows at the front, where there are so many at most.
+fn skip_numbers(most: u32, bytes: &[u8]) -> Option<&[u8]>
+    ensures found { IfSome result (λ rest. (piece : List ℕ) × IsPartForm (Part.Numbers most) piece
+        × (bytes.now ≡ piece ++ rest.now)) }
+    ensures none { IfNone result ((piece rest : List ℕ) → IsPartForm (Part.Numbers most) piece
+        → bytes.now ≢ piece ++ rest) }
+{
+    let (count, rest) = number_at(bytes)?;
+    if most < count {
+        return None;
+    }
+    let rest = skip_each(count, rest)?;
+    Some(rest)
+}
+
+/// What follows the number at the front, where there is one and it is within these bounds, or where there is none.
+fn skip_optional(low: u32, high: u32, bytes: &[u8]) -> Option<&[u8]>
+    ensures found { IfSome result (λ rest. (piece : List ℕ) × IsPartForm (Part.Optional low high) piece
+        × (bytes.now ≡ piece ++ rest.now)) }
+    ensures none { IfNone result ((piece rest : List ℕ) → IsPartForm (Part.Optional low high) piece
+        → bytes.now ≢ piece ++ rest) }
+{
+    let (count, rest) = number_at(bytes)?;
+    match count {
+        0 => Some(rest),
+        1 => skip_number(low, high, rest),
+        _ => None,
+    }
+}
+
+/// What follows the part at the front.
+pub(crate) fn skip(part: Part, bytes: &[u8]) -> Option<&[u8]>
+    ensures found { IfSome result (λ rest. (piece : List ℕ) × IsPartForm part piece × (bytes.now ≡ piece ++ rest.now)) }
+    ensures none { IfNone result ((piece rest : List ℕ) → IsPartForm part piece → bytes.now ≢ piece ++ rest) }
+{
+    match part {
+        Part::Number(low, high) => skip_number(low, high, bytes),
+        Part::Text(low, high) => skip_text(low, high, bytes),
+        Part::Key => skip_key(bytes),
+        Part::Token => skip_token(bytes),
+        Part::Rating => skip_rating(bytes),
+        Part::Features => skip_features(bytes),
+        Part::Bytes(most) => skip_bytes(most, bytes),
+        Part::Flag => skip_flag(bytes),
+        Part::Unset => skip_unset(bytes),
+        Part::Moment => skip_moment(bytes),
+        Part::Numbers(most) => skip_numbers(most, bytes),
+        Part::Optional(low, high) => skip_optional(low, high, bytes),
+    }
+}
+
+/// Whether the bytes are the forms of such parts, one after another.
+fn is_form(parts: &[Part], bytes: &[u8]) -> bool
+    ensures { IsTrue result ↔ IsForm parts.now bytes.now }
+{
+    let mut rest = bytes;
+    for part in parts {
+        match skip(*part, rest) {
+            Some(more) => rest = more,
+            None => return false,
+        }
+    }
+    rest.is_empty()
+}
+
+/// Whether the first byte tells one of these lists of parts, counting from 1, and the bytes behind it are their form.
+pub(crate) fn is_one_of(forms: &[&[Part]], bytes: &[u8]) -> bool
+    ensures { IsTrue result ↔ IsOneOf (map (λ parts. parts.now) forms.now) bytes.now }
+{
+    let Some((tag, rest)) = bytes.split_first() else {
+        return false;
+    };
+    if *tag == 0 {
+        return false;
+    }
+    match forms.get(*tag as usize - 1) {
+        Some(parts) => is_form(parts, rest),
+        None => false,
+    }
+}
