@@ -2,12 +2,12 @@
 use Rattle.shop_schema.proofs.Common.{◌≡◌, ◌∙◌, Bool, true, false, inl, inr, refl, sym, ap, subst, Result, Ok, Err, cases_Bool, Ghosts, Held, state, HasCleanDisk, Survives, StoreFault, Memory, Size, Failed, problem_answer, is_store_failure, memory_failure, size_failure, failed_failure, seen_refusal}
 use Rattle.std.specs.Prelude.{◌||◌}
 use Rattle.shop_types.specs.declared.refusal.Refusal.TheVariants.{StoreFailed}
-use Rattle.chain_calls.specs.Holding.{Chained, holding}
-use Rattle.chain_calls.specs.Chains.{Takes}
-use Rattle.chain_calls.specs.Steps.{IsUndone}
-use Rattle.chain_calls.specs.Decisions.{IsStoreRefusal, refusal_for, is_final}
-use Rattle.chain_calls.proofs.Requests.{kept}
-use Rattle.chain_calls.proofs.Taking.{takes_still}
+use Rattle.chain_requests.specs.Holding.{Chained, holding}
+use Rattle.chain_requests.specs.Chains.{Takes}
+use Rattle.chain_requests.specs.Steps.{IsUndone}
+use Rattle.chain_requests.specs.Decisions.{IsStoreRefusal, refusal_for, is_final}
+use Rattle.chain_requests.proofs.Requests.{kept}
+use Rattle.chain_requests.proofs.Taking.{takes_still}
 use Rattle.chain_engine.specs.Leaving.{LeavesNoMore}
 
 -- what a look answers is of a chain that hasn't failed

@@ -10,9 +10,9 @@ use Rattle.sqlite_wal.specs.Recovery.{Image}
 use Rattle.shop_model.specs.Stops.{failing, Lives, in_flight}
 use Rattle.shop_model.proofs.Stops.{one_history, resent_first}
 use Rattle.branch_work.specs.Rules.{rules_of}
-use Rattle.chain_calls.specs.Holding.{Chained, holding}
-use Rattle.chain_calls.specs.Chains.{IsAt, Takes, Runs, StandsForEither}
-use Rattle.chain_calls.specs.Files.{KeepsBooks, KeepsEither}
+use Rattle.chain_requests.specs.Holding.{Chained, holding}
+use Rattle.chain_requests.specs.Chains.{IsAt, Takes, Runs, StandsForEither}
+use Rattle.chain_files.specs.Files.{KeepsBooks, KeepsEither}
 use Rattle.chain_engine.specs.Resumes.{before_stop, behind_stop, Resumes}
 
 -- where an answer is the store's failure, there is a request at which it failed first

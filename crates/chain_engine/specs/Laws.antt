@@ -2,8 +2,8 @@
 use Rattle.std.specs.Prelude.{◌++◌, List}
 use Rattle.shop_model.specs.Answers.{Answer}
 use Rattle.shop_model.specs.Books.{Event}
-use Rattle.chain_calls.specs.Holding.{Holding}
-use Rattle.chain_calls.specs.Chains.{Runs}
+use Rattle.chain_requests.specs.Holding.{Holding}
+use Rattle.chain_requests.specs.Chains.{Runs}
 
 -- what was answered in two parts, one after the other, was answered as one list
 abbrev pub RunsFollow : Type 0

@@ -7,8 +7,8 @@ use Rattle.shop_model.specs.Books.{Books, Event, after}
 use Rattle.shop_model.specs.Office.{office_look}
 use Rattle.shop_model.specs.Histories.{is_decided, has_failed}
 use Rattle.shop_model.specs.Stops.{failing, Life, Lives, IsOneHistory, IsResentFirst}
-use Rattle.chain_calls.specs.Holding.{Chained}
-use Rattle.chain_calls.specs.Chains.{IsAt}
+use Rattle.chain_requests.specs.Holding.{Chained}
+use Rattle.chain_requests.specs.Chains.{IsAt}
 
 -- the life before the stop, in which the request at which the store failed acted or didn't, and the one behind it
 abbrev pub before_stop : List Event → List Answer → Bool → Life

@@ -12,22 +12,22 @@ ghost use Rattle.shop_model.specs.Books.{HeadOffice, caller_of};
 ghost use Rattle.shop_types.specs.Seen.{seen_caller, seen_office_ask, seen_request};
 ghost use Rattle.shop_types.specs.Replies.{seen_reply};
 ghost use Rattle.chain_caches.specs.Callers.{AreCallers};
-ghost use Rattle.chain_calls.specs.Chains.{IsAt, Takes, Answers, AnswersEvent, Runs, event_of};
+ghost use Rattle.chain_requests.specs.Chains.{IsAt, Takes, Answers, AnswersEvent, Runs, event_of};
 ghost use Rattle.chain_engine.specs.Failing.{is_failure};
 ghost use Rattle.chain_engine.specs.Leaving.{LeavesNoMore};
-ghost use Rattle.chain_calls.specs.Steps.{IsKnownFor, asker, asked_of};
+ghost use Rattle.chain_requests.specs.Steps.{IsKnownFor, asker, asked_of};
 ghost use Rattle.branch_reports.specs.Told.{IsTold};
-ghost use Rattle.chain_calls.specs.Audits.{AuditsState};
-ghost use Rattle.chain_calls.specs.Decisions.{FindsAudit, FindsCaller, IsOfStore, refusal_for, is_final};
+ghost use Rattle.chain_requests.specs.Audits.{AuditsState};
+ghost use Rattle.chain_requests.specs.Decisions.{FindsAudit, FindsCaller, IsOfStore, refusal_for, is_final};
 ghost use Rattle.shop_model.specs.Answers.{problem_answer};
 ghost use Rattle.shop_model.specs.Histories.{has_failed, is_store_failure};
 ghost use Rattle.shop_model.specs.Refusals.{StoreFailed};
 
 use chain_caches::{CallerCache, FilmCache};
-use chain_calls::{
-    Asked, FirstRows, OpenFault, asked_values, first_values, in_memory, read_office,
+use chain_files::{FirstRows, OpenFault, first_values, in_memory};
+use chain_requests::{
+    Asked, asked_values, audit_unless_failed, caller_unless_failed, read_office, step,
 };
-use chain_steps::{audit_unless_failed, caller_unless_failed, step};
 use shop_types::{Audit, Caller, Limits, NoMemory, OfficeAsk, Refusal, Reply, Request, Token};
 use sql_rows::StoreFault;
 use sqlite::{Alter, Connection, MemStore};
@@ -48,7 +48,7 @@ pub struct Chain<S: Alter> {
 
 impl<S: Alter> Model for Chain<S> {
     ghost use Rattle.std.specs.Prelude.{◌≡◌, false};
-    ghost use Rattle.chain_calls.specs.Holding.{Chained, chained_code};
+    ghost use Rattle.chain_requests.specs.Holding.{Chained, chained_code};
 
     ghost Value = { Chained S };
 

@@ -2,10 +2,10 @@
 
 ghost use Rattle.std.specs.Prelude.{◌≡◌, IfOk, IfErr};
 ghost use Rattle.shop_schema.specs.Shop.{first_books};
-ghost use Rattle.chain_calls.specs.Openings.{IsCreated, IsNotCreated};
+ghost use Rattle.chain_files.specs.Openings.{IsCreated, IsNotCreated};
 
 use crate::chain::Chain;
-use chain_calls::{FirstRows, OpenFault, connect, create, first_values, give_back};
+use chain_files::{FirstRows, OpenFault, connect, create, first_values, give_back};
 use shop_types::{Limits, Token};
 use sqlite::{FileStore, Files};
 use sqlite_disk::Disk;

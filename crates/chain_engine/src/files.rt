@@ -6,14 +6,13 @@ ghost use Rattle.sqlite.specs.Files.{over_files, file_state, image_of};
 ghost use Rattle.sqlite_wal.specs.Files.{outcomes};
 ghost use Rattle.sqlite_wal.specs.Reads.{AreClean};
 ghost use Rattle.shop_model.specs.Books.{Books};
-ghost use Rattle.chain_calls.specs.Chains.{IsAt};
-ghost use Rattle.chain_calls.specs.Files.{KeepsBooks, KeepsEither};
+ghost use Rattle.chain_requests.specs.Chains.{IsAt};
+ghost use Rattle.chain_files.specs.Files.{KeepsBooks, KeepsEither};
 ghost use Rattle.sql_rows.specs.Files.{HoldsOne};
-ghost use Rattle.chain_calls.specs.Openings.{IsOpenedIn, IsNotOpened};
+ghost use Rattle.chain_files.specs.Openings.{IsOpenedIn, IsNotOpened};
 
 use crate::chain::Chain;
-use chain_calls::{OpenFault, connect, give_back};
-use chain_steps::examine;
+use chain_files::{OpenFault, connect, examine, give_back};
 use shop_types::Limits;
 use sqlite::{FileStore, Files};
 use sqlite_disk::Disk;

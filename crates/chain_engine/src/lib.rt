@@ -12,7 +12,7 @@ mod restarting;
 mod stopping;
 
 pub use chain::Chain;
-pub use chain_calls::OpenFault;
+pub use chain_files::OpenFault;
 pub use laws::runs_follow;
 pub use restarting::restart;
 pub use stopping::{NotResumed, Resumed, over_a_stop};

@@ -1,11 +1,10 @@
 //! How a chain of version 1 in two files becomes one of this version.
 
 ghost use Rattle.std.specs.Prelude.{◌≡◌, IfOk, IfErr};
-ghost use Rattle.chain_calls.specs.Openings.{IsMigratedIn, IsNotMigrated};
+ghost use Rattle.chain_files.specs.Openings.{IsMigratedIn, IsNotMigrated};
 
 use crate::chain::Chain;
-use chain_calls::{OpenFault, connect, give_back};
-use chain_steps::migrate_first;
+use chain_files::{OpenFault, connect, give_back, migrate_first};
 use shop_types::Limits;
 use sqlite::{FileStore, Files};
 use sqlite_disk::Disk;

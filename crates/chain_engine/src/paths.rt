@@ -3,10 +3,10 @@
 ghost use Rattle.std.specs.Prelude.{◌≡◌, ◌≢◌, true, false, IfOk, IfErr};
 ghost use Rattle.sqlite_std_file.specs.File.{IsFresh};
 ghost use Rattle.shop_schema.specs.Shop.{first_books};
-ghost use Rattle.chain_calls.specs.Openings.{IsCreated, IsNotCreated, IsOpenedIn, IsNotOpened, IsMigratedIn, IsNotMigrated};
+ghost use Rattle.chain_files.specs.Openings.{IsCreated, IsNotCreated, IsOpenedIn, IsNotOpened, IsMigratedIn, IsNotMigrated};
 
 use crate::chain::Chain;
-use chain_calls::{OpenFault, files_at, is_missing};
+use chain_files::{OpenFault, files_at, is_missing};
 use shop_types::{Limits, Token};
 use sqlite::FileStore;
 use sqlite_disk::Disk;

@@ -7,10 +7,10 @@ ghost use Rattle.sqlite_wal.specs.Files.{outcomes};
 ghost use Rattle.sqlite_wal.specs.Reads.{AreClean};
 ghost use Rattle.sqlite_wal.specs.Recovery.{Image};
 ghost use Rattle.shop_model.specs.Books.{Books};
-ghost use Rattle.chain_calls.specs.Chains.{IsAt};
+ghost use Rattle.chain_requests.specs.Chains.{IsAt};
 
 use crate::chain::Chain;
-use chain_calls::OpenFault;
+use chain_files::OpenFault;
 use shop_types::Limits;
 use sqlite::{FileStore, Files};
 use sqlite_disk::Crash;

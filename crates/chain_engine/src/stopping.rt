@@ -6,12 +6,12 @@ ghost use Rattle.sqlite.specs.Files.{over_files, file_state};
 ghost use Rattle.shop_model.specs.Books.{Books};
 ghost use Rattle.shop_types.specs.Replies.{seen_reply};
 ghost use Rattle.branch_work.specs.Rules.{rules_of};
-ghost use Rattle.chain_calls.specs.Chains.{IsAt, event_of};
+ghost use Rattle.chain_requests.specs.Chains.{IsAt, event_of};
 ghost use Rattle.chain_engine.specs.Resumes.{Resumes};
 
 use crate::chain::Chain;
 use crate::restarting::restart;
-use chain_calls::OpenFault;
+use chain_files::OpenFault;
 use shop_types::{Limits, NoMemory, Reply, Request, Token};
 use sqlite::FileStore;
 use sqlite_disk::Crash;

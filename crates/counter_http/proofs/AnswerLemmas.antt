@@ -10,12 +10,12 @@ use Rattle.counter_routes.specs.Readings.{Reads, reading_of}
 use Rattle.shop_types.specs.declared.refusal.Refusal.TheVariants as told
 use Rattle.counter_routes.specs.declared.asked.Reading.{Reading}
 use Rattle.counter_routes.specs.declared.asked.Reading.TheVariants.{Asked, Refused}
-use Rattle.chain_calls.specs.Holding.{Holding}
+use Rattle.chain_requests.specs.Holding.{Holding}
 use Rattle.branch_work.specs.Rules.{rules_of}
-use Rattle.chain_calls.specs.Chains.{Answers}
-use Rattle.chain_calls.specs.Decisions.{IsStoreRefusalAt}
-use Rattle.chain_calls.proofs.Failures.{decided_fine}
-use Rattle.chain_calls.proofs.Requests.{never, store_refuses, fails, failed_same}
+use Rattle.chain_requests.specs.Chains.{Answers}
+use Rattle.chain_requests.specs.Decisions.{IsStoreRefusalAt}
+use Rattle.chain_requests.proofs.Failures.{decided_fine}
+use Rattle.chain_requests.proofs.Requests.{never, store_refuses, fails, failed_same}
 use Rattle.counter_http.specs.Events.{known_token, sender_of, AnswersMessage, AnswersNobody}
 use Rattle.counter_http.specs.Reads.{IsDecided, AnswersRead}
 

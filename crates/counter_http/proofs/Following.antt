@@ -3,11 +3,11 @@ use Rattle.shop_types.proofs.Common.{◌≡◌, ◌∙◌, List, [], ◌∷◌, 
 use Rattle.sqlite_trees.specs.declared.store.Store.{Ghosts}
 use Rattle.shop_model.proofs.Origins.{all_append}
 use Rattle.counter_routes.specs.Words.{Meaning}
-use Rattle.chain_calls.specs.Holding.{Chained, Holding}
-use Rattle.chain_calls.specs.Chains.{Runs}
-use Rattle.chain_calls.proofs.Taking.{takes_then}
+use Rattle.chain_requests.specs.Holding.{Chained, Holding}
+use Rattle.chain_requests.specs.Chains.{Runs}
+use Rattle.chain_requests.proofs.Taking.{takes_then}
 use Rattle.branch_reports.specs.Told.{IsTold}
-use Rattle.chain_calls.proofs.Following.{or_then, runs_follow}
+use Rattle.chain_requests.proofs.Following.{or_then, runs_follow}
 use Rattle.counter_http.specs.Events.{event_of}
 use Rattle.counter_http.specs.Exchanges.{Exchange, events_of, answers_of, RunsOver}
 use Rattle.counter_http.proofs.Runs.{run_starts}

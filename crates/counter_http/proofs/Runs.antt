@@ -3,11 +3,11 @@ use Rattle.shop_types.proofs.Common.{◌≡◌, ◌∙◌, List, [], ◌∷◌, 
 use Rattle.std.specs.Prelude.{◌||◌}
 use Rattle.sqlite_trees.specs.declared.store.Store.{Ghosts}
 use Rattle.counter_routes.specs.Words.{Meaning}
-use Rattle.chain_calls.specs.Holding.{Chained}
-use Rattle.chain_calls.specs.Chains.{Takes}
+use Rattle.chain_requests.specs.Holding.{Chained}
+use Rattle.chain_requests.specs.Chains.{Takes}
 use Rattle.branch_reports.specs.Told.{IsTold}
-use Rattle.chain_calls.proofs.Taking.{takes_as, takes_same}
-use Rattle.chain_calls.proofs.Running.{runs_none, runs_more}
+use Rattle.chain_requests.proofs.Taking.{takes_as, takes_same}
+use Rattle.chain_requests.proofs.Running.{runs_none, runs_more}
 use Rattle.counter_http.specs.Events.{event_of, AnswersMessage}
 use Rattle.counter_http.specs.Exchanges.{Exchange, HasRun, RunsOver}
 

@@ -2,7 +2,7 @@
 use Rattle.shop_types.proofs.Common.{◌≡◌, ℕ, ◌-◌, List, [], ◌∷◌, ◌++◌, refl, ap, ◌∙◌, map, Option, All, map-append, All-nil, All-cons, All-head, All-tail, All-push}
 use Rattle.sqlite_trees.specs.declared.store.Store.{Ghosts}
 use Rattle.counter_routes.specs.Words.{Meaning}
-use Rattle.chain_calls.specs.Holding.{Chained}
+use Rattle.chain_requests.specs.Holding.{Chained}
 use Rattle.counter_http.specs.Exchanges.{Exchange, RunsOver}
 use Rattle.counter_http.specs.Standings.{Line, opened, IsTurn}
 use Rattle.counter_http.specs.Together.{Till, IsTill, Mixes, comes, goes, nothing, AreServed, AreServedTogether, till_opened, till_then}

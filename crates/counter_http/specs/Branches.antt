@@ -8,9 +8,9 @@ use Rattle.shop_model.specs.Sound.{HasNumbers}
 use Rattle.shop_model.specs.SameStates.{SameState}
 use Rattle.branch_work.specs.Rules.{rules_of}
 use Rattle.counter_routes.specs.Words.{Meaning}
-use Rattle.chain_calls.specs.Holding.{Holding}
-use Rattle.chain_calls.specs.Branches.{answered_to, seen_by}
-use Rattle.chain_calls.specs.Chains.{Runs}
+use Rattle.chain_requests.specs.Holding.{Holding}
+use Rattle.chain_requests.specs.Branches.{answered_to, seen_by}
+use Rattle.chain_requests.specs.Chains.{Runs}
 use Rattle.counter_http.specs.Exchanges.{Exchange, events_of, answers_of, text_of}
 
 -- the bytes sent to the branch: the replies to its own messages, one after another, but for those by which the store could not do its part

@@ -1,8 +1,8 @@
 -- Connections of one chain, one after another.
 use Rattle.std.specs.Prelude.{◌++◌, List}
 use Rattle.counter_routes.specs.Words.{Meaning}
-use Rattle.chain_calls.specs.Holding.{Holding}
-use Rattle.chain_calls.specs.Chains.{Runs}
+use Rattle.chain_requests.specs.Holding.{Holding}
+use Rattle.chain_requests.specs.Chains.{Runs}
 use Rattle.counter_http.specs.Exchanges.{Exchange, events_of, answers_of}
 
 -- what a chain ran over in one connection and then in another, it ran over as one history

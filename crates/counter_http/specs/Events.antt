@@ -7,8 +7,8 @@ use Rattle.shop_model.specs.Answers.{Answer}
 use Rattle.shop_model.specs.Books.{Event, Caller, Nobody, caller_of}
 use Rattle.counter_routes.specs.Words.{Meaning}
 use Rattle.counter_routes.specs.Readings.{reading_of}
-use Rattle.chain_calls.specs.Holding.{Holding}
-use Rattle.chain_calls.specs.Chains.{Answers, AnswersEvent}
+use Rattle.chain_requests.specs.Holding.{Holding}
+use Rattle.chain_requests.specs.Chains.{Answers, AnswersEvent}
 
 -- a text that is no token is nobody's, as none is
 abbrev pub known_token : Option (List ℕ) → Option (List ℕ)

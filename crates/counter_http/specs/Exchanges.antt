@@ -9,8 +9,8 @@ use Rattle.shop_model.specs.Books.{Event}
 use Rattle.shop_model.specs.Histories.{has_failed, is_store_failure}
 use Rattle.sqlite_trees.specs.declared.store.Store.{Ghosts}
 use Rattle.counter_routes.specs.Words.{Meaning}
-use Rattle.chain_calls.specs.Holding.{Chained}
-use Rattle.chain_calls.specs.Chains.{Takes, Runs}
+use Rattle.chain_requests.specs.Holding.{Chained}
+use Rattle.chain_requests.specs.Chains.{Takes, Runs}
 use Rattle.branch_reports.specs.Told.{IsTold}
 use Rattle.counter_http.specs.Events.{event_of}
 

@@ -7,8 +7,8 @@ use Rattle.shop_types.specs.Seen.{seen_request, seen_refusal}
 use Rattle.shop_types.specs.Replies.{has_fixed_body}
 use Rattle.counter_routes.specs.declared.asked.Reading.{Reading}
 use Rattle.counter_routes.specs.declared.asked.Reading.TheVariants.{Asked, Refused}
-use Rattle.chain_calls.specs.Holding.{Holding}
-use Rattle.chain_calls.specs.Chains.{Answers}
+use Rattle.chain_requests.specs.Holding.{Holding}
+use Rattle.chain_requests.specs.Chains.{Answers}
 
 -- no stock file is at fault yet
 abbrev pub HasFixedBody : {E : Type 0} → Result Reading E → Type 0

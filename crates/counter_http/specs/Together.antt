@@ -2,7 +2,7 @@
 use Rattle.std.specs.Prelude.{◌≡◌, ℕ, ◌+◌, List, [], ◌∷◌, ◌++◌, map, All, Option, Some}
 use Rattle.sqlite_trees.specs.declared.store.Store.{Ghosts}
 use Rattle.counter_routes.specs.Words.{Meaning}
-use Rattle.chain_calls.specs.Holding.{Chained}
+use Rattle.chain_requests.specs.Holding.{Chained}
 use Rattle.counter_http.specs.Exchanges.{Exchange, RunsOver}
 use Rattle.counter_http.specs.Served.{IsServed, fault_replies}
 use Rattle.counter_http.specs.Standings.{Line, opened, IsTurn}

@@ -13,10 +13,10 @@ use Rattle.shop_model.specs.Migration.{migrated}
 use Rattle.shop_types.specs.declared.request.Request.{Request}
 use Rattle.shop_types.specs.Seen.{seen_request}
 use Rattle.shop_schema.specs.Shop.{first_books}
-use Rattle.chain_calls.specs.Holding.{Holding}
+use Rattle.chain_requests.specs.Holding.{Holding}
 use Rattle.office_words.specs.Line.{line_of}
-use Rattle.chain_calls.specs.Chains.{Answers, Runs}
-use Rattle.chain_calls.specs.Files.{HoldsBooks, HoldsSoundly, HasThisVersion, KeepsBooks, HoldsVersion1Books, HoldsVersion1Soundly, HasVersion1}
+use Rattle.chain_requests.specs.Chains.{Answers, Runs}
+use Rattle.chain_files.specs.Files.{HoldsBooks, HoldsSoundly, HasThisVersion, KeepsBooks, HoldsVersion1Books, HoldsVersion1Soundly, HasVersion1}
 use Rattle.sql_rows.specs.Files.{HoldsNoTable}
 use Rattle.counter_http.specs.Exchanges.{Exchange, events_of, answers_of}
 use Rattle.sakila_office.specs.Printed.{IsPrinted, IsSilent, IsTold}

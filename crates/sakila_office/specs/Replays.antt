@@ -3,8 +3,8 @@ use Rattle.std.specs.Prelude.{◌≡◌, ℕ, List, Option}
 use Rattle.std.specs.Io.KnownBytes.{Keeps}
 use Rattle.shop_model.specs.Opening.{opening_books}
 use Rattle.office_words.specs.Line.{line_of}
-use Rattle.chain_calls.specs.Holding.{Holding}
-use Rattle.chain_calls.specs.Chains.{Runs}
+use Rattle.chain_requests.specs.Holding.{Holding}
+use Rattle.chain_requests.specs.Chains.{Runs}
 use Rattle.counter_http.specs.Exchanges.{Exchange, events_of, answers_of}
 use Rattle.counter_http.specs.Served.{IsServed, IsFault}
 use Rattle.counter_http.specs.declared.connection.End.{End}

@@ -8,7 +8,7 @@ use Rattle.shop_model.proofs.RowLemmas.{differ_test}
 use Rattle.shop_model.proofs.Resends.{same_some, same_none}
 use Rattle.counter_routes.specs.Readings.{reading_of}
 use Rattle.counter_routes.specs.Words.{Meaning}
-use Rattle.chain_calls.specs.Holding.{Chained}
+use Rattle.chain_requests.specs.Holding.{Chained}
 use Rattle.counter_http.specs.Events.{event_of}
 use Rattle.counter_http.specs.Exchanges.{Exchange, RunsOver}
 use Rattle.till_model.specs.Tills.{Entry}

@@ -13,8 +13,8 @@ use Rattle.shop_model.specs.Office.{office_look}
 use Rattle.shop_model.specs.Stops.{Lives, in_flight}
 use Rattle.counter_routes.specs.Words.{Meaning}
 use Rattle.branch_work.specs.Rules.{rules_of}
-use Rattle.chain_calls.specs.Holding.{Chained, Holding}
-use Rattle.chain_calls.specs.Chains.{IsAt, Takes, Runs}
+use Rattle.chain_requests.specs.Holding.{Chained, Holding}
+use Rattle.chain_requests.specs.Chains.{IsAt, Takes, Runs}
 use Rattle.counter_http.specs.Events.{event_of}
 use Rattle.counter_http.specs.Exchanges.{Exchange, events_of, answers_of, RunsOver}
 use Rattle.counter_http.specs.Together.{Till, Mixes}

@@ -2,8 +2,8 @@
 use crate::disks::{Calls, Image, InMemory, NEVER, closed, crashed, disks};
 use crate::fault::Fault;
 use crate::line::Counter;
-use chain_calls::{FirstRows, connect, create};
 use chain_engine::{Chain, restart};
+use chain_files::{FirstRows, connect, create};
 use counter_http::serve;
 use office_words::ClapWords;
 use shop_types::Limits;

@@ -1,7 +1,8 @@
 //! The tables in a chain's files, over a connection of its own beside the chain: their making, statements on them, and
 //! audits of them.
 use books_audit::audit_custody;
-use chain_calls::{FirstRows, create, read_audit};
+use chain_files::{FirstRows, create};
+use chain_requests::read_audit;
 use row_player::{Deed, Texts};
 use shop_schema::create_first;
 use shop_types::{Audit, Token};

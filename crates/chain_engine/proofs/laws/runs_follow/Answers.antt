@@ -1,4 +1,4 @@
-use Rattle.chain_calls.proofs.Following.{runs_follow}
+use Rattle.chain_requests.proofs.Following.{runs_follow}
 use Rattle.chain_engine.proofs.laws.runs_follow.Goals as goal
 
 pub returns : goal.returns

@@ -1,4 +1,4 @@
-use Rattle.chain_calls.proofs.Opening.{undamaged}
+use Rattle.chain_files.proofs.Opening.{undamaged}
 use Rattle.chain_engine.proofs.Results.{ok_then, err_then}
 use Rattle.chain_engine.proofs.Resuming.{crashed_keeps, crashed_either}
 use Rattle.chain_engine.proofs.restarting.restart.Goals as goal

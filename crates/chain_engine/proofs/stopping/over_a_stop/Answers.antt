@@ -1,5 +1,5 @@
 use Rattle.shop_schema.proofs.Common.{map, over_files, seen_reply}
-use Rattle.chain_calls.specs.Chains.{event_of}
+use Rattle.chain_requests.specs.Chains.{event_of}
 use Rattle.chain_engine.proofs.Resuming.{resumes}
 use Rattle.chain_engine.proofs.stopping.over_a_stop.Goals as goal
 

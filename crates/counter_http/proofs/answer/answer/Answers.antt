@@ -3,11 +3,11 @@ use Rattle.http_messages.specs.Message.{Message}
 use Rattle.http_messages.specs.Shown.{message_of}
 use Rattle.counter_routes.specs.Words.{Meaning}
 use Rattle.counter_routes.specs.Readings.{reading_of}
-use Rattle.chain_calls.specs.Holding.{Chained, holding}
+use Rattle.chain_requests.specs.Holding.{Chained, holding}
 use Rattle.counter_http.specs.Events.{sender_of}
 use Rattle.counter_http.proofs.AnswerLemmas.{nobody_answers, reads_decided, sent_by, store_answers, read_answers}
-use Rattle.chain_calls.proofs.Taking.{takes_still, takes_then}
-use Rattle.chain_calls.proofs.Requests.{refused_takes}
+use Rattle.chain_requests.proofs.Taking.{takes_still, takes_then}
+use Rattle.chain_requests.proofs.Requests.{refused_takes}
 use Rattle.counter_http.proofs.answer.answer.Goals as goal
 
 pub returns-in_default-clause-taken : goal.returns-in_default-clause-taken

@@ -1,6 +1,6 @@
 use Rattle.shop_types.proofs.Common.{◌∙◌, inr, sym, ap, Decision, NoCounter, StoreFailed, Sorry, is_store_failure, failed_failure}
-use Rattle.chain_calls.proofs.Failures.{decided_fine}
-use Rattle.chain_calls.specs.Holding.{holding}
+use Rattle.chain_requests.proofs.Failures.{decided_fine}
+use Rattle.chain_requests.specs.Holding.{holding}
 use Rattle.counter_http.proofs.AnswerLemmas.{nobody_refused, nobody_failed}
 use Rattle.counter_http.proofs.answer.answer_nobody.Goals as goal
 

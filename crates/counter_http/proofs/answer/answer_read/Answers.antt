@@ -1,6 +1,6 @@
 use Rattle.shop_types.proofs.Common.{◌∙◌, inr, sym, ap, Problem, Sorry, problem_answer, is_store_failure, memory_failure, seen_refusal}
 use Rattle.shop_model.specs.Refusals.{Memory}
-use Rattle.chain_calls.proofs.Failures.{decided_fine}
+use Rattle.chain_requests.proofs.Failures.{decided_fine}
 use Rattle.counter_http.proofs.answer.answer_read.Goals as goal
 
 pub returns-in-Ok-Asked-clause-taken : goal.returns-in-Ok-Asked-clause-taken

@@ -1,5 +1,5 @@
 use Rattle.shop_schema.proofs.Common.{◌∙◌, seen_reply}
-use Rattle.chain_calls.specs.Holding.{holding}
+use Rattle.chain_requests.specs.Holding.{holding}
 use Rattle.sakila_office.specs.Commands.{answered}
 use Rattle.sakila_office.proofs.Books.{is_opened}
 use Rattle.sakila_office.proofs.commands.put.Goals as goal

@@ -1,5 +1,5 @@
 use Rattle.shop_schema.proofs.Common.{◌≡◌, ◌∙◌, ℕ, Bool, true, false, refl, arith, Keeps-refl}
-use Rattle.chain_calls.specs.Holding.{holding}
+use Rattle.chain_requests.specs.Holding.{holding}
 use Rattle.sakila_office.specs.Commands.{served}
 use Rattle.sakila_office.proofs.Books.{is_opened}
 use Rattle.sakila_office.proofs.commands.serve_in.Goals as goal

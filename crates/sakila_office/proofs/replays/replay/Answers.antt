@@ -1,7 +1,7 @@
 use Rattle.shop_schema.proofs.Common.{◌≡◌, ◌∙◌, subst, refl, false, List, Keeps-refl, Ghosts, no_doubt, state, HasCleanDisk, most_limits, opening_books}
 use Rattle.office_words.specs.Line.{line_of}
-use Rattle.chain_calls.specs.Holding.{Chained, Holding, holding}
-use Rattle.chain_calls.specs.Chains.{IsAt, Runs}
+use Rattle.chain_requests.specs.Holding.{Chained, Holding, holding}
+use Rattle.chain_requests.specs.Chains.{IsAt, Runs}
 use Rattle.counter_http.specs.Exchanges.{Exchange, events_of, answers_of, RunsOver}
 use Rattle.counter_http.proofs.Serving.{served_as, fault_as}
 use Rattle.sakila_office.specs.Replays.{replayed, broke_off, RunsFromOpening}

@@ -1,7 +1,7 @@
 use Rattle.shop_schema.proofs.Common.{refl, false≢true, opening_books_sound}
 use Rattle.chain_caches.proofs.FilmRows.{no_rows}
 use Rattle.chain_caches.proofs.CallerSteps.{no_callers}
-use Rattle.chain_calls.specs.Chains.{widest_rules}
+use Rattle.chain_requests.specs.Chains.{widest_rules}
 use Rattle.chain_engine.proofs.chain.Chain+MemStore.demo.Goals as goal
 
 pub returns-in-Ok-clause-made : goal.returns-in-Ok-clause-made

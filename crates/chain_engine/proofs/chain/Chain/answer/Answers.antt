@@ -1,5 +1,5 @@
 use Rattle.shop_schema.proofs.Common.{◌∙◌, inr, sym, ap, Decision, NoCounter, NoRoute, StoreFailed, Sorry, is_store_failure, failed_failure}
-use Rattle.chain_calls.proofs.Failures.{decided_fine}
+use Rattle.chain_requests.proofs.Failures.{decided_fine}
 use Rattle.chain_engine.proofs.Failing.{same_failed}
 use Rattle.chain_engine.proofs.chain.Chain.answer.Goals as goal
 

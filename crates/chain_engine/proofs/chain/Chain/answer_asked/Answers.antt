@@ -1,12 +1,12 @@
 use Rattle.shop_schema.proofs.Common.{◌≡◌, ◌∙◌, inr, refl, sym, ap, subst, arith, false, false≢true, Catalogue, problem_answer, is_store_failure, Caller, Request, seen_refusal, seen_reply}
 use Rattle.chain_caches.specs.Callers.{AreCallers}
 use Rattle.chain_caches.proofs.FilmRows.{no_rows}
-use Rattle.chain_calls.specs.Holding.{Chained}
-use Rattle.chain_calls.specs.Chains.{Takes, Answers}
-use Rattle.chain_calls.specs.Steps.{IsHeldBy, IsKnownFor, asker, asked_of}
-use Rattle.chain_calls.specs.Decisions.{refusal_for, is_final}
-use Rattle.chain_calls.proofs.Requests.{made, unmade}
-use Rattle.chain_calls.proofs.Failures.{decision_fine}
+use Rattle.chain_requests.specs.Holding.{Chained}
+use Rattle.chain_requests.specs.Chains.{Takes, Answers}
+use Rattle.chain_requests.specs.Steps.{IsHeldBy, IsKnownFor, asker, asked_of}
+use Rattle.chain_requests.specs.Decisions.{refusal_for, is_final}
+use Rattle.chain_requests.proofs.Requests.{made, unmade}
+use Rattle.chain_requests.proofs.Failures.{decision_fine}
 use Rattle.chain_engine.proofs.Failing.{fails_by, same_failed}
 use Rattle.chain_engine.proofs.chain.Chain.answer_asked.Goals as goal
 

@@ -1,11 +1,11 @@
 use Rattle.shop_schema.proofs.Common.{◌≡◌, ◌∙◌, inr, refl, sym, ap, subst, arith, false, false≢true, state, problem_answer, is_store_failure, HeadOffice, Request, OfficeLook, seen_office_ask, seen_refusal, seen_reply}
-use Rattle.chain_calls.specs.Holding.{Chained}
-use Rattle.chain_calls.specs.Chains.{Takes, Answers}
+use Rattle.chain_requests.specs.Holding.{Chained}
+use Rattle.chain_requests.specs.Chains.{Takes, Answers}
 use Rattle.branch_work.specs.Works.{IsHeldWith}
-use Rattle.chain_calls.specs.Decisions.{refusal_for, is_final}
-use Rattle.chain_calls.proofs.Requests.{came, unmade}
-use Rattle.chain_calls.proofs.Asking.{office_read, office_unread}
-use Rattle.chain_calls.proofs.Failures.{decision_fine}
+use Rattle.chain_requests.specs.Decisions.{refusal_for, is_final}
+use Rattle.chain_requests.proofs.Requests.{came, unmade}
+use Rattle.chain_requests.proofs.Asking.{office_read, office_unread}
+use Rattle.chain_requests.proofs.Failures.{decision_fine}
 use Rattle.chain_engine.proofs.Failing.{fails_by, same_failed}
 use Rattle.chain_engine.proofs.chain.Chain.answer_office.Goals as goal
 

@@ -1,7 +1,7 @@
 use Rattle.shop_schema.proofs.Common.{◌∙◌, ap, sym, inr, caller_in, seen_refusal, seen_request, is_store_failure}
-use Rattle.chain_calls.specs.Chains.{event_of}
-use Rattle.chain_calls.proofs.Requests.{event_answered, store_refuses, refused_takes}
-use Rattle.chain_calls.proofs.Taking.{takes_then}
+use Rattle.chain_requests.specs.Chains.{event_of}
+use Rattle.chain_requests.proofs.Requests.{event_answered, store_refuses, refused_takes}
+use Rattle.chain_requests.proofs.Taking.{takes_then}
 use Rattle.chain_engine.proofs.chain.Chain.answer_with.Goals as goal
 
 pub returns-in-Ok-clause-taken : goal.returns-in-Ok-clause-taken

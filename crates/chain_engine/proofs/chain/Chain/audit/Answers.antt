@@ -1,9 +1,9 @@
 use Rattle.shop_schema.proofs.Common.{◌≡◌, ◌∙◌, refl, ap, subst, arith, Ok, Err, state, Failed}
-use Rattle.chain_calls.specs.Holding.{Chained}
-use Rattle.chain_calls.specs.Chains.{Takes}
-use Rattle.chain_calls.specs.Audits.{AuditsState}
-use Rattle.chain_calls.specs.Decisions.{FindsAudit}
-use Rattle.chain_calls.proofs.Requests.{audited}
+use Rattle.chain_requests.specs.Holding.{Chained}
+use Rattle.chain_requests.specs.Chains.{Takes}
+use Rattle.chain_requests.specs.Audits.{AuditsState}
+use Rattle.chain_requests.specs.Decisions.{FindsAudit}
+use Rattle.chain_requests.proofs.Requests.{audited}
 use Rattle.chain_engine.proofs.Failing.{is_live, leaves_no_more, stays_refused, look_refused, refused_fails, refused_leaves}
 use Rattle.chain_engine.proofs.chain.Chain.audit.Goals as goal
 

@@ -1,8 +1,8 @@
 use Rattle.shop_schema.proofs.Common.{◌≡◌, ◌∙◌, true, refl, sym, ap, subst, arith, Ok, Err, false≢true, Failed}
-use Rattle.chain_calls.specs.Holding.{Chained}
-use Rattle.chain_calls.specs.Chains.{Takes}
-use Rattle.chain_calls.specs.Decisions.{FindsCaller}
-use Rattle.chain_calls.proofs.Requests.{found, known_already, found_and_kept}
+use Rattle.chain_requests.specs.Holding.{Chained}
+use Rattle.chain_requests.specs.Chains.{Takes}
+use Rattle.chain_requests.specs.Decisions.{FindsCaller}
+use Rattle.chain_requests.proofs.Requests.{found, known_already, found_and_kept}
 use Rattle.chain_engine.proofs.Failing.{is_live, leaves_no_more, stays_refused, look_refused, refused_fails, refused_leaves}
 use Rattle.chain_engine.proofs.chain.Chain.caller.Goals as goal
 

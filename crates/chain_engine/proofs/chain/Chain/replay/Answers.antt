@@ -1,11 +1,11 @@
 use Rattle.shop_schema.proofs.Common.{◌≡◌, ◌∙◌, ℕ, ◌+◌, ◌++◌, ◌∷◌, [], List, take, map, refl, true, sym, ap, arith, or-false, take_more, take_all, map-append, All-nil, Answer, problem_answer, StoreFailed, has_failed, is_store_failure, failed_failure, failed_more, seen_reply}
 use Rattle.std.proofs.lemmas.List.Elements.{All-push}
 use Rattle.shop_types.specs.declared.request.Request.{Request}
-use Rattle.chain_calls.specs.Holding.{Chained}
-use Rattle.chain_calls.specs.Chains.{event_of}
+use Rattle.chain_requests.specs.Holding.{Chained}
+use Rattle.chain_requests.specs.Chains.{event_of}
 use Rattle.branch_reports.specs.Told.{IsTold}
-use Rattle.chain_calls.proofs.Running.{has_failed_then, runs_none, runs_more}
-use Rattle.chain_calls.proofs.Taking.{takes_same, takes_then}
+use Rattle.chain_requests.proofs.Running.{has_failed_then, runs_none, runs_more}
+use Rattle.chain_requests.proofs.Taking.{takes_same, takes_then}
 use Rattle.chain_engine.proofs.chain.Chain.replay.Goals as goal
 
 pub push_reserved-requires : goal.push_reserved-requires

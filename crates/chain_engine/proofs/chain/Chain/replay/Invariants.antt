@@ -1,6 +1,6 @@
 use Rattle.shop_schema.proofs.Common.{◌≡◌, ◌≤◌, true, length, take, map, vec_len, vec_capacity, has_failed, problem_answer, StoreFailed, seen_reply}
 use Rattle.std.specs.Prelude.{◌||◌, All}
-use Rattle.chain_calls.specs.Chains.{Takes, Runs, event_of}
+use Rattle.chain_requests.specs.Chains.{Takes, Runs, event_of}
 use Rattle.branch_reports.specs.Told.{IsTold}
 use Rattle.chain_engine.proofs.chain.Chain.replay.Given as goal
 

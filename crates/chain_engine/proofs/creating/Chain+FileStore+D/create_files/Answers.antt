@@ -1,7 +1,7 @@
 use Rattle.shop_schema.proofs.Common.{arith, inr, refl, subst, file_state, HasCleanDisk, empty_sound, first_books, HoldsOne}
-use Rattle.chain_calls.specs.Chains.{widest_rules}
-use Rattle.chain_calls.proofs.Opening.{opened_at}
-use Rattle.chain_calls.proofs.NewFiles.{stopped_by, holds_no_table, holds_a_table, none_or_new}
+use Rattle.chain_requests.specs.Chains.{widest_rules}
+use Rattle.chain_files.proofs.Opening.{opened_at}
+use Rattle.chain_files.proofs.NewFiles.{stopped_by, holds_no_table, holds_a_table, none_or_new}
 use Rattle.chain_engine.proofs.Results.{refused_by}
 use Rattle.chain_engine.proofs.creating.Chain+FileStore+D.create_files.Goals as goal
 

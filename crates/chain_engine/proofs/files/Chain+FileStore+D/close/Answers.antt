@@ -1,5 +1,5 @@
 use Rattle.shop_schema.proofs.Common.{subst, file_state, HoldsOne}
-use Rattle.chain_calls.proofs.Opening.{keeps_books, keeps_either}
+use Rattle.chain_files.proofs.Opening.{keeps_books, keeps_either}
 use Rattle.chain_engine.proofs.files.Chain+FileStore+D.close.Goals as goal
 
 pub returns-clause-left : goal.returns-clause-left

@@ -1,5 +1,5 @@
 use Rattle.shop_schema.proofs.Common.{inl, inr, refl, arith, ∥∥₁_map, file_state, HasCleanDisk}
-use Rattle.chain_calls.proofs.Opening.{found_rests, kept_rests, either_rests, sound_rests, opened_at, shows_what_is_found, holds_no_chain, holds_sound, holds_damage, has_this_version, has_no_version, has_other_version, left_as_found, unopened_by}
+use Rattle.chain_files.proofs.Opening.{found_rests, kept_rests, either_rests, sound_rests, opened_at, shows_what_is_found, holds_no_chain, holds_sound, holds_damage, has_this_version, has_no_version, has_other_version, left_as_found, unopened_by}
 use Rattle.chain_engine.proofs.Results.{refused_by}
 use Rattle.chain_engine.proofs.files.Chain+FileStore+D.open_files.Goals as goal
 

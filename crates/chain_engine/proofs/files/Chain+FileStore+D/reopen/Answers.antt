@@ -1,5 +1,5 @@
 use Rattle.std.proofs.Common.{◌≡◌, subst}
-use Rattle.chain_calls.proofs.Opening.{undamaged}
+use Rattle.chain_files.proofs.Opening.{undamaged}
 use Rattle.chain_engine.proofs.Results.{ok_then, err_then}
 use Rattle.chain_engine.proofs.files.Chain+FileStore+D.reopen.Goals as goal
 

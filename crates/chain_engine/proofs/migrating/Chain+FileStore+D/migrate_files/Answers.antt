@@ -1,8 +1,8 @@
 use Rattle.shop_schema.proofs.Common.{inr, refl, arith, file_state, HasCleanDisk, migrated, migrated_sound}
 use Rattle.shop_schema.proofs.Values.{migrated_values}
-use Rattle.chain_calls.specs.Chains.{widest_rules}
-use Rattle.chain_calls.proofs.Opening.{opened_at, shows_what_is_found, has_this_version, tells_version}
-use Rattle.chain_calls.proofs.OldFiles.{keeps_in_either, is_version_1, has_version_1, holds_version_1_damage, holds_version_1_soundly, tells_first, holds_neither, has_neither_version, stands_as_found, stands_as_kept, left_or_migrated, left_in_either, unmigrated_by}
+use Rattle.chain_requests.specs.Chains.{widest_rules}
+use Rattle.chain_files.proofs.Opening.{opened_at, shows_what_is_found, has_this_version, tells_version}
+use Rattle.chain_files.proofs.OldFiles.{keeps_in_either, is_version_1, has_version_1, holds_version_1_damage, holds_version_1_soundly, tells_first, holds_neither, has_neither_version, stands_as_found, stands_as_kept, left_or_migrated, left_in_either, unmigrated_by}
 use Rattle.chain_engine.proofs.Results.{refused_by}
 use Rattle.chain_engine.proofs.migrating.Chain+FileStore+D.migrate_files.Goals as goal
 

@@ -1,5 +1,0 @@
-use Rattle.chain_calls.proofs.Resting.{leaves_untouched}
-use Rattle.chain_calls.proofs.creation.create.Goals as goal
-
-pub returns-then-not-is_empty-clause-crash : goal.returns-then-not-is_empty-clause-crash
-returns-then-not-is_empty-clause-crash g c = leaves_untouched _ _

@@ -1,0 +1,7 @@
+pub mod Made
+pub mod Deciding
+pub mod Opening
+pub mod NewFiles
+pub mod Migrated
+pub mod FirstRow
+pub mod OldFiles

@@ -1,0 +1,19 @@
+-- What making a chain leaves.
+use Rattle.std.specs.Prelude.{◌≡◌}
+use Rattle.sqlite_trees.specs.Tree.{Trees}
+use Rattle.sqlite.specs.State.{State}
+use Rattle.shop_model.specs.Books.{Books}
+use Rattle.shop_model.specs.Opening.{opening_books}
+use Rattle.sql_rows.specs.Books.{no_schema}
+use Rattle.shop_schema.specs.Shop.{StandsFor, first_books}
+use Rattle.chain_files.specs.declared.creation.FirstRows.{FirstRows}
+use Rattle.chain_files.specs.declared.creation.FirstRows.TheVariants.{OfOffice, OfOpening}
+
+-- the books that the first rows of a chain stand for
+abbrev pub books_with : FirstRows → Books
+books_with (OfOffice office) = first_books office.now
+books_with OfOpening = opening_books
+
+-- what the commit of a new chain may leave, in a database that had no table
+abbrev pub LeavesMade : State → Books → Trees → Type 0
+LeavesMade old books db = old.now.schema ≡ no_schema → StandsFor db books

@@ -1,0 +1,126 @@
+-- What making, opening and migrating a chain in two files promise.
+use Rattle.std.specs.Prelude.{◌≡◌, ◌≢◌, ◌⊎◌, true, false}
+use Rattle.sqlite_disk.specs.declared.Disk.{Ghosts}
+use Rattle.sqlite_disk.specs.declared.Files.{Files}
+use Rattle.sqlite_wal.specs.Reads.{AreClean}
+use Rattle.sqlite_trees.specs.Tree.{Trees}
+use Rattle.sqlite_store.specs.declared.store.FileStore.{FileStore}
+use Rattle.sqlite_catalog.specs.Listing.{IsSound as IsDatabaseOf}
+use Rattle.sqlite.specs.State.{HasCleanDisk}
+use Rattle.sqlite.specs.Files.{over_files, file_state, image_of}
+use Rattle.sql_rows.specs.Books.{no_schema}
+use Rattle.shop_values.specs.LimitValues.{Limits}
+use Rattle.shop_model.specs.Books.{Books}
+use Rattle.shop_model.specs.Migration.{migrated}
+use Rattle.shop_schema.specs.Shop.{StandsFor}
+use Rattle.shop_schema.specs.declared.known.KnownVersion.TheVariants.{Other}
+use Rattle.chain_files.specs.declared.faults.OpenFault.{OpenFault}
+use Rattle.chain_files.specs.declared.faults.OpenFault.TheVariants as fault
+use Rattle.chain_requests.specs.Holding.{Chained}
+use Rattle.chain_requests.specs.Chains.{IsAt}
+use Rattle.chain_files.specs.Faults.{is_store_fault}
+use Rattle.chain_files.specs.Migrations.{AreMigrated}
+use Rattle.chain_files.specs.Files.{HoldsBooks, KeepsBooks, KeepsEither, HoldsNoChain, HoldsSoundly, HoldsDamage, HasThisVersion, HasNoVersion, HasOtherVersion, TellsVersion, HoldsVersion1Books, HoldsVersion1Soundly, KeepsVersion1Books, KeepsInEither, HoldsNoVersion1, HasVersion1, HasNeitherVersion, HoldsVersion1Damage}
+use Rattle.sql_rows.specs.Files.{HoldsOne, IsHeldIn, IsFoundIn, OpenFailed, HoldsNoTable}
+
+-- ---- making
+
+-- a database with no table, or the tables that stand for the books
+abbrev pub IsNoneOrNew : Books → Trees → Type 0
+IsNoneOrNew books db = IsDatabaseOf no_schema db ⊎ StandsFor db books
+
+-- a chain that was made in the files, with these limits and books
+pub record IsCreated {D : Type 0} {g : Ghosts D} (files : Files D) (given : Limits) (books : Books) (chain : Chained (FileStore D g)) : Type 0 where
+  pub limits : chain.limits ≡ given
+  pub live : chain.is_failed ≡ false
+  -- no wrong answer of the disk was taken as true before
+  pub honest : HasCleanDisk (file_state chain.conn) → AreClean g files.log files.db
+  -- the chain has the books
+  pub made : HasCleanDisk (file_state chain.conn) → IsAt over_files chain books books
+  -- the files held no table
+  pub none : HasCleanDisk (file_state chain.conn) → HoldsNoTable (image_of g files)
+
+-- the fault for which no chain with these books was made in the files, and what is left of them
+pub record IsNotCreated {D : Type 0} (g : Ghosts D) (files : Files D) (books : Books) (why : OpenFault) (left : Files D) : Type 0 where
+  -- Already: the files hold a database that has a table, and go on to hold it
+  pub already : AreClean g left.log left.db → why ≡ fault.Already
+      → (db : Trees) × IsHeldIn (image_of g files) db × (¬ IsDatabaseOf no_schema db) × HoldsOne g left (λ found. found ≡ db)
+  -- Any other: the files are as the opening left them that failed. Or they held no table, and what is found in them, or a crash leaves of them, has no table, or is
+  -- the whole chain.
+  pub stopped : AreClean g left.log left.db → why ≢ fault.Already → OpenFailed g files left ⊎ (HoldsNoTable (image_of g files) × HoldsOne g left (IsNoneOrNew books))
+  -- what only an opening tells isn't told
+  pub chain : why ≢ fault.NotAChain
+  pub version : why ≢ fault.OtherVersion
+  pub damaged : why ≢ fault.Damaged
+
+-- ---- opening
+
+-- a chain that was opened in the files, with these limits
+pub record IsOpenedIn {D : Type 0} {g : Ghosts D} (files : Files D) (given : Limits) (chain : Chained (FileStore D g)) : Type 0 where
+  pub limits : chain.limits ≡ given
+  pub live : chain.is_failed ≡ false
+  -- no wrong answer of the disk was taken as true before
+  pub honest : HasCleanDisk (file_state chain.conn) → AreClean g files.log files.db
+  -- whatever was known of the files, they hold sound books, which the chain has
+  pub sound : HasCleanDisk (file_state chain.conn) → (books : Books) × HoldsSoundly (image_of g files) books × IsAt over_files chain books books
+  -- the chain has the books that are found in the files,
+  pub found : HasCleanDisk (file_state chain.conn) → (books : Books) → HoldsBooks (image_of g files) books → IsAt over_files chain books books
+  -- and those that were closed
+  pub again : HasCleanDisk (file_state chain.conn) → (books : Books) → KeepsBooks g files books → IsAt over_files chain books books
+  -- or, where the store had failed, one of the two
+  pub either : HasCleanDisk (file_state chain.conn) → (books besides : Books) → KeepsEither g files books besides → ∥ IsAt over_files chain books books ⊎ IsAt over_files chain besides besides ∥₁
+  -- the files hold a chain of this version
+  pub this : HasCleanDisk (file_state chain.conn) → HasThisVersion (image_of g files)
+
+-- the fault for which no chain was opened in the files, and what is left of them
+pub record IsNotOpened {D : Type 0} (g : Ghosts D) (files : Files D) (why : OpenFault) (left : Files D) : Type 0 where
+  -- NotAChain: no tables in the files stand for books,
+  pub no_chain : AreClean g left.log left.db → why ≡ fault.NotAChain → HoldsNoChain (image_of g files)
+  -- and they don't tell a version
+  pub no_version : AreClean g left.log left.db → why ≡ fault.NotAChain → HasNoVersion (image_of g files)
+  -- OtherVersion: they tell another one
+  pub other : AreClean g left.log left.db → why ≡ fault.OtherVersion → HasOtherVersion (image_of g files)
+  -- Damaged: they hold a chain of this version, whose tables stand for no sound books
+  pub damaged : AreClean g left.log left.db → why ≡ fault.Damaged → AreClean g files.log files.db × HoldsDamage (image_of g files)
+  -- whatever the fault is, the files are as the opening of their database left them that failed; or they go on to hold what was found in them
+  pub kept : AreClean g left.log left.db → OpenFailed g files left ⊎ ((db : Trees) × IsFoundIn (image_of g files) db × HoldsOne g left (λ found. found ≡ db))
+  -- what only making a chain tells isn't told
+  pub already : why ≢ fault.Already
+
+-- ---- migrating
+
+-- a chain of version 1 in the files became one of this version, with these limits
+pub record IsMigratedIn {D : Type 0} {g : Ghosts D} (files : Files D) (given : Limits) (chain : Chained (FileStore D g)) : Type 0 where
+  pub limits : chain.limits ≡ given
+  pub live : chain.is_failed ≡ false
+  -- no wrong answer of the disk was taken as true before
+  pub honest : HasCleanDisk (file_state chain.conn) → AreClean g files.log files.db
+  -- the files held the tables of version 1
+  pub first : HasCleanDisk (file_state chain.conn) → HasVersion1 (image_of g files)
+  -- whatever was known of the files, they held sound books of version 1, and the chain has these with the terms of each rental
+  pub sound : HasCleanDisk (file_state chain.conn) → (books : Books) × HoldsVersion1Soundly (image_of g files) books × IsAt over_files chain (migrated books) (migrated books)
+  -- the chain has the books of version 1 that were found in the files, with the terms of each rental,
+  pub found : HasCleanDisk (file_state chain.conn) → (books : Books) → HoldsVersion1Books (image_of g files) books → IsAt over_files chain (migrated books) (migrated books)
+  -- or those that were closed,
+  pub again : HasCleanDisk (file_state chain.conn) → (books : Books) → KeepsVersion1Books g files books → IsAt over_files chain (migrated books) (migrated books)
+  -- also where a migration had been stopped before
+  pub resumed : HasCleanDisk (file_state chain.conn) → (books : Books) → KeepsInEither g files books → IsAt over_files chain (migrated books) (migrated books)
+
+-- the fault for which nothing was migrated in the files, or not for certain, and what is left of them
+pub record IsNotMigrated {D : Type 0} (g : Ghosts D) (files : Files D) (why : OpenFault) (left : Files D) : Type 0 where
+  -- Already: the files hold a chain of this version
+  pub already : AreClean g left.log left.db → why ≡ fault.Already → HasThisVersion (image_of g files)
+  -- NotAChain: no tables in the files, of this version or of version 1, stand for books,
+  pub no_chain : AreClean g left.log left.db → why ≡ fault.NotAChain → HoldsNoChain (image_of g files) × HoldsNoVersion1 (image_of g files)
+  -- and they don't tell either version
+  pub no_version : AreClean g left.log left.db → why ≡ fault.NotAChain → HasNeitherVersion (image_of g files)
+  -- OtherVersion: they tell one that is neither
+  pub other : AreClean g left.log left.db → why ≡ fault.OtherVersion → TellsVersion Other (image_of g files)
+  -- Damaged: they hold tables of version 1 that stand for no sound books
+  pub damaged : AreClean g left.log left.db → why ≡ fault.Damaged → AreClean g files.log files.db × HoldsVersion1Damage (image_of g files)
+  -- Whatever the fault is, the files are as the opening of their database left them that failed, or they go on to hold what was found in them; or, where the
+  -- store couldn't do its part, what that became.
+  pub kept : AreClean g left.log left.db → OpenFailed g files left
+      ⊎ ((db : Trees) × IsFoundIn (image_of g files) db × HoldsOne g left (λ found. (found ≡ db) ⊎ ((is_store_fault why ≡ true) × AreMigrated db found)))
+  -- So the books that the files kept are in what is left of them, in the one version or the other.
+  pub books : AreClean g left.log left.db → (books : Books) → KeepsInEither g files books → OpenFailed g files left ⊎ KeepsInEither g left books

@@ -1,0 +1,12 @@
+pub mod Failures
+pub mod ConsignValues
+pub mod Standing
+pub mod Asking
+pub mod Marks
+pub mod Audits
+pub mod Taking
+pub mod Branches
+pub mod Running
+pub mod Following
+pub mod Resting
+pub mod Requests

@@ -1,0 +1,9 @@
+pub mod Holding
+pub mod Branches
+pub mod Chains
+pub mod Steps
+pub mod Decisions
+pub mod Reports
+pub mod Audits
+pub mod OfficeReads
+pub mod OfficeWorks

@@ -1,0 +1,89 @@
+-- What the transaction of a request leaves.
+use Rattle.std.specs.Prelude.{◌≡◌, ◌⊎◌, ⊤, ℕ, List, Some}
+use Rattle.sqlite_trees.specs.Tree.{Trees}
+use Rattle.sqlite.specs.State.{State}
+use Rattle.shop_values.specs.LimitValues.{Limits}
+use Rattle.shop_model.specs.Machine.{Request, Unread, Do, Look, Office, OfficeLook}
+use Rattle.shop_model.specs.Shop.{Catalogue}
+use Rattle.shop_model.specs.Answers.{Answer}
+use Rattle.shop_model.specs.Books.{Books, Caller, Counter, HeadOffice, Nobody, caller_of}
+use Rattle.shop_types.specs.Seen.{seen_request, seen_office}
+use Rattle.chain_caches.specs.Films.{AreRows, KnownFilms}
+use Rattle.shop_schema.specs.Held.{IsHeld}
+use Rattle.shop_schema.specs.RowValues.{IsNumber, IsKey}
+use Rattle.shop_schema.specs.Forms.{IsCommand, IsOfficeAct}
+use Rattle.shop_schema.specs.Shop.{StandsFor, Holds}
+use Rattle.branch_work.specs.Works.{told_to, left_by, HasCome, IsKnown}
+use Rattle.branch_looks.specs.declared.work.Work.{Work}
+use Rattle.chain_requests.specs.declared.asked.Asked.{Asked}
+use Rattle.chain_requests.specs.declared.asked.Asked.TheVariants.{OfBranch, OfOffice}
+use Rattle.chain_requests.specs.declared.reports.Report.{Report}
+use Rattle.chain_requests.specs.Reports.{shown_by}
+use Rattle.chain_requests.specs.Chains.{Rests}
+
+-- ---- what is asked
+
+-- who asks, and the request
+abbrev pub asker : Asked → Caller
+asker (OfBranch b is_known request) = Counter b
+asker (OfOffice command) = HeadOffice
+
+abbrev pub asked_of : Asked → Request
+asked_of (OfBranch b is_known request) = seen_request request.now
+asked_of (OfOffice command) = Office (seen_office command.now)
+
+-- a caller whose number the tables can hold
+abbrev pub IsAsker : Caller → Type 0
+IsAsker (Counter b) = IsNumber b
+IsAsker HeadOffice = ⊤
+IsAsker Nobody = ⊤
+
+-- a request whose values the tables can hold
+abbrev pub IsAsked : Request → Type 0
+IsAsked (Unread refusal) = ⊤
+IsAsked (Do command) = IsCommand command
+IsAsked (Look ask) = ⊤
+IsAsked (Office command) = IsKey command.key × IsOfficeAct command.act
+IsAsked (OfficeLook ask) = ⊤
+
+-- ---- what is known before it
+
+-- of the asker: a branch that is said to be known is there
+abbrev pub IsKnownFor : Asked → Catalogue → Type 0
+IsKnownFor (OfBranch b is_known request) catalogue = IsKnown is_known b catalogue
+IsKnownFor (OfOffice command) catalogue = ⊤
+
+-- books that the tables can hold, of whose films these are known, and of whose catalogue this is
+abbrev pub IsHeldBy : (Catalogue → Type 0) → KnownFilms → Books → Type 0
+IsHeldBy Known films books = IsHeld books × AreRows films books.catalogue.films × Known books.catalogue
+
+-- ---- one request
+
+-- inside the transaction it is done, or it asks for a reading, which is to be shown;
+-- and the films that are known then are rows of the books after it, where of the books before it this was given
+abbrev pub Works : Limits → Caller → Request → (Books → Type 0) → KnownFilms → Work Report → State → State → Type 0
+Works limits caller request Given after work old new =
+    (books : Books) → Holds old books → Given books → HasCome shown_by limits caller request work new books × AreRows after (left_by limits caller request books).catalogue.films
+
+-- the step is made
+pub record IsMade (limits : Limits) (caller : Caller) (request : Request) (answer : Answer) (Given : Books → Type 0) (after : KnownFilms) (old new : State) : Type 0 where
+  pub reply : (books : Books) → Rests old books → Given books → answer ≡ told_to limits caller request books
+  pub books : (books : Books) → Rests old books → Given books → Rests new (left_by limits caller request books)
+  pub films : (books : Books) → Rests old books → Given books → AreRows after (left_by limits caller request books).catalogue.films
+
+-- nothing is done
+abbrev pub IsUndone : State → State → Type 0
+IsUndone old new = (books : Books) → Rests old books → IsHeld books → Rests new books
+
+-- a crash leaves the books before the request or those after it
+abbrev pub LeavesEitherOf : Limits → Caller → Request → (Books → Type 0) → State → State → Type 0
+LeavesEitherOf limits caller request Given old new =
+    (books : Books) → Rests old books → Given books → (db : Trees) → new.may_leave db → StandsFor db books ⊎ StandsFor db (left_by limits caller request books)
+
+-- what the commit of a request may leave on the disk
+abbrev pub LeavesAfter : Limits → Caller → Request → (Books → Type 0) → State → Trees → Type 0
+LeavesAfter limits caller request Given old db = (books : Books) → Rests old books → Given books → StandsFor db (left_by limits caller request books)
+
+-- the caller has the token, in whatever books the connection rests on
+abbrev pub HasCaller : List ℕ → Caller → State → Type 0
+HasCaller token caller s = (books : Books) → Rests s books → IsHeld books → caller ≡ caller_of (Some token) books.catalogue

@@ -1,0 +1,67 @@
+//! What an audit says of a chain's tables, in a transaction that changes nothing.
+
+ghost use Rattle.std.specs.Prelude.{◌≡◌, false, IfOk, true, Err};
+ghost use Rattle.sqlite.specs.Held.{state};
+ghost use Rattle.sqlite.specs.State.{HasCleanDisk, Survives};
+ghost use Rattle.shop_model.specs.Books.{Books};
+ghost use Rattle.chain_requests.specs.Chains.{Rests};
+ghost use Rattle.chain_requests.specs.Audits.{AuditsState, TellsSoundness};
+ghost use Rattle.chain_requests.specs.Steps.{IsUndone};
+
+use books_audit::audit_books;
+use shop_types::Audit;
+use sql_rows::StoreFault;
+use sqlite::{Alter, Connection};
+use std::alloc::Global;
+
+/// What an audit says of the tables, whatever they hold. The database stays as it was.
+pub fn read_audit<S: Alter>(alloc: Global, conn: &mut Connection<S>) -> Result<Audit, StoreFault>
+    requires { conn.old.in_transaction ≡ false }
+    ensures ended { conn.new.in_transaction ≡ false }
+    ensures told { HasCleanDisk (state S.Store conn.new) → IfOk result (AuditsState (state S.Store conn.old)) }
+    ensures same { HasCleanDisk (state S.Store conn.new) → (books : Books) → Rests (state S.Store conn.old) books
+        → Rests (state S.Store conn.new) books }
+    ensures crash { Survives (state S.Store conn.old) (state S.Store conn.new) (λ _. ⊥) }
+{
+    let mut tx = conn.transaction();
+    let audit = audit_books(alloc, &mut tx);
+    tx.rollback();
+    audit
+}
+
+/// What an audit says of the tables. Of a chain that has failed it is `Failed`, and the connection isn't used.
+pub fn audit_unless_failed<S: Alter>(
+    alloc: Global,
+    is_failed: bool,
+    conn: &mut Connection<S>,
+) -> Result<Audit, StoreFault>
+    requires { conn.old.in_transaction ≡ false }
+    ensures failed { is_failed ≡ true → (conn.new ≡ conn.old) × (result ≡ Err StoreFault.Failed) }
+    ensures ended { conn.new.in_transaction ≡ false }
+    ensures told { HasCleanDisk (state S.Store conn.new) → IfOk result (AuditsState (state S.Store conn.old)) }
+    ensures same { HasCleanDisk (state S.Store conn.new) → IsUndone (state S.Store conn.old) (state S.Store conn.new) }
+    ensures crash { Survives (state S.Store conn.old) (state S.Store conn.new) (λ _. ⊥) }
+{
+    if is_failed {
+        return Err(StoreFault::Failed);
+    }
+    read_audit(alloc, conn)
+}
+
+/// Whether the tables, which are those of a chain, stand for sound books: exactly where an audit of them says so.
+/// Nothing is written.
+pub fn tables_are_sound<S: Alter>(
+    alloc: Global,
+    conn: &mut Connection<S>,
+) -> Result<bool, StoreFault>
+    requires { conn.old.in_transaction ≡ false }
+    ensures ended { conn.new.in_transaction ≡ false }
+    ensures told { HasCleanDisk (state S.Store conn.new)
+        → IfOk result (λ it. TellsSoundness it (state S.Store conn.old)) }
+    ensures same { HasCleanDisk (state S.Store conn.new) → (books : Books) → Rests (state S.Store conn.old) books
+        → Rests (state S.Store conn.new) books }
+    ensures crash { Survives (state S.Store conn.old) (state S.Store conn.new) (λ _. ⊥) }
+{
+    let audit = read_audit(alloc, conn)?;
+    Ok(audit.sound)
+}

@@ -1,0 +1,64 @@
+//! Whose token it is, in a transaction that changes nothing.
+
+ghost use Rattle.std.specs.Prelude.{◌≡◌, false, IfOk, Some, true, Err};
+ghost use Rattle.sqlite.specs.Held.{state};
+ghost use Rattle.sqlite.specs.State.{HasCleanDisk, Survives};
+ghost use Rattle.sql_rows.specs.Calls.{DoesInside};
+ghost use Rattle.shop_model.specs.Books.{caller_of};
+ghost use Rattle.shop_types.specs.Seen.{seen_caller};
+ghost use Rattle.shop_ledger.specs.Calls.{Finds};
+ghost use Rattle.chain_requests.specs.Steps.{IsUndone, HasCaller};
+
+use shop_store::branches::branch_with;
+use shop_store::chain::is_office;
+use shop_types::{Caller, Token};
+use sql_rows::StoreFault;
+use sqlite::{Alter, Connection, Transaction};
+
+/// The caller whose token it is.
+pub fn find_caller<S: Alter>(conn: &mut Connection<S>, token: &Token) -> Result<Caller, StoreFault>
+    requires { conn.old.in_transaction ≡ false }
+    ensures ended { conn.new.in_transaction ≡ false }
+    ensures found { HasCleanDisk (state S.Store conn.new)
+        → IfOk result (λ caller. HasCaller token.now (seen_caller caller) (state S.Store conn.old)) }
+    ensures same { HasCleanDisk (state S.Store conn.new) → IsUndone (state S.Store conn.old) (state S.Store conn.new) }
+    ensures crash { Survives (state S.Store conn.old) (state S.Store conn.new) (λ _. ⊥) }
+{
+    let mut tx = conn.transaction();
+    let caller = caller_in(&mut tx, token);
+    tx.rollback();
+    caller
+}
+
+fn caller_in<S: Alter>(tx: &mut Transaction<'_, S>, token: &Token) -> Result<Caller, StoreFault>
+    ensures { DoesInside S.Store tx.old.conn tx.new.conn result
+        (λ caller. Finds (λ books. seen_caller caller ≡ caller_of (Some token.now) books.catalogue)) }
+{
+    if is_office(tx, token)? {
+        return Ok(Caller::Office);
+    }
+    match branch_with(tx, token)? {
+        Some(branch) => Ok(Caller::Branch(branch)),
+        None => Ok(Caller::Nobody),
+    }
+}
+
+/// The caller whose token it is. Of a chain that has failed it is `Failed`, and the connection isn't used.
+pub fn caller_unless_failed<S: Alter>(
+    is_failed: bool,
+    conn: &mut Connection<S>,
+    token: &Token,
+) -> Result<Caller, StoreFault>
+    requires { conn.old.in_transaction ≡ false }
+    ensures failed { is_failed ≡ true → (conn.new ≡ conn.old) × (result ≡ Err StoreFault.Failed) }
+    ensures ended { conn.new.in_transaction ≡ false }
+    ensures found { HasCleanDisk (state S.Store conn.new)
+        → IfOk result (λ caller. HasCaller token.now (seen_caller caller) (state S.Store conn.old)) }
+    ensures same { HasCleanDisk (state S.Store conn.new) → IsUndone (state S.Store conn.old) (state S.Store conn.new) }
+    ensures crash { Survives (state S.Store conn.old) (state S.Store conn.new) (λ _. ⊥) }
+{
+    if is_failed {
+        return Err(StoreFault::Failed);
+    }
+    find_caller(conn, token)
+}
