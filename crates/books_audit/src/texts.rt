@@ -3,7 +3,7 @@
 ghost use Rattle.std.specs.Prelude.{◌≡◌, ◌↔◌, IsTrue, IsUtf8};
 ghost use Rattle.std.specs.List.{list_all};
 ghost use Rattle.std.specs.Str.{bytes_eq};
-ghost use Rattle.shop_values.specs.Texts.{is_text, is_printed, is_key, is_key_byte};
+ghost use Rattle.shop_types.specs.Texts.{is_text, is_printed, is_key, is_key_byte};
 ghost use Rattle.shop_schema.specs.RowValues.{IsRating, IsFeatures};
 
 use shop_types::Features;

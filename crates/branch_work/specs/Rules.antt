@@ -1,5 +1,5 @@
 -- The rules of a chain with these limits.
-use Rattle.shop_values.specs.LimitValues.{Limits}
+use Rattle.shop_types.specs.LimitValues.{Limits}
 use Rattle.shop_model.specs.Values.{Rules}
 use Rattle.stock_csv.specs.Stock.{stock_of}
 

@@ -1,7 +1,7 @@
 -- What a request does inside one transaction, whoever asks it.
 use Rattle.std.specs.Prelude.{◌≡◌, ℕ, Bool, false, IsTrue}
 use Rattle.sqlite.specs.State.{State}
-use Rattle.shop_values.specs.LimitValues.{Limits}
+use Rattle.shop_types.specs.LimitValues.{Limits}
 use Rattle.shop_model.specs.Rows.{lacks}
 use Rattle.shop_model.specs.Values.{Text, Command}
 use Rattle.shop_model.specs.Shop.{Catalogue}

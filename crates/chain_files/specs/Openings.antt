@@ -9,7 +9,7 @@ use Rattle.sqlite_catalog.specs.Listing.{IsSound as IsDatabaseOf}
 use Rattle.sqlite.specs.State.{HasCleanDisk}
 use Rattle.sqlite.specs.Files.{over_files, file_state, image_of}
 use Rattle.sql_rows.specs.Books.{no_schema}
-use Rattle.shop_values.specs.LimitValues.{Limits}
+use Rattle.shop_types.specs.LimitValues.{Limits}
 use Rattle.shop_model.specs.Books.{Books}
 use Rattle.shop_model.specs.Migration.{migrated}
 use Rattle.shop_schema.specs.Shop.{StandsFor}

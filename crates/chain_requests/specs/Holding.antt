@@ -4,7 +4,7 @@ use Rattle.std.specs.Coded.{Coded, code_by, coded×, coded_ℕ, coded_bool}
 use Rattle.sqlite.specs.Held.{Held, held_code}
 use Rattle.chain_caches.specs.Films.{KnownFilms, entries_code}
 use Rattle.chain_caches.specs.Callers.{KnownCallers, callers_code}
-use Rattle.shop_values.specs.LimitValues.{Limits}
+use Rattle.shop_types.specs.LimitValues.{Limits}
 use Rattle.shop_model.specs.Books.{Books}
 
 -- the limits, whether the store has failed, what is known of films and of callers, and the connection to the store

@@ -1,7 +1,7 @@
 -- What a command of head office does inside one transaction.
 use Rattle.std.specs.Prelude.{Option}
 use Rattle.sqlite.specs.State.{State}
-use Rattle.shop_values.specs.LimitValues.{Limits}
+use Rattle.shop_types.specs.LimitValues.{Limits}
 use Rattle.shop_model.specs.Values.{OfficeCommand}
 use Rattle.shop_model.specs.Machine.{Office}
 use Rattle.shop_model.specs.Books.{Books, HeadOffice}

@@ -1,6 +1,6 @@
 -- A branch is sent what its own machine says, so the same wherever it sees the same.
 use Rattle.shop_types.proofs.Common.{◌∙◌, ap, sym, map, List, flat_map, State, Input, replies, Answer, answer_of, state_of}
-use Rattle.shop_values.specs.LimitValues.{Limits}
+use Rattle.shop_types.specs.LimitValues.{Limits}
 use Rattle.shop_model.proofs.SameStates.{told_same}
 use Rattle.branch_work.specs.Rules.{rules_of}
 use Rattle.counter_http.specs.Exchanges.{text_of}

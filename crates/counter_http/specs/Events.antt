@@ -1,7 +1,7 @@
 -- A message as an event of the chain, and what the chain may do at it.
 use Rattle.std.specs.Prelude.{ℕ, List, Option, Some, None, option_and_then, if◌then◌else◌}
 use Rattle.http_messages.specs.Message.{Message}
-use Rattle.shop_values.specs.Texts.{is_token}
+use Rattle.shop_types.specs.Texts.{is_token}
 use Rattle.shop_model.specs.Machine.{Request}
 use Rattle.shop_model.specs.Answers.{Answer}
 use Rattle.shop_model.specs.Books.{Event, Caller, Nobody, caller_of}

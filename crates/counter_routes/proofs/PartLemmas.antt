@@ -1,6 +1,6 @@
 -- What the proofs on the parts of a path cite: a part that is of its form is ASCII, and so UTF-8.
 use Rattle.shop_types.proofs.Common.{◌≡◌, ℕ, List, false, subst, arith, None, false_from_ne_true, IsUtf8, moment_text-utf8, is_key}
-use Rattle.shop_values.proofs.AsciiTexts.{key_is_utf8}
+use Rattle.shop_types.proofs.AsciiTexts.{key_is_utf8}
 use Rattle.counter_routes.specs.Moments.{moment_of}
 use Rattle.counter_routes.proofs.MomentLemmas.{read_is}
 

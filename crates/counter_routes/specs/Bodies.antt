@@ -4,8 +4,8 @@ use Rattle.std.specs.Str.{is_utf8}
 use Rattle.serde_json.specs.Data.{Data, Items, no_items, item, Members, no_members, member}
 use Rattle.serde_json.specs.Find.{get, as_null, as_bool, as_str, as_number, as_u64, as_array, as_object}
 use Rattle.serde_json.specs.Read.{read}
-use Rattle.shop_values.specs.Texts.{is_text, is_key}
-use Rattle.shop_values.specs.Numbers.{is_row_number}
+use Rattle.shop_types.specs.Texts.{is_text, is_key}
+use Rattle.shop_types.specs.Numbers.{is_row_number}
 use Rattle.shop_model.specs.Calendar.{Moment}
 use Rattle.shop_model.specs.Values.{Text, Person}
 use Rattle.counter_routes.specs.Moments.{moment_of}

@@ -1,8 +1,8 @@
 -- What an import is: its path's parts say all of the command but the stock file, which is the body.
 use Rattle.std.specs.Prelude.{ℕ, List, slice_get, Option, Some, option_and_then}
 use Rattle.http_messages.specs.Items.{parts}
-use Rattle.shop_values.specs.Texts.{is_key}
-use Rattle.shop_values.specs.Numbers.{row_number_of}
+use Rattle.shop_types.specs.Texts.{is_key}
+use Rattle.shop_types.specs.Numbers.{row_number_of}
 use Rattle.shop_model.specs.Calendar.{Moment}
 use Rattle.shop_model.specs.Values.{Text, Import, Command}
 use Rattle.counter_routes.specs.Moments.{moment_of}

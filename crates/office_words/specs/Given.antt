@@ -7,7 +7,7 @@ use Rattle.clap.specs.ValueTests.{is_numeral}
 use Rattle.clap.specs.Words.{Row, Text, first_of, one_of, found_of, rows_of}
 use Rattle.clap.specs.declared.parser.matches.ArgMatches.{ArgMatches}
 use Rattle.shop_model.specs.OfficeActs.{rule_name}
-use Rattle.shop_values.specs.Texts.{is_text, is_key, is_token}
+use Rattle.shop_types.specs.Texts.{is_text, is_key, is_token}
 use Rattle.shop_types.specs.declared.film.Rating.{Rating}
 use Rattle.shop_types.specs.declared.film.Features.{Features}
 use Rattle.shop_types.specs.declared.rule.Rule.{Rule}

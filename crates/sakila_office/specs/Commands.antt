@@ -5,7 +5,7 @@ use Rattle.sqlite_disk.specs.declared.Disk.{Ghosts}
 use Rattle.sqlite_disk.specs.declared.Files.{Files}
 use Rattle.sqlite_wal.specs.Reads.{AreClean}
 use Rattle.sqlite.specs.Files.{image_of}
-use Rattle.shop_values.specs.LimitValues.{most_limits}
+use Rattle.shop_types.specs.LimitValues.{most_limits}
 use Rattle.shop_model.specs.Refusals.{Decision, Already}
 use Rattle.shop_model.specs.Answers.{Answer, problem_answer}
 use Rattle.shop_model.specs.Books.{Books, HeadOffice}

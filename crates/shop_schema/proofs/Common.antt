@@ -99,10 +99,10 @@ pub use Rattle.shop_model.specs.Stock.{balance, film_in_stock, film_not_in_stock
 pub use Rattle.shop_model.specs.Values.{Act, Actor, AddActor, AddBranch, AddCast, AddCategory, AddCity, AddCountry, AddCustomer, AddFilm, AddLanguage, AddStaff, Arrival, Ask, Balance, Branch, ByCode, ByComment, Cast, ChooseRule, City, Command, Copies, Copy, CopyState, Customer, Dispatch, Film, FilmInStock, FilmNotInStock, HeldBy, Here, Import, InStock, OfficeAct, OfficeAsk, OfficeCommand, OneCustomer, OneFilm, Parcel, Pay, Payment, Person, PriceFilm, Receive, Rent, Rental, Rewards, Rule, Rules, Scrap, Scrapped, Sent, SetActive, SetManager, Staff, StaffLeaves, Stock, TakeBack, Terms, Text, WithdrawFilm}
 pub use Rattle.shop_model.specs.Verdict.{Accepted, Again, Refused, Verdict, office_verdict, verdict}
 pub use Rattle.shop_model.specs.Views.{ActorRow, FilmRow, PersonRow, StoreRow, actor_row, categories_by_name, category_name, city_name, country_name, customer_list, film_row, films_of, full_name, insert_by, is_before_text, is_cast, manager_name, overdue_list, overdue_row, paid_rentals, person_name, person_row, sales_by_category, sales_of, sells_more, sorted_by, staff_list, takings}
-pub use Rattle.shop_values.proofs.AsciiTexts.{token_is_utf8}
-pub use Rattle.shop_values.proofs.MomentLemmas.{moment_text-utf8}
-pub use Rattle.shop_values.specs.LimitValues.{Limits, most_limits}
-pub use Rattle.shop_values.specs.Texts.{is_key, is_text, is_token}
+pub use Rattle.shop_types.proofs.AsciiTexts.{token_is_utf8}
+pub use Rattle.shop_types.proofs.MomentLemmas.{moment_text-utf8}
+pub use Rattle.shop_types.specs.LimitValues.{Limits, most_limits}
+pub use Rattle.shop_types.specs.Texts.{is_key, is_text, is_token}
 pub use Rattle.shop_types.specs.Decisions.{IsVerdict}
 pub use Rattle.shop_types.specs.Films.{features_of, features_text, rating_of, rating_text}
 pub use Rattle.shop_types.specs.Replies.{seen_reply}

@@ -9,8 +9,8 @@ use Rattle.sqlite.specs.declared.types.Value.TheVariants.{Text}
 use Rattle.sqlite.specs.Values.{or_null}
 use Rattle.sqlite_value.specs.Order as sql
 use Rattle.sql_rows.specs.Rows.{number_value, flag_value}
-use Rattle.shop_values.specs.Numbers.{is_row_number}
-use Rattle.shop_values.specs.Texts.{is_text, is_key, is_token}
+use Rattle.shop_types.specs.Numbers.{is_row_number}
+use Rattle.shop_types.specs.Texts.{is_text, is_key, is_token}
 use Rattle.shop_model.specs.Calendar.{Moment, IsMoment, moment_text}
 use Rattle.shop_model.specs.Rows.{Row, Owned, numbered, owned_by}
 use Rattle.shop_model.specs.Values.{Person, City, Actor, Film, Cast, Branch, Staff, Customer, CopyState, Here, Sent, Scrapped, Rental, Terms, Rule, ByCode, ByComment, Payment}

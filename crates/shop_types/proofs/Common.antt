@@ -59,11 +59,11 @@ pub use Rattle.shop_model.specs.Values.{Act, AddCustomer, AddFilm, Arrival, Bran
 pub use Rattle.shop_model.specs.Verdict.{Accepted, Again, Refused, Verdict, first, is_before, office_resent, office_verdict, refusals, resent, staff_is, verdict}
 pub use Rattle.shop_model.specs.OfficeActs.{office_refusals, office_acted, rule_name}
 pub use Rattle.shop_model.specs.Acts.{act_refusals, are_lines, arrival, is_away, is_film_withdrawn, new_copies, acted, incoming, numbers_from}
-pub use Rattle.shop_values.proofs.CalendarLemmas.{days_from_civil-day_of}
-pub use Rattle.shop_values.proofs.MomentLemmas.{moment_text-utf8}
-pub use Rattle.shop_values.specs.Moments.{IsDigits, IsTextOf}
-pub use Rattle.shop_values.specs.Numbers.{is_plain_number, is_row_number, is_ten_digits, row_number_of}
-pub use Rattle.shop_values.specs.Texts.{is_key}
+pub use Rattle.shop_types.proofs.CalendarLemmas.{days_from_civil-day_of}
+pub use Rattle.shop_types.proofs.MomentLemmas.{moment_text-utf8}
+pub use Rattle.shop_types.specs.Moments.{IsDigits, IsTextOf}
+pub use Rattle.shop_types.specs.Numbers.{is_plain_number, is_row_number, is_ten_digits, row_number_of}
+pub use Rattle.shop_types.specs.Texts.{is_key}
 pub use Rattle.shop_types.specs.Replies.{body_bytes, has_fixed_body, seen_reply}
 pub use Rattle.shop_types.specs.Seen.{seen_branch, seen_caller, seen_command, seen_film, seen_line_state, seen_mark, seen_office, seen_parcel_line, seen_payment, seen_person, seen_refusal, seen_rental, seen_rule, seen_staff, seen_state}
 pub use Rattle.shop_types.specs.StockFiles.{is_stock_file}

@@ -6,3 +6,7 @@ pub mod StockFiles
 pub mod NumberLists
 pub mod Verdicts
 pub mod Decisions
+pub mod Texts
+pub mod Numbers
+pub mod LimitValues
+pub mod Moments

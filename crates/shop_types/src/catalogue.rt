@@ -1,5 +1,4 @@
-use crate::Person;
-use shop_values::{BranchNo, CityNo, CountryNo, L45, T45, T128, Token};
+use crate::{BranchNo, CityNo, CountryNo, L45, Person, T45, T128, Token};
 
 /// A city of a country.
 #[derive(Drop)]

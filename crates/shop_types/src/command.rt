@@ -1,6 +1,6 @@
-use crate::{CopyNos, LineNos, NewCustomer, StockFile};
-use shop_values::{
-    Amount, BranchNo, ConsignmentNo, CopyNo, CustomerNo, Key, LotName, Moment, RentalNo, StaffNo,
+use crate::{
+    Amount, BranchNo, ConsignmentNo, CopyNo, CopyNos, CustomerNo, Key, LineNos, LotName, Moment,
+    NewCustomer, RentalNo, StaffNo, StockFile,
 };
 
 /// What a counter's command does.

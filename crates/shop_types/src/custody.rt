@@ -2,7 +2,7 @@ ghost use Rattle.std.specs.Prelude.{◌≡◌, ℕ};
 ghost use Rattle.shop_model.specs.Stock.{is_here};
 ghost use Rattle.shop_types.specs.Seen.{seen_state};
 
-use shop_values::{BranchNo, ConsignmentNo, CopyNo};
+use crate::{BranchNo, ConsignmentNo, CopyNo};
 
 /// What a copy was when it came into the chain: the branch that imported it, and its number there. It keeps its mark
 /// wherever it is sent.

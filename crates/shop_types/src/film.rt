@@ -3,7 +3,7 @@ ghost use Rattle.shop_types.specs.declared.film.Rating.{Rating};
 ghost use Rattle.shop_types.specs.declared.film.Features.{Features};
 ghost use Rattle.shop_types.specs.Films.{rating_text, rating_of, features_text, features_of};
 
-use shop_values::{Amount, CategoryNo, L500, LanguageNo, Rate, T128};
+use crate::{Amount, CategoryNo, L500, LanguageNo, Rate, T128};
 use std::marker::Model;
 
 /// How many days a film may be kept, from 1 to 255.

@@ -1,4 +1,4 @@
-use shop_values::BranchNo;
+use crate::BranchNo;
 
 /// The kept row of a command's key, as compared with the command.
 #[derive(Clone, Copy)]

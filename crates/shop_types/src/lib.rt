@@ -1,5 +1,5 @@
-//! What callers ask of the shop and are told: commands, readings, refusals and replies, each with its meaning in the
-//! definitions.
+//! The values of the shop as plain data (moments, texts, keys, tokens, numbers of rows, limits, money), and what callers
+//! ask and get: commands, readings, refusals and replies, each with its meaning in the definitions.
 #![tactic(auto)]
 
 mod audit;
@@ -9,7 +9,12 @@ mod command;
 mod custody;
 mod film;
 mod found;
+mod key;
+mod limits;
 mod line;
+mod moment;
+mod money;
+mod no_memory;
 mod numbers;
 mod office;
 mod parcel;
@@ -19,8 +24,11 @@ mod refusal;
 mod rental;
 mod reply;
 mod request;
+mod row_number;
 mod rule;
 mod stock_file;
+mod text;
+mod token;
 mod words;
 
 pub use audit::Audit;
@@ -30,7 +38,12 @@ pub use command::{Act, Command};
 pub use custody::{CopyState, LineState, Mark, Place, is_here};
 pub use film::{Features, Film, Minutes, Period, Rating};
 pub use found::{KeptFound, StaffFound};
+pub use key::{Key, LotName, Name};
+pub use limits::Limits;
 pub use line::{Line, LineAct, Usage};
+pub use moment::{Moment, moment_texts_are_one_to_one};
+pub use money::{Amount, Cents, Rate};
+pub use no_memory::NoMemory;
 pub use numbers::{CopyNos, LineNos, Numbers};
 pub use office::{OfficeAct, OfficeCommand};
 pub use parcel::{ParcelLine, ParcelLines};
@@ -40,12 +53,12 @@ pub use refusal::{BadCsv, Refusal};
 pub use rental::{Rental, Terms};
 pub use reply::{Body, Reply};
 pub use request::{Ask, Caller, OfficeAsk, Request, View};
-pub use rule::Rule;
-pub use shop_values::{
-    ActorNo, Amount, BranchNo, CategoryNo, Cents, CityNo, ConsignmentNo, CopyNo, CountryNo,
-    CustomerNo, FilmNo, Key, L45, L500, LanguageNo, Limits, LineNo, LotName, Moment, Name,
-    NoMemory, PaymentNo, Rate, RentalNo, RowNumber, StaffNo, T45, T128, Text, Token,
-    moment_texts_are_one_to_one,
+pub use row_number::{
+    ActorNo, BranchNo, CategoryNo, CityNo, ConsignmentNo, CopyNo, CountryNo, CustomerNo, FilmNo,
+    LanguageNo, LineNo, PaymentNo, RentalNo, RowNumber, StaffNo,
 };
+pub use rule::Rule;
 pub use stock_file::StockFile;
+pub use text::{L45, L500, T45, T128, Text};
+pub use token::Token;
 pub use words::OfficeWords;

@@ -1,5 +1,4 @@
-use crate::{OfficeAsk, OfficeCommand};
-use shop_values::Token;
+use crate::{OfficeAsk, OfficeCommand, Token};
 
 /// What a line of words asks the program of head office for.
 #[derive(Drop)]

@@ -1,7 +1,7 @@
 ghost use Rattle.std.specs.Prelude.{◌≡◌, ◌≤◌, ℕ, List, Some, None, length, if◌then◌else◌};
 ghost use Rattle.shop_types.specs.NumberLists.{is_number_list};
 
-use shop_values::RowNumber;
+use crate::RowNumber;
 use std::marker::Model;
 
 /// A list of numbers of rows, in any order and whatever stands in it twice: at most 65,536, which is more than the

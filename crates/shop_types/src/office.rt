@@ -1,5 +1,6 @@
-use crate::{Actor, Branch, City, Film, Rule, Staff};
-use shop_values::{ActorNo, BranchNo, FilmNo, Key, Rate, StaffNo, T45};
+use crate::{
+    Actor, ActorNo, Branch, BranchNo, City, Film, FilmNo, Key, Rate, Rule, Staff, StaffNo, T45,
+};
 
 /// What a command of head office does to the catalogue.
 #[derive(Drop)]

@@ -1,8 +1,7 @@
 ghost use Rattle.std.specs.Prelude.{◌≡◌, ◌≤◌, Some, None, length, if◌then◌else◌};
 ghost use Rattle.shop_types.specs.NumberLists.{are_few};
 
-use crate::Mark;
-use shop_values::FilmNo;
+use crate::{FilmNo, Mark};
 use std::marker::Model;
 
 /// A line of a consignment: the film and the mark of its copy.

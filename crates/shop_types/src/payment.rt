@@ -1,4 +1,4 @@
-use shop_values::{Amount, CustomerNo, Moment, RentalNo, StaffNo};
+use crate::{Amount, CustomerNo, Moment, RentalNo, StaffNo};
 
 /// A payment of a customer. Its number is that of its row.
 #[derive(Clone, Copy)]

@@ -1,4 +1,4 @@
-use shop_values::{CityNo, L45, Moment, T45, T128};
+use crate::{CityNo, L45, Moment, T45, T128};
 
 /// Who a customer or a member of staff is.
 #[derive(Clone, Drop)]

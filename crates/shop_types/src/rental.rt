@@ -1,5 +1,4 @@
-use crate::Period;
-use shop_values::{Amount, CopyNo, CustomerNo, Moment, Rate, StaffNo};
+use crate::{Amount, CopyNo, CustomerNo, Moment, Period, Rate, StaffNo};
 
 /// A rental of a branch. Its number is that of its row. A copy has one open rental at most.
 #[derive(Clone, Copy)]

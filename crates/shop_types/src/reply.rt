@@ -3,8 +3,7 @@ ghost use Rattle.shop_model.specs.Answers.{problem_answer, accepted_answer, prob
 ghost use Rattle.shop_types.specs.Seen.{seen_refusal};
 ghost use Rattle.shop_types.specs.Replies.{body_bytes, seen_reply, has_fixed_body};
 
-use crate::{BadCsv, Refusal};
-use shop_values::NoMemory;
+use crate::{BadCsv, NoMemory, Refusal};
 use std::alloc::Global;
 
 /// The body of a reply: a JSON text (RFC 8259).

@@ -1,5 +1,4 @@
-use crate::{Command, Mark, OfficeCommand};
-use shop_values::{BranchNo, CopyNo, CustomerNo, FilmNo, Moment};
+use crate::{BranchNo, Command, CopyNo, CustomerNo, FilmNo, Mark, Moment, OfficeCommand};
 
 /// What a counter's reading shows.
 #[derive(Clone, Copy)]

@@ -10,7 +10,7 @@ use crate::lists::ListedRow;
 use crate::names::{PersonName, with_between};
 use crate::{Field, object_of};
 use serde_json::Value;
-use shop_values::{ActorNo, T45, T128};
+use shop_types::{ActorNo, T45, T128};
 use std::alloc::{AllocError, Global};
 
 /// An actor's films of a category.

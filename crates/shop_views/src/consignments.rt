@@ -7,7 +7,7 @@ ghost use Rattle.shop_views.specs.Lists.{IsRow};
 
 use crate::{Field, object_of};
 use serde_json::Value;
-use shop_values::{BranchNo, ConsignmentNo, FilmNo};
+use shop_types::{BranchNo, ConsignmentNo, FilmNo};
 use std::alloc::{AllocError, Global};
 
 /// A consignment with the films of its lines.

@@ -4,8 +4,7 @@ ghost use Rattle.shop_model.specs.Answers.{customer_text};
 ghost use Rattle.shop_types.specs.Seen.{seen_customer};
 
 use crate::fields::{Field, object_text};
-use shop_types::Customer;
-use shop_values::CustomerNo;
+use shop_types::{Customer, CustomerNo};
 use std::alloc::{AllocError, Global};
 
 /// The body with that text of the moment.

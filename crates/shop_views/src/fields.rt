@@ -7,7 +7,7 @@ ghost use Rattle.shop_views.specs.Fields.{with_field, fields_value, fields_text}
 
 use crate::numbers::numbers_value;
 use serde_json::{Map, Value, put};
-use shop_values::{FilmNo, RowNumber};
+use shop_types::{FilmNo, RowNumber};
 use std::alloc::{AllocError, Global};
 
 /// A member of an object: its name and what it holds.

@@ -6,8 +6,7 @@ ghost use Rattle.shop_views.specs.FilmBodies.{film_value};
 
 use crate::fields::{Field, object_of};
 use serde_json::Value;
-use shop_types::Film;
-use shop_values::FilmNo;
+use shop_types::{Film, FilmNo};
 use std::alloc::{AllocError, Global};
 
 fn film_value(

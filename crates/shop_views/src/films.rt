@@ -10,8 +10,7 @@ use crate::lists::ListedRow;
 use crate::names::PersonName;
 use crate::{Field, object_of};
 use serde_json::Value;
-use shop_types::{Minutes, Rating};
-use shop_values::{FilmNo, L45, L500, Rate, T128};
+use shop_types::{FilmNo, L45, L500, Minutes, Rate, Rating, T128};
 use std::alloc::{AllocError, Global};
 
 /// A film with the name of its category and those who play in it.

@@ -5,7 +5,7 @@ ghost use Rattle.std.specs.List.{join_by};
 ghost use Rattle.shop_views.specs.Names.{name_text};
 
 use crate::joins::Told;
-use shop_values::T45;
+use shop_types::T45;
 use std::alloc::{AllocError, Global};
 
 /// A person's names.

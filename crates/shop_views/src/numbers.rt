@@ -7,7 +7,7 @@ ghost use Rattle.shop_views.specs.Texts.{json_text};
 ghost use Rattle.shop_views.specs.Bodies.{numbers_value, listed_value, named_value};
 
 use serde_json::{Map, Value, put};
-use shop_values::RowNumber;
+use shop_types::RowNumber;
 use std::alloc::{AllocError, Global};
 
 /// The list of the numbers.

@@ -7,7 +7,7 @@ use crate::lists::ListedRow;
 use crate::names::with_between;
 use crate::{Field, object_of};
 use serde_json::Value;
-use shop_values::{L45, T45, T128};
+use shop_types::{L45, T45, T128};
 use std::alloc::{AllocError, Global};
 
 /// A rental that is overdue: its customer's names and telephone number, and its film's title.

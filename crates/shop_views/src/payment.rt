@@ -6,7 +6,7 @@ ghost use Rattle.shop_views.specs.Bodies.{balance_value};
 
 use crate::numbers::listed_text;
 use serde_json::{Map, Value, put};
-use shop_values::{Cents, CustomerNo};
+use shop_types::{Cents, CustomerNo};
 use std::alloc::{AllocError, Global};
 
 fn balance_value(alloc: Global, balance: Cents) -> Result<Value, AllocError>

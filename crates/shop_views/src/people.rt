@@ -10,7 +10,7 @@ use crate::lists::ListedRow;
 use crate::names::PersonName;
 use crate::{Field, object_of};
 use serde_json::Value;
-use shop_values::{BranchNo, CustomerNo, L45, StaffNo, T128};
+use shop_types::{BranchNo, CustomerNo, L45, StaffNo, T128};
 use std::alloc::{AllocError, Global};
 
 /// A person of a branch, with the names of the city and of its country.

@@ -5,7 +5,7 @@ ghost use Rattle.shop_model.specs.Answers.{holder_text};
 
 use crate::fields::{Field, object_text};
 use crate::numbers::listed_text;
-use shop_values::{CopyNo, CustomerNo};
+use shop_types::{CopyNo, CustomerNo};
 use std::alloc::{AllocError, Global};
 
 /// The body that shows whether a copy is in stock.

@@ -9,7 +9,7 @@ use crate::lists::ListedRow;
 use crate::names::{PersonName, full_name, with_between};
 use crate::{Field, object_of};
 use serde_json::Value;
-use shop_values::{L45, T45};
+use shop_types::{L45, T45};
 use std::alloc::{AllocError, Global};
 
 /// What a branch has taken for rentals.

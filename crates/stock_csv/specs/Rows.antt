@@ -6,7 +6,7 @@ use Rattle.std.specs.Str.Parse.{digits_value}
 use Rattle.std.specs.Option.{option_map_or}
 use Rattle.csv.specs.Reading.{default_config, records_from, strip_bom}
 use Rattle.csv.specs.declared.parser.State.TheVariants as st
-use Rattle.shop_values.specs.Numbers.{is_plain_number, row_number_of}
+use Rattle.shop_types.specs.Numbers.{is_plain_number, row_number_of}
 use Rattle.stock_csv.specs.declared.StockRow.{StockRow}
 
 abbrev pub Text : Type 0

@@ -3,7 +3,7 @@ use Rattle.std.specs.Prelude.{◌≡◌, ℕ, ◌≤◌, ◌<◌, ◌^◌, true,
 use Rattle.std.specs.List.{AllByRecursion}
 use Rattle.shop_model.specs.Values.{Stock, Copies, BadLine}
 use Rattle.shop_model.specs.Acts.{films_in}
-use Rattle.shop_values.specs.Numbers.{is_row_number}
+use Rattle.shop_types.specs.Numbers.{is_row_number}
 use Rattle.stock_csv.specs.declared.StockRow.{StockRow}
 use Rattle.stock_csv.specs.Rows.{StockRows, stock_rows_of}
 

@@ -7,15 +7,14 @@ ghost use Rattle.csv.specs.Reading.{default_config, records_from, strip_bom};
 ghost use Rattle.csv.specs.Records.{fields_of};
 ghost use Rattle.csv.specs.declared.parser.State.{State};
 ghost use Rattle.csv.specs.declared.parser.State.TheVariants as st;
-ghost use Rattle.shop_values.specs.Numbers.{row_number_of};
+ghost use Rattle.shop_types.specs.Numbers.{row_number_of};
 ghost use Rattle.stock_csv.specs.Rows.{copies_of, two_of, row_from, row_of, is_header, rows_from, stock_rows_of};
 ghost use Rattle.stock_csv.specs.Stock.{IsStock};
 ghost use Rattle.stock_csv.specs.Progress.{IsAt, Found};
 ghost use Rattle.stock_csv.specs.Fault.{IsFaultOf};
 
 use csv::{ByteRecord, Reader, ReaderBuilder};
-use shop_types::BadCsv;
-use shop_values::FilmNo;
+use shop_types::{BadCsv, FilmNo};
 use std::alloc::Global;
 
 /// A row of a stock file: how many copies of a film come, from 1 to 99.

@@ -1,7 +1,7 @@
 -- The laws of the register.
 use Rattle.std.specs.Prelude.{◌≡◌, ◌≢◌, ◌↔◌, ℕ, ◌+◌, ◌≤◌, ◌==◌, Bool, true, List, [], ◌∷◌, ◌++◌, length, slice_get, Some}
 use Rattle.std.specs.List.{AllByRecursion, list_any}
-use Rattle.shop_values.specs.Numbers.{is_row_number}
+use Rattle.shop_types.specs.Numbers.{is_row_number}
 use Rattle.shop_model.specs.Values.{Rent, TakeBack, Rental, Rules, Command}
 use Rattle.shop_model.specs.Rows.{at}
 use Rattle.shop_model.specs.Shop.{Shop}

@@ -2,7 +2,7 @@
 use Rattle.std.specs.Prelude.{ℕ, ◌-◌, ◌==◌, ◌&&◌, Bool, false, nat_le, if◌then◌else◌, List, [], ◌∷◌, length, slice_range, Option, Some, None, option_and_then, codes, decimal}
 use Rattle.std.specs.List.{fold}
 use Rattle.std.specs.Str.{bytes_eq}
-use Rattle.shop_values.specs.Numbers.{row_number_of}
+use Rattle.shop_types.specs.Numbers.{row_number_of}
 use Rattle.shop_model.specs.Values.{Text, Act, Rent, TakeBack}
 use Rattle.shop_model.specs.Json.{object}
 use Rattle.shop_model.specs.Answers.{Answer}

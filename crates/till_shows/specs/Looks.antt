@@ -4,7 +4,7 @@ use Rattle.std.specs.Option.{option_or}
 use Rattle.serde_json.specs.Data.{Data}
 use Rattle.serde_json.specs.Find.{get, as_null, as_array}
 use Rattle.shop_model.specs.Values.{Text}
-use Rattle.shop_values.specs.Numbers.{is_row_number}
+use Rattle.shop_types.specs.Numbers.{is_row_number}
 use Rattle.till_shows.specs.Bodies.{body_of, whole_number, numbers_in, number_at, cents_at, flag_at, numbers_at}
 use Rattle.till_shows.specs.Entries.{not_text}
 use Rattle.till_shows.specs.Money.{amount_text}

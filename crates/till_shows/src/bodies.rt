@@ -7,7 +7,7 @@ ghost use Rattle.till_shows.specs.Bodies.{number_at, cents_at, flag_at, numbers_
 ghost use Rattle.till_shows.specs.declared.bodies.NotShown.TheVariants.{NoMemory as OutOfMemory, OtherForm};
 
 use serde_json::Value;
-use shop_values::NoMemory as NoMemoryLeft;
+use shop_types::NoMemory as NoMemoryLeft;
 use std::alloc::{AllocError, Global};
 
 /// Why the body of a reply isn't shown.

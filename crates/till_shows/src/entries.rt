@@ -8,8 +8,9 @@ use crate::cents::money;
 use crate::looks::not;
 use crate::moments::moment_words;
 use crate::numbers::commas;
-use shop_types::{Act, Command, CopyNos, LineNos};
-use shop_values::{Amount, BranchNo, ConsignmentNo, CustomerNo, RentalNo};
+use shop_types::{
+    Act, Amount, BranchNo, Command, ConsignmentNo, CopyNos, CustomerNo, LineNos, RentalNo,
+};
 use std::alloc::{AllocError, Global};
 
 fn payment(

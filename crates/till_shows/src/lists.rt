@@ -14,7 +14,7 @@ use crate::bodies::{NotShown, has_number, owned_text, rows_of, text_at, value_of
 use crate::parts::{Part, columns_of, money_part, number, plain, row_text, searched};
 use crate::tables::Table;
 use serde_json::Value;
-use shop_values::{CustomerNo, FilmNo};
+use shop_types::{CustomerNo, FilmNo};
 use std::alloc::{AllocError, Global};
 
 /// Whether the text begins with the part, in any case of ASCII letters.

@@ -13,7 +13,7 @@ use crate::bodies::{NotShown, cents_at, flag_at, numbers_at, value_of};
 use crate::cents::amount;
 use crate::numbers::plain_commas;
 use serde_json::Value;
-use shop_values::{CopyNo, CustomerNo, FilmNo};
+use shop_types::{CopyNo, CustomerNo, FilmNo};
 use std::alloc::{AllocError, Global};
 
 /// What stands before a word that isn't so.

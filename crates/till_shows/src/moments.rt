@@ -1,11 +1,11 @@
 //! Moments, days and spans of time in words.
 
 ghost use Rattle.std.specs.Prelude.{◌≡◌, ◌≤◌, ◌<◌, ◌+◌, ℕ, length, slice_index, codes, IfOk, string_bytes};
-ghost use Rattle.shop_values.specs.Moments.{IsDigits};
+ghost use Rattle.shop_types.specs.Moments.{IsDigits};
 ghost use Rattle.till_shows.specs.Times.{month_name, day_text, clock_text, moment_text, counted_text, age_text};
 ghost use Rattle.till_shows.specs.Times.{plural_text};
 
-use shop_values::Moment;
+use shop_types::Moment;
 use std::alloc::{AllocError, Global};
 
 fn month_name(month: u8) -> &'static str

@@ -13,7 +13,7 @@ use crate::bodies::{NotShown, text_at, value_of};
 use crate::moments::moment_words;
 use crate::parts::{Part, money_part, part_text, plain};
 use serde_json::Value;
-use shop_values::Moment;
+use shop_types::Moment;
 use std::alloc::{AllocError, Global};
 
 /// A heading and a text.

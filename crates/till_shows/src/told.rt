@@ -5,8 +5,7 @@ ghost use Rattle.shop_types.specs.Replies.{has_fixed_body};
 ghost use Rattle.shop_types.specs.declared.refusal.Refusal.{Refusal as Problem};
 ghost use Rattle.till_shows.specs.Told.{refusal_of, Tells, line_start, line_end, line_body, has_short_line};
 
-use shop_types::{BadCsv, Refusal, Reply};
-use shop_values::LineNo;
+use shop_types::{BadCsv, LineNo, Refusal, Reply};
 
 /// The refusal of that number, but for that of a stock file, which names a line.
 fn refusal_of(number: u8) -> Option<Refusal>

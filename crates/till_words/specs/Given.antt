@@ -4,8 +4,8 @@ use Rattle.std.specs.Option.{option_map_or}
 use Rattle.std.specs.Str.{bytes_eq}
 use Rattle.clap.specs.Words.{Row, Text, first_of, found_of, rows_of}
 use Rattle.clap.specs.declared.parser.matches.ArgMatches.{ArgMatches}
-use Rattle.shop_values.specs.Numbers.{row_number_of}
-use Rattle.shop_values.specs.Texts.{is_text, is_key, is_token}
+use Rattle.shop_types.specs.Numbers.{row_number_of}
+use Rattle.shop_types.specs.Texts.{is_text, is_key, is_token}
 use Rattle.shop_types.specs.NumberLists.{is_number_list}
 use Rattle.shop_types.specs.declared.line.Usage.{Usage}
 use Rattle.shop_types.specs.declared.line.Usage.TheVariants as usage

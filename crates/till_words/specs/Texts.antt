@@ -4,7 +4,7 @@ use Rattle.std.specs.List.{list_all, slice_split}
 use Rattle.std.specs.Char.{is_ascii_digit}
 use Rattle.std.specs.Str.Parse.{digits_value}
 use Rattle.clap.specs.Words.{Text}
-use Rattle.shop_values.specs.Numbers.{row_number_of}
+use Rattle.shop_types.specs.Numbers.{row_number_of}
 
 -- what the function makes of the value, where there is one
 abbrev pub with_value : {A B : Type 0} → Option A → (A → Option B) → Option B

@@ -17,7 +17,7 @@ ghost use Rattle.view_texts.specs.Actors.{ActorLine, shown_actor, told_film, tak
 
 use crate::people::person_name_at;
 use shop_schema::{row_number_at, text_at};
-use shop_values::{ActorNo, CategoryNo, T45, T128};
+use shop_types::{ActorNo, CategoryNo, T45, T128};
 use shop_views::actors::{ActorRow, FilmGroup};
 use shop_views::{ListPage, PersonName};
 use sql_rows::{StoreFault, TakesRows, each_row, number_or_null_at};

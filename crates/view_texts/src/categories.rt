@@ -18,7 +18,7 @@ ghost use Rattle.view_texts.specs.CategorySums.{seen_sum, with_amount, summed, s
 
 use crate::stores::SELECT_PAYMENTS;
 use shop_schema::text_at;
-use shop_values::{BranchNo, T45};
+use shop_types::{BranchNo, T45};
 use shop_views::ListPage;
 use shop_views::sales::CategoryRow;
 use sql_rows::{StoreFault, TakesRows, each_row, number_at, number_or_null_at};

@@ -17,7 +17,7 @@ ghost use Rattle.view_texts.specs.Shown.{shown_customer, listed_customer};
 use crate::pages::{ReadsRows, rows_text};
 use crate::people::person_at;
 use shop_schema::row_number_at;
-use shop_values::BranchNo;
+use shop_types::BranchNo;
 use shop_views::people::ListedCustomer;
 use sql_rows::{StoreFault, flag_at};
 use sqlite::types::ToSql;

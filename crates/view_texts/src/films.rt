@@ -22,8 +22,7 @@ ghost use Rattle.view_texts.specs.Films.{names_of, film_alone, seen_part, take_l
 
 use crate::people::{name_at, person_name_or_null_at};
 use shop_schema::{row_number_at, text_at};
-use shop_types::{Minutes, Rating};
-use shop_values::Rate;
+use shop_types::{Minutes, Rate, Rating};
 use shop_views::ListPage;
 use shop_views::films::ListedFilm;
 use sql_rows::{StoreFault, TakesRows, each_row, number_at, number_or_null_at, words_at};

@@ -10,7 +10,7 @@ ghost use Rattle.shop_views.specs.People.{seen_person};
 ghost use Rattle.view_texts.specs.Shown.{text_or_empty, IsNameIn, shown_person};
 
 use shop_schema::text_at;
-use shop_values::{BranchNo, L45, T128};
+use shop_types::{BranchNo, L45, T128};
 use shop_views::PersonName;
 use shop_views::people::ListedPerson;
 use sql_rows::{StoreFault, words_or_null_at};

@@ -15,7 +15,7 @@ ghost use Rattle.view_texts.specs.Shown.{shown_staff, listed_staff};
 use crate::pages::{ReadsRows, rows_text};
 use crate::people::person_at;
 use shop_schema::row_number_at;
-use shop_values::BranchNo;
+use shop_types::BranchNo;
 use shop_views::people::ListedStaff;
 use sql_rows::StoreFault;
 use sqlite::types::ToSql;

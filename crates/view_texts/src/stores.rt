@@ -18,7 +18,7 @@ ghost use Rattle.view_texts.specs.Payments.{PaidLine, shown_line, Sale, sale_in}
 ghost use Rattle.view_texts.specs.Sales.{sum_of, HasSold, shown_store, store_with, HasFound, rental_sum, sales_of_branch, sales_of_first};
 
 use crate::people::{city_at, person_name_or_null_at};
-use shop_values::BranchNo;
+use shop_types::BranchNo;
 use shop_views::ListPage;
 use shop_views::sales::StoreRow;
 use sql_rows::{StoreFault, TakesRows, each_row, number_at, number_or_null_at};

@@ -1,4 +1,4 @@
-use Rattle.shop_values.proofs.AsciiTexts.{token_is_utf8}
+use Rattle.shop_types.proofs.AsciiTexts.{token_is_utf8}
 use Rattle.shop_schema.proofs.shop_cells.TokenCell.read_at.Goals as goal
 
 pub returns-in-Err-clause-failed : goal.returns-in-Err-clause-failed

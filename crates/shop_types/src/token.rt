@@ -1,6 +1,6 @@
 ghost use Rattle.std.specs.Prelude.{◌≡◌, ℕ, List, true, Some, None, if◌then◌else◌};
 ghost use Rattle.std.specs.List.{list_all};
-ghost use Rattle.shop_values.specs.Texts.{is_token, is_hex_byte};
+ghost use Rattle.shop_types.specs.Texts.{is_token, is_hex_byte};
 
 use std::marker::Model;
 
@@ -12,7 +12,7 @@ pub struct Token {
 
 impl Model for Token {
     ghost use Rattle.std.specs.Prelude.{◌≡◌, ℕ, List, true};
-    ghost use Rattle.shop_values.specs.Texts.{is_token};
+    ghost use Rattle.shop_types.specs.Texts.{is_token};
 
     ghost Value = { List ℕ };
 

@@ -4,7 +4,7 @@ ghost use Rattle.std.specs.Str.{bytes_eq};
 ghost use Rattle.std.specs.List.{list_all};
 ghost use Rattle.std.specs.Cmp.Rules.{comparing};
 ghost use Rattle.std.proofs.Common.{rules};
-ghost use Rattle.shop_values.specs.Texts.{is_text, is_printed};
+ghost use Rattle.shop_types.specs.Texts.{is_text, is_printed};
 
 use std::marker::Model;
 
@@ -29,7 +29,7 @@ pub type L500 = Text<0, 500>;
 impl<const LOW: usize, const HIGH: usize> Model for Text<LOW, HIGH> {
     ghost use Rattle.std.specs.Prelude.{◌≡◌, ℕ, List, true};
     ghost use Rattle.std.specs.String.{string_bytes};
-    ghost use Rattle.shop_values.specs.Texts.{is_text};
+    ghost use Rattle.shop_types.specs.Texts.{is_text};
 
     ghost Value = { List ℕ };
 

@@ -2,7 +2,7 @@
 use Rattle.shop_model.proofs.Common.{◌≡◌, refl, sym, subst, arith, ℕ, List, slice_index, pos, ◌+◌, ◌*◌, ◌/◌, ◌%◌, ◌≤◌, IsUtf8-from_ascii, IsAscii-cons, IsAscii-nil, AllByRecursion, IsAscii, IsUtf8, Moment, IsMoment, digit, moment_text}
 use Rattle.jiff_core.proofs.CalendarLemmas.{days_in_month_bounds}
 use Rattle.std.specs.Prelude.{◌<◌, [], ◌∷◌}
-use Rattle.shop_values.specs.Moments.{IsDigits}
+use Rattle.shop_types.specs.Moments.{IsDigits}
 
 abbrev Writes : Moment → List ℕ → Type 0
 Writes m t = IsDigits (m.year / 100) (slice_index t 0) (slice_index t 1) × IsDigits (m.year % 100) (slice_index t 2) (slice_index t 3)

@@ -1,6 +1,6 @@
 use Rattle.shop_model.proofs.Common.{true, false, ◌≡◌, ◌∙◌, sym, ap, subst, bytes_eq-Decides, IsMoment, moment_text}
-use Rattle.shop_values.proofs.MomentLemmas.{parts_read}
-use Rattle.shop_values.proofs.moment.Moment.read.Goals as goal
+use Rattle.shop_types.proofs.MomentLemmas.{parts_read}
+use Rattle.shop_types.proofs.moment.Moment.read.Goals as goal
 
 pub returns-else-eq-clause-none : goal.returns-else-eq-clause-none
 returns-else-eq-clause-none c m h e =

@@ -3,8 +3,8 @@ use Rattle.jiff_core.proofs.SignedLemmas.{signed_arith}
 use Rattle.jiff_core.proofs.CalendarLemmas.{days_in_month_bounds}
 use Rattle.jiff_core.specs.Calendar.{days_from_civil}
 use Rattle.shop_model.specs.Calendar.{day_of}
-use Rattle.shop_values.proofs.CalendarLemmas.{days_from_civil-day_of}
-use Rattle.shop_values.proofs.moment.Moment.day.Goals as goal
+use Rattle.shop_types.proofs.CalendarLemmas.{days_from_civil-day_of}
+use Rattle.shop_types.proofs.moment.Moment.day.Goals as goal
 
 day_is : (c : goal.After-to_unix_epoch_day) → c.to_unix_epoch_day.result ≡ pos (day_of c.args.self)
 day_is c =

@@ -1,6 +1,6 @@
 use Rattle.shop_model.proofs.Common.{◌∙◌, sym, subst, rules, IsUtf8}
-use Rattle.shop_values.proofs.MomentLemmas.{moment_text-utf8}
-use Rattle.shop_values.proofs.moment.MomentDisplay.fmt.Goals as goal
+use Rattle.shop_types.proofs.MomentLemmas.{moment_text-utf8}
+use Rattle.shop_types.proofs.moment.MomentDisplay.fmt.Goals as goal
 
 pub unwrap-requires : goal.unwrap-requires
 unwrap-requires g c =

@@ -1,5 +1,5 @@
 ghost use Rattle.std.specs.Prelude.{◌≡◌, ℕ, ◌≤◌, ◌<◌, ◌^◌, ◌==◌, Some, None, if◌then◌else◌};
-ghost use Rattle.shop_values.specs.Numbers.{row_number_of, ten_digits_value};
+ghost use Rattle.shop_types.specs.Numbers.{row_number_of, ten_digits_value};
 
 use std::marker::Model;
 

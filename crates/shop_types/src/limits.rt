@@ -1,5 +1,5 @@
 ghost use Rattle.std.specs.Prelude.{◌≡◌, ◌≤◌};
-ghost use Rattle.shop_values.specs.LimitValues.{is_limit, limits_of, most_limits};
+ghost use Rattle.shop_types.specs.LimitValues.{is_limit, limits_of, most_limits};
 
 use std::marker::Model;
 
@@ -12,7 +12,7 @@ pub struct Limits {
 
 impl Model for Limits {
     ghost use Rattle.std.specs.Prelude.{◌≡◌, true};
-    ghost use Rattle.shop_values.specs.LimitValues.{Limits as LimitsValue, is_limits};
+    ghost use Rattle.shop_types.specs.LimitValues.{Limits as LimitsValue, is_limits};
 
     ghost Value = { LimitsValue };
 

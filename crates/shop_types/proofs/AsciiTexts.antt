@@ -1,7 +1,7 @@
 -- Keys and tokens are ASCII, and so UTF-8.
 use Rattle.std.proofs.Common.{IsUtf8}
 use Rattle.shop_model.proofs.Common.{◌≡◌, ◌<◌, ℕ, List, [], ◌∷◌, Bool, true, arith, list_all, IsAscii, and_parts, IsUtf8-from_ascii, IsAscii-cons, IsAscii-nil}
-use Rattle.shop_values.specs.Texts.{is_key, is_key_byte, is_token, is_hex_byte}
+use Rattle.shop_types.specs.Texts.{is_key, is_key_byte, is_token, is_hex_byte}
 
 all_ascii : (is : ℕ → Bool) → ((b : ℕ) → is b ≡ true → b < 128) → (bytes : List ℕ) → list_all is bytes ≡ true → IsAscii bytes
 all_ascii is low [] e = IsAscii-nil

@@ -1,6 +1,6 @@
 ghost use Rattle.std.specs.Prelude.{◌≡◌, ℕ, List, pos, ◌+◌, ◌<◌, ◌≤◌, ◌≤ℤ◌, ◌↔◌, IsTrue, IfSome, IfNone, Some, length, slice_index};
 ghost use Rattle.shop_model.specs.Calendar.{Moment as Value, IsMoment, moment_text, day_of, seconds_of, is_earlier, digit};
-ghost use Rattle.shop_values.specs.Moments.{IsDigits, IsTextOf};
+ghost use Rattle.shop_types.specs.Moments.{IsDigits, IsTextOf};
 
 use jiff::civil::Date;
 use std::fmt;

@@ -1,7 +1,7 @@
 use Rattle.shop_model.proofs.Common.{◌≡◌, ◌∙◌, ◌+◌, ◌*◌, ap, arith, FitsSigned, w32, to_z, of_z, unsigned_abs, to_z-of_z, Moment}
 use Rattle.jiff_core.proofs.SignedLemmas.{signed_arith}
 use Rattle.shop_model.specs.Calendar.{day_of, seconds_of}
-use Rattle.shop_values.proofs.moment.Moment.seconds.Goals as goal
+use Rattle.shop_types.proofs.moment.Moment.seconds.Goals as goal
 
 pub returns : goal.returns
 unfolding seconds_of

@@ -1,7 +1,7 @@
 use Rattle.shop_model.proofs.Common.{◌≡◌, ◌<◌, ◌^◌, ◌+◌, ◌*◌, arith, get_or, true, refl, is_ascii_digit, list_all_more}
 use Rattle.std.proofs.lemmas.Int.Digits.{digits_value_more}
-use Rattle.shop_values.proofs.NumberLemmas.{next_digit, fits_ten, digit_is}
-use Rattle.shop_values.proofs.row_number.ten_digits.Goals as goal
+use Rattle.shop_types.proofs.NumberLemmas.{next_digit, fits_ten, digit_is}
+use Rattle.shop_types.proofs.row_number.ten_digits.Goals as goal
 
 pub overflow_mul-number : goal.overflow_mul-number
 overflow_mul-number c =

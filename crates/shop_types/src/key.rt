@@ -4,7 +4,7 @@ ghost use Rattle.std.specs.Str.{bytes_eq};
 ghost use Rattle.std.specs.List.{list_all};
 ghost use Rattle.std.specs.Cmp.Rules.{comparing};
 ghost use Rattle.std.proofs.Common.{rules};
-ghost use Rattle.shop_values.specs.Texts.{is_key, is_key_byte};
+ghost use Rattle.shop_types.specs.Texts.{is_key, is_key_byte};
 
 use std::marker::Model;
 
@@ -24,7 +24,7 @@ pub type LotName = Name<2>;
 impl<const KIND: u8> Model for Name<KIND> {
     ghost use Rattle.std.specs.Prelude.{◌≡◌, ℕ, List, true};
     ghost use Rattle.std.specs.String.{string_bytes};
-    ghost use Rattle.shop_values.specs.Texts.{is_key};
+    ghost use Rattle.shop_types.specs.Texts.{is_key};
 
     ghost Value = { List ℕ };
 

@@ -1,4 +1,0 @@
-pub mod AsciiTexts
-pub mod CalendarLemmas
-pub mod MomentLemmas
-pub mod NumberLemmas

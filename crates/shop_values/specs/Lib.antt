@@ -1,4 +1,0 @@
-pub mod Texts
-pub mod Numbers
-pub mod LimitValues
-pub mod Moments
