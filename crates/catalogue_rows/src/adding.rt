@@ -13,10 +13,9 @@ ghost use Rattle.shop_views.specs.Bodies.{office_members};
 ghost use Rattle.catalogue_rows.specs.Added.{IsNumbered, IsKept, IsAdded};
 
 use crate::rows::{new_actor, new_branch, new_city, new_film, new_staff};
-use shop_ledger::{Answered, Count, Owner, put_kept, take_numbers};
+use shop_ledger::{Answered, Count, Owner, put_counts, put_kept, take_numbers};
 use shop_store::branches::set_manager;
 use shop_store::chain::set_rule;
-use shop_store::counts::put_counts;
 use shop_store::films::{set_rate, set_withdrawn};
 use shop_store::lasts::{SharedTable, last_number};
 use shop_store::puts::{

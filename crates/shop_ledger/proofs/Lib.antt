@@ -13,3 +13,4 @@ pub mod CountLemmas
 pub mod Agreeing
 pub mod OfficeCounts
 pub mod StandingTexts
+pub mod CountPuts

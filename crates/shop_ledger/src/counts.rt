@@ -7,7 +7,7 @@ ghost use Rattle.sql_rows.specs.Rows.{number_value};
 ghost use Rattle.shop_model.specs.Rows.{numbered, of};
 ghost use Rattle.shop_model.specs.Stock.{keeps_out};
 ghost use Rattle.shop_ledger.specs.Calls.{Finds};
-ghost use Rattle.shop_schema.specs.Counts.{is_count, raise, put_out, drop_out};
+ghost use Rattle.shop_schema.specs.Counts.{is_count, raise, put_out, drop_out, add_count, with_branch};
 ghost use Rattle.shop_schema.specs.Shop.{Tallies};
 ghost use Rattle.shop_ledger.specs.Counted.{kind_number, caller_of, kind_of, counted, IsCount, CountsOnce, IsOutBy};
 
@@ -225,4 +225,37 @@ pub fn drop_out<S: Alter>(
             rental.get().to_sql(),
         ],
     )
+}
+
+const INSERT_COUNT: &str = "INSERT INTO counter (caller, kind, last) VALUES (?1, ?2, ?3)";
+
+/// Begins the caller's count of a kind of rows, at that number: 0 is head office. After a fault the transaction may
+/// be rolled back.
+pub fn put_count<S: Alter>(
+    tx: &mut Transaction<'_, S>,
+    caller: u32,
+    kind: u32,
+    last: u32,
+) -> Result<(), StoreFault>
+    ensures { DoesInside S.Store tx.old.conn tx.new.conn result
+        (λ _ old new. Tallies old new (λ _. ⊤)
+        (add_count (record { caller = caller; kind = kind; last = last })) (λ _. ⊤)) }
+{
+    execute(
+        tx,
+        INSERT_COUNT,
+        &[caller.to_sql(), kind.to_sql(), last.to_sql()],
+    )
+}
+
+/// Begins the five counts of a new branch, at 0. After a fault the transaction may be rolled back.
+pub fn put_counts<S: Alter>(tx: &mut Transaction<'_, S>, branch: u32) -> Result<(), StoreFault>
+    ensures { DoesInside S.Store tx.old.conn tx.new.conn result
+        (λ _ old new. Tallies old new (λ _. ⊤) (with_branch branch) (λ _. ⊤)) }
+{
+    put_count(tx, branch, 0, 0)?;
+    put_count(tx, branch, 1, 0)?;
+    put_count(tx, branch, 2, 0)?;
+    put_count(tx, branch, 3, 0)?;
+    put_count(tx, branch, 4, 0)
 }

@@ -10,5 +10,8 @@ mod kept;
 
 pub use answered::Answered;
 pub use branches::{Standing, set_last, standing_at};
-pub use counts::{Count, CountKind, copies_out, count_of, drop_out, out_at, put_out, take_numbers};
+pub use counts::{
+    Count, CountKind, copies_out, count_of, drop_out, out_at, put_count, put_counts, put_out,
+    take_numbers,
+};
 pub use kept::{KeptRow, Owner, kept_at, kept_found, put_kept};

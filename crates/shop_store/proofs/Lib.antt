@@ -7,7 +7,7 @@ pub mod TokenReads
 pub mod PutTexts
 pub mod SharedSets
 pub mod OpeningTexts
-pub mod CountPuts
+pub mod FirstCounts
 pub mod BranchRows
 pub mod BranchTables
 pub mod Ascending

@@ -8,7 +8,6 @@ pub mod branches;
 pub mod chain;
 mod columns;
 pub mod copies;
-pub mod counts;
 pub mod customers;
 pub mod films;
 pub mod lasts;

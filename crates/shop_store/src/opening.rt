@@ -8,7 +8,7 @@ ghost use Rattle.shop_schema.specs.Shop.{Holds, HoldsWith, first_books};
 ghost use Rattle.shop_store.specs.New.{IsRuled, Fills};
 ghost use Rattle.shop_store.specs.Runs.{Runs};
 
-use crate::counts::{put_count, put_counts};
+use shop_ledger::{put_count, put_counts};
 use shop_types::Token;
 use sql_rows::{StoreFault, execute};
 use sqlite::types::ValueRef;

@@ -2,7 +2,7 @@ use Rattle.shop_schema.proofs.Common.{and_then, some_calls}
 use Rattle.sql_rows.proofs.Chaining.{one_call}
 use Rattle.shop_ledger.proofs.CountsOf.{beside}
 use Rattle.shop_ledger.proofs.Doing.{first_and_last}
-use Rattle.shop_store.proofs.CountPuts.{opening_agreed}
+use Rattle.shop_store.proofs.FirstCounts.{opening_agreed}
 use Rattle.shop_store.proofs.OpeningTexts.{opening_added}
 use Rattle.shop_store.proofs.opening.put_opening.Goals as goal
 

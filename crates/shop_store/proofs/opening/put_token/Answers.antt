@@ -1,6 +1,6 @@
 use Rattle.sql_rows.proofs.Chaining.{one_call}
 use Rattle.shop_ledger.proofs.Doing.{first_and_last}
-use Rattle.shop_store.proofs.CountPuts.{first_agreed}
+use Rattle.shop_store.proofs.FirstCounts.{first_agreed}
 use Rattle.shop_store.proofs.opening.put_token.Goals as goal
 
 pub returns : goal.returns

@@ -1,6 +1,6 @@
 use Rattle.shop_ledger.proofs.Doing.{does_so}
-use Rattle.shop_store.proofs.CountPuts.{tallies_put_count}
-use Rattle.shop_store.proofs.counts.put_count.Goals as goal
+use Rattle.shop_ledger.proofs.CountPuts.{tallies_put_count}
+use Rattle.shop_ledger.proofs.counts.put_count.Goals as goal
 
 pub returns : goal.returns
 returns g c =

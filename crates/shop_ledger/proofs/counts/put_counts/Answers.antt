@@ -1,7 +1,7 @@
 use Rattle.shop_schema.proofs.Common.{and_then}
 use Rattle.sql_rows.proofs.Chaining.{one_call}
 use Rattle.shop_ledger.proofs.Doing.{first_and_last}
-use Rattle.shop_store.proofs.counts.put_counts.Goals as goal
+use Rattle.shop_ledger.proofs.counts.put_counts.Goals as goal
 
 pub returns : goal.returns
 returns g c =
