@@ -76,6 +76,8 @@ impl<D: Disk + Drop> Chain<FileStore<D>> {
         ensures kept { IfErr result (λ e. (closed : _)
             × (self.is_failed ≡ false → (books besides : Books) → IsAt over_files self books besides → KeepsBooks
             D.Disk closed books)
+            × ((books besides : Books) → IsAt over_files self books besides → KeepsEither D.Disk closed books
+            besides)
             × IsNotOpened D.Disk closed e.0 e.1) }
     {
         let alloc = self.alloc;

@@ -8,6 +8,8 @@ ghost use Rattle.sqlite_wal.specs.Reads.{AreClean};
 ghost use Rattle.sqlite_wal.specs.Recovery.{Image};
 ghost use Rattle.shop_model.specs.Books.{Books};
 ghost use Rattle.chain_requests.specs.Chains.{IsAt};
+ghost use Rattle.chain_files.specs.Files.{KeepsBooks, KeepsEither};
+ghost use Rattle.chain_files.specs.Openings.{IsNotOpened};
 
 use crate::chain::Chain;
 use chain_files::OpenFault;
@@ -28,9 +30,10 @@ fn crashed<D: Crash + Drop>(files: Files<D>) -> Files<D>
     Files { log, db }
 }
 
-/// Stops a chain, lets its disks crash, and opens the files that are left, with the given limits: the new chain has
-/// the books of the old one, or, where the store had failed, those before the request at which it failed or those
-/// after it. A fault gives the files back, as `open_files` does, but is never `Damaged`.
+/// Stops a chain, lets its disks crash, and opens the files that are left, with the given limits. The new chain has
+/// the books of the old one, or, if the store had failed, those before the request at which it failed or those
+/// after it. A fault gives the files back, as `open_files` does, but is never `Damaged`. Unless the opening of the
+/// database itself failed, they keep those books, so it may be tried again.
 pub fn restart<D: Crash + Drop>(
     alloc: Global,
     chain: Chain<FileStore<D>>,
@@ -47,6 +50,11 @@ pub fn restart<D: Crash + Drop>(
         → ∥ IsAt over_files again books books ⊎ IsAt over_files again besides besides ∥₁) }
     ensures undamaged { (books besides : Books) → IsAt over_files chain books besides
         → IfErr result (λ e. AreClean D.Disk e.1.log e.1.db → e.0 ≢ OpenFault.Damaged) }
+    ensures kept { IfErr result (λ e. (stopped : _)
+        × (chain.is_failed ≡ false → (books besides : Books) → IsAt over_files chain books besides → KeepsBooks D.Disk
+        stopped books)
+        × ((books besides : Books) → IsAt over_files chain books besides → KeepsEither D.Disk stopped books besides)
+        × IsNotOpened D.Disk stopped e.0 e.1) }
 {
     Chain::open_files(alloc, crashed(chain.close()), limits)
 }

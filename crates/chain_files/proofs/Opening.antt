@@ -252,7 +252,28 @@ module _ {D : Type 0} {g : Ghosts D} (c : Held (FileStore D g)) (files : Files D
         | inr none ↦ absurd none
       ])
 
--- the files of a chain that was closed hold no damage, also where its store had failed
+  -- files that hold what was found keep what the first ones kept
+  still_one : SeenMayStay g → (now : Files D) → HoldsOne g now (λ left. left ≡ opened_state.committed.trees) → (P : Trees → Type 0) → HoldsOne g files P → HoldsOne g now P
+  still_one stays now same P holds image may =
+      ∥∥₁_elim (holds (image_of g files) (stays _, stays _)) squash₁ (λ it.
+      let is : P opened_state.committed.trees = subst P (sym (found.holds it.0 it.2)) it.1 in
+      ∥∥₁_map (same image may) (λ one. let r : (db : Trees) × P db × HoldsDatabase image db = (one.0, subst P (sym one.1) is, one.2) in r))
+
+  pub still_books : SeenMayStay g → (now : Files D) → HoldsOne g now (λ left. left ≡ opened_state.committed.trees) → (books : Books) → KeepsBooks g files books → KeepsBooks g now books
+  still_books stays now same books keeps = record {
+    sound = keeps.sound;
+    values = keeps.values;
+    left = λ _. still_one stays now same (λ db. StandsFor db books) (keeps.left found.honest);
+  }
+
+  pub still_either : SeenMayStay g → (now : Files D) → HoldsOne g now (λ left. left ≡ opened_state.committed.trees) → (books besides : Books) → KeepsEither g files books besides → KeepsEither g now books besides
+  still_either stays now same books besides keeps = record {
+    sound = keeps.sound;
+    values = keeps.values;
+    left = λ _. still_one stays now same (StandsForEither books besides) (keeps.left found.honest);
+  }
+
+-- the files of a chain that was closed hold no damage, also if its store had failed
 pub undamaged : {D : Type 0} (g : Ghosts D) (files : Files D) (books besides : Books) → SeenMayStay g → AreClean g files.log files.db → KeepsEither g files books besides → ¬ HoldsDamage (image_of g files)
 undamaged g files books besides stays honest keeps damage =
     ∥∥₁_elim (keeps.left honest (image_of g files) (stays _, stays _)) ⊥_prop (λ it.
@@ -263,13 +284,14 @@ undamaged g files books besides stays honest keeps damage =
 
 -- a fault of the store, and what is left of the files
 pub unopened_by : {D : Type 0} (g : Ghosts D) (files : Files D) (why : OpenFault) (left : Files D) → why ≢ fault.NotAChain → why ≢ fault.OtherVersion → why ≢ fault.Damaged → why ≢ fault.Already
-    → (AreClean g left.log left.db → OpenFailed g files left ⊎ ((db : Trees) × IsFoundIn (image_of g files) db × HoldsOne g left (λ found. found ≡ db)))
-    → IsNotOpened g files why left
-unopened_by g files why left chain version damaged already kept = record {
+    → OpenFailed g files left → IsNotOpened g files why left
+unopened_by g files why left chain version damaged already failed = record {
   no_chain = λ honest is. absurd (chain is);
   no_version = λ honest is. absurd (chain is);
   other = λ honest is. absurd (version is);
   damaged = λ honest is. absurd (damaged is);
-  kept = kept;
+  kept = λ honest. inl failed;
+  books = λ honest books keeps. inl failed;
+  either = λ honest books besides keeps. inl failed;
   already = already;
 }

@@ -84,6 +84,10 @@ pub record IsNotOpened {D : Type 0} (g : Ghosts D) (files : Files D) (why : Open
   pub damaged : AreClean g left.log left.db → why ≡ fault.Damaged → AreClean g files.log files.db × HoldsDamage (image_of g files)
   -- whatever the fault is, the files are as the opening of their database left them that failed; or they go on to hold what was found in them
   pub kept : AreClean g left.log left.db → OpenFailed g files left ⊎ ((db : Trees) × IsFoundIn (image_of g files) db × HoldsOne g left (λ found. found ≡ db))
+  -- So what is left of the files keeps the books that they kept: those of a chain that was closed,
+  pub books : AreClean g left.log left.db → (books : Books) → KeepsBooks g files books → OpenFailed g files left ⊎ KeepsBooks g left books
+  -- or, if its store had failed, those or the ones besides.
+  pub either : AreClean g left.log left.db → (books besides : Books) → KeepsEither g files books besides → OpenFailed g files left ⊎ KeepsEither g left books besides
   -- what only making a chain tells isn't told
   pub already : why ≢ fault.Already
 

@@ -14,6 +14,14 @@ pub returns-clause-either : goal.returns-clause-either
 returns-clause-either g c = ok_then c.open_files.result c.open_files.ensures.opened (λ again it clean books besides at.
     it.either clean books besides (crashed_either g.D.Disk c.close.result c.crashed.result books besides c.crashed.ensures.left c.crashed.ensures.clean (c.close.ensures.either books besides at)))
 
+pub returns-clause-kept : goal.returns-clause-kept
+returns-clause-kept g c = err_then c.open_files.result c.open_files.ensures.refused (λ e it. (
+  c.crashed.result,
+  λ live books besides at. crashed_keeps g.D.Disk c.close.result c.crashed.result books c.crashed.ensures.left c.crashed.ensures.clean (c.close.ensures.keeps live books besides at),
+  λ books besides at. crashed_either g.D.Disk c.close.result c.crashed.result books besides c.crashed.ensures.left c.crashed.ensures.clean (c.close.ensures.either books besides at),
+  it,
+))
+
 pub returns-clause-undamaged : goal.returns-clause-undamaged
 returns-clause-undamaged g c books besides at = err_then c.open_files.result c.open_files.ensures.refused (λ e it honest is.
     let damage = it.damaged honest is in

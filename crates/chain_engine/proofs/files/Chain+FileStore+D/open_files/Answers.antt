@@ -1,12 +1,13 @@
 use Rattle.shop_schema.proofs.Common.{inl, inr, refl, arith, ∥∥₁_map, file_state, HasCleanDisk}
-use Rattle.chain_files.proofs.Opening.{found_rests, kept_rests, either_rests, sound_rests, opened_at, shows_what_is_found, holds_no_chain, holds_sound, holds_damage, has_this_version, has_no_version, has_other_version, left_as_found, unopened_by}
+use Rattle.sqlite_wal.specs.Reads.{AreClean}
+use Rattle.chain_files.proofs.Opening.{found_rests, kept_rests, either_rests, sound_rests, opened_at, shows_what_is_found, holds_no_chain, holds_sound, holds_damage, has_this_version, has_no_version, has_other_version, left_as_found, still_books, still_either, unopened_by}
 use Rattle.chain_engine.proofs.Results.{refused_by}
 use Rattle.chain_engine.proofs.files.Chain+FileStore+D.open_files.Goals as goal
 
 pub returns-in_err-conn-clause-refused : goal.returns-in_err-conn-clause-refused
 returns-in_err-conn-clause-refused g c =
     refused_by c.from_residual.result _ _
-    (unopened_by g.D.Disk c.args.files _ _ c.in_err-conn.ensures.chain c.in_err-conn.ensures.version c.in_err-conn.ensures.damaged c.in_err-conn.ensures.already (λ honest. inl c.in_err-conn.ensures.left))
+    (unopened_by g.D.Disk c.args.files _ _ c.in_err-conn.ensures.chain c.in_err-conn.ensures.version c.in_err-conn.ensures.damaged c.in_err-conn.ensures.already c.in_err-conn.ensures.left)
     c.from_residual.ensures.1
 
 pub returns-in-Ok-clause-opened : goal.returns-in-Ok-clause-opened
@@ -46,6 +47,10 @@ returns-in-Err-clause-refused g c =
     let first = λ (clean : HasCleanDisk (file_state c.examine.new.conn)). let r : HasCleanDisk (file_state conn) = omega (arith, clean, c.examine.ensures.crash.clean) in r in
     let opened = λ (clean : HasCleanDisk (file_state c.examine.new.conn)). c.in_ok-conn.ensures.opened (first clean) in
     let found = λ (clean : HasCleanDisk (file_state c.examine.new.conn)). c.in_ok-conn.ensures.found (first clean) in
+    let stays = g.met.D.Disk.seen_may_stay in
+    let same = λ (honest : AreClean g.D.Disk back.result.log back.result.db).
+    let clean = back.ensures.clean honest in
+    left_as_found conn c.args.files (opened clean) (found clean) stays c.examine.new.conn back.result c.examine.ensures.crash clean (back.ensures.left honest) in
     record {
       no_chain = λ honest is. let clean = back.ensures.clean honest in holds_no_chain conn c.args.files (opened clean) (found clean) (c.in-Err.ensures.none clean is);
       no_version = λ honest is. let clean = back.ensures.clean honest in has_no_version conn c.args.files (opened clean) (found clean) (c.in-Err.ensures.none clean is);
@@ -56,10 +61,12 @@ returns-in-Err-clause-refused g c =
           ((found clean).honest, holds_damage conn c.args.files (opened clean) (found clean) it.0 it.1);
       kept = λ honest.
           let clean = back.ensures.clean honest in
-          inr (
-            _,
-            shows_what_is_found conn c.args.files (opened clean) (found clean),
-            left_as_found conn c.args.files (opened clean) (found clean) g.met.D.Disk.seen_may_stay c.examine.new.conn back.result c.examine.ensures.crash clean (back.ensures.left honest),
-          );
+          inr (_, shows_what_is_found conn c.args.files (opened clean) (found clean), same honest);
+      books = λ honest books keeps.
+          let clean = back.ensures.clean honest in
+          inr (still_books conn c.args.files (opened clean) (found clean) stays back.result (same honest) books keeps);
+      either = λ honest books besides keeps.
+          let clean = back.ensures.clean honest in
+          inr (still_either conn c.args.files (opened clean) (found clean) stays back.result (same honest) books besides keeps);
       already = c.in-Err.ensures.already;
     }

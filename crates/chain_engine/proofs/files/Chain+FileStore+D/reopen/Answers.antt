@@ -22,4 +22,4 @@ returns-clause-undamaged g c books besides at = err_then c.open_files.result c.o
     undamaged g.D.Disk c.close.result books besides g.met.D.Disk.seen_may_stay damage.0 (c.close.ensures.either books besides at) damage.1)
 
 pub returns-clause-kept : goal.returns-clause-kept
-returns-clause-kept g c = err_then c.open_files.result c.open_files.ensures.refused (λ e it. (c.close.result, c.close.ensures.keeps, it))
+returns-clause-kept g c = err_then c.open_files.result c.open_files.ensures.refused (λ e it. (c.close.result, c.close.ensures.keeps, c.close.ensures.either, it))
