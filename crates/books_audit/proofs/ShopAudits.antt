@@ -46,7 +46,8 @@ module _ (trees : Trees) (tables : TableRows) where
         λ h. let it = (a.sound rules).0 h in (it.0, shop_stands it.0 it.1, it.1.without_counts.values, it.2),
         λ it. (a.sound rules).1 (it.0, sound_stand rules it.0 it.1 it.2 it.3, it.3),
       );
-      counts = λ rules books s values sound. a.counts books (sound_stand rules books s values sound);
+      counts = λ books s values keys. a.counts books (tables_stand books s values keys);
+      nothing = λ none. a.nothing (λ it. none (it.0, shop_stands it.0 it.1, it.1.without_counts.values, it.1.without_counts.keys));
     }
 
 -- rows of the same tables, whatever their order, have one audit

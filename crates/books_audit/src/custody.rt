@@ -69,14 +69,15 @@ pub fn check_custody(alloc: Global, copies: &[Row], lines: &[Row]) -> Result<Aud
 }
 
 /// Whether each mark of a copy or a line is made, has one place and goes with one film, and how many there are,
-/// whatever the two tables hold.
+/// whatever the two tables hold. All tables stay as they are.
 pub fn audit_custody<S: Alter>(
     alloc: Global,
     tx: &mut Transaction<'_, S>,
 ) -> Result<Audit, StoreFault>
     ensures { DoesInside S.Store tx.old.conn tx.new.conn result
-        (λ audit old _. IsShop old
-        → IsCustodyAudit (map (columns_of 6) (old.now.trees 25)) (map (columns_of 8) (old.now.trees 37)) audit) }
+        (λ audit old new. IsShop old
+        → IsCustodyAudit (map (columns_of 6) (old.now.trees 25)) (map (columns_of 8) (old.now.trees 37)) audit
+        × (new.now ≡ old.now)) }
 {
     let copies = read_whole(tx, COPIES_TEXT)?;
     let lines = read_whole(tx, LINES_TEXT)?;

@@ -1,5 +1,6 @@
 -- What an audit says of sound books.
 use Rattle.shop_schema.proofs.Common.{refl, IsTrue, State, Books, IsSound, Audit, AreValues}
+use Rattle.books_audit.proofs.SoundKeys.{keys_of_sound}
 use Rattle.chain_requests.specs.Chains.{Rests, widest_rules}
 use Rattle.chain_requests.specs.Audits.{AuditsState, IsAuditOfBooks, TellsSoundness}
 
@@ -8,7 +9,7 @@ pub audit_of_books : (s : State) (audit : Audit) → AuditsState s audit → (bo
 audit_of_books s audit says books rests values sound =
     let holds = rests.now says.is_open in
     let audits = (says.audits holds.schema_is).books in
-    let counts = audits.counts widest_rules books holds.stands values sound in
+    let counts = audits.counts books holds.stands values (keys_of_sound widest_rules books sound) in
     let is : IsTrue audit.sound = (audits.sound widest_rules).1 (books, holds.stands, values, sound) in
     rw (is, counts.made, counts.here, counts.transit, counts.gone) refl
 
