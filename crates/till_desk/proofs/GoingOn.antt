@@ -97,6 +97,7 @@ pub failing_sending : (n : ℕ) (fault : DeliverFault) (old new : State) (output
     → sending_fault fault ≢ desk.Book → (journal : Journal) → Rests old journal → IsNextReply n journal → Rests new journal
 failing_sending n (deliver.Unanswered it) old new output written fails kept journal rests next = (fails journal rests next).0
 failing_sending n deliver.NotNow old new output written fails kept journal rests next = (fails journal rests next).0
+failing_sending n deliver.NotKnown old new output written fails kept journal rests next = (fails journal rests next).0
 failing_sending n (deliver.Book it) old new output written fails kept journal rests next = absurd (kept refl)
 
 pub failing_stays : (mark : Text) (n : ℕ) (fault : DeliverFault) (place : Place) (old new : State) (output written : Option (List ℕ)) → n ≡ place.replies + 1

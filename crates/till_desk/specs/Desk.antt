@@ -64,7 +64,8 @@ EntersOne mark request before old after new =
     (journal : Journal) (commands : List Command) → IsAt mark before old journal commands
     → (command : Command) × IsAt mark after new (with_entry request journal) (commands ++ command ∷ [])
 
--- The reply to the oldest entry without one stands behind the last: over some connection the entry was written, whole, and the reply read, whole, and it is no 503.
+-- The reply to the oldest entry without one is recorded after the last reply. Over some connection the entry was written, whole, and the reply read, whole. The reply
+-- is neither a 503 nor `no_counter`.
 abbrev pub AnswersOne : Text → Answer → Place → State → Place → State → Type 0
 AnswersOne mark answer before old after new =
     (journal : Journal) (commands : List Command) → IsAt mark before old journal commands

@@ -18,3 +18,4 @@ abbrev pub sending_fault : DeliverFault → DeskFault
 sending_fault (deliver.Book fault) = desk.Book
 sending_fault (deliver.Unanswered fault) = desk.Unanswered
 sending_fault deliver.NotNow = desk.NotNow
+sending_fault deliver.NotKnown = desk.NotKnown

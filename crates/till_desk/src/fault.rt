@@ -17,4 +17,6 @@ pub enum DeskFault {
     Unanswered,
     /// The server had no memory, room or store, and did nothing. The entry stays, and is to be sent again.
     NotNow,
+    /// The server doesn't know the entry's token, and did nothing. The entry stays, and is to be sent again.
+    NotKnown,
 }

@@ -30,6 +30,7 @@ fn named(fault: DeliverFault) -> DeskFault
         DeliverFault::Book(_) => DeskFault::Book,
         DeliverFault::Unanswered(_) => DeskFault::Unanswered,
         DeliverFault::NotNow => DeskFault::NotNow,
+        DeliverFault::NotKnown => DeskFault::NotKnown,
     }
 }
 
@@ -96,7 +97,7 @@ fn send_once<S: Alter, V: Server>(
 }
 
 /// Sends the oldest entry without a reply, up to three times, each over a new connection, with a pause between them,
-/// and records the reply. After `Unanswered` and `NotNow` it waits on; `NoEntry` is told where none waits.
+/// and records the reply. After `Unanswered`, `NotNow` and `NotKnown` it waits on. Fails with `NoEntry` if none waits.
 pub fn send_oldest<S: Alter, V: Server, K: Clock>(
     alloc: Global,
     clock: &K,

@@ -16,6 +16,7 @@ told_fault desk.NoEntry = word.OtherBook
 told_fault desk.NotLater = word.OtherBook
 told_fault desk.Unanswered = word.Unanswered
 told_fault desk.NotNow = word.NotNow
+told_fault desk.NotKnown = word.NotKnown
 
 -- the book didn't fail
 abbrev pub IsBookKept : {A : Type 0} → Result A TillFault → Type 0

@@ -29,14 +29,14 @@ IsPlannedFor staff (plan.Give what customer) = IsSome staff
 IsPlannedFor staff plan.Send = ⊤
 IsPlannedFor staff (plan.Say said) = ⊤
 
--- a branch's commands are for a branch's book, and head office's words for its own
+-- a branch's commands and looks are for a branch's book, and head office's words for its own
 abbrev pub IsFor : Option ℕ → TillAct → Type 0
 IsFor staff (act.Do what) = IsSome staff
 IsFor staff (act.ReturnCopy copy) = IsSome staff
 IsFor staff (act.Office words) = staff ≡ None
 IsFor staff (act.Init beginning) = ⊤
 IsFor staff (act.Import file lot) = ⊤
-IsFor staff (act.Look look) = ⊤
+IsFor staff (act.Look look) = IsSome staff
 IsFor staff act.Waiting = ⊤
 IsFor staff act.Send = ⊤
 IsFor staff (act.Last count) = ⊤

@@ -66,7 +66,12 @@ fn table_in(alloc: Global, ask: &Ask, body: &[u8]) -> Result<Table, NotShown> {
     match ask {
         Ask::Overdue(_) => overdue(alloc, body),
         Ask::Arrivals => arrivals(alloc, body),
-        _ => sent(alloc, body),
+        Ask::Sent => sent(alloc, body),
+        Ask::Customer(_) | Ask::Film(_) | Ask::InStock(_) | Ask::HeldBy(_) => {
+            Err(NotShown::OtherForm)
+        }
+        Ask::FilmInStock(_) | Ask::FilmNotInStock(_) => Err(NotShown::OtherForm),
+        Ask::Balance { .. } | Ask::Rewards { .. } => Err(NotShown::OtherForm),
     }
 }
 
@@ -90,7 +95,9 @@ fn lines_in(alloc: Global, ask: &Ask, name: &str, body: &[u8]) -> Result<String,
         Ask::FilmInStock(film) => film_in_stock_line(alloc, *film, body),
         Ask::FilmNotInStock(film) => film_not_in_stock_line(alloc, *film, body),
         Ask::Balance { .. } => balance_line(alloc, name, body),
-        _ => rewards_line(alloc, body),
+        Ask::Rewards { .. } => rewards_line(alloc, body),
+        Ask::Customer(_) | Ask::HeldBy(_) | Ask::Overdue(_) => Err(NotShown::OtherForm),
+        Ask::Arrivals | Ask::Sent => Err(NotShown::OtherForm),
     }
 }
 
@@ -124,7 +131,7 @@ pub(crate) fn says_holder(
     Ok(())
 }
 
-/// Says what the branch has taken, in all or by category.
+/// Says what customers paid for rentals, in all or by category.
 pub(crate) fn says_sales(
     alloc: Global,
     view: View,
@@ -133,7 +140,7 @@ pub(crate) fn says_sales(
 ) -> Result<(), TillFault> {
     if matches!(view, View::SalesByStore) {
         let table = sales_by_store(alloc, body)?;
-        return says_table(alloc, &table, "nothing was taken yet", said);
+        return says_table(alloc, &table, "nothing was paid for a rental yet", said);
     }
     let table = sales_by_film_category(alloc, body)?;
     if table.is_empty() {
@@ -155,7 +162,8 @@ pub(crate) fn besides(alloc: Global, act: &Act, name: &str) -> Result<String, Ti
             let (first, last) = (it.person.first.as_str(), it.person.last.as_str());
             Ok(format!(in alloc; ": {first} {last}")?)
         }
-        _ => Ok(String::new(alloc)),
+        Act::Active { .. } | Act::TakeBack(_) | Act::Import { .. } => Ok(String::new(alloc)),
+        Act::Dispatch { .. } | Act::Receive { .. } | Act::Scrap(_) => Ok(String::new(alloc)),
     }
 }
 

@@ -16,6 +16,7 @@ use till_book::{BookReply, BookRows, read_book};
 use till_client::{NotSealed, command_of};
 use till_desk::Place;
 use till_register::Entry;
+use till_requests::Mark;
 use till_work::{ReadFault, entries_of};
 
 /// The rows of an open book, as they were read, and how far it goes now.
@@ -114,6 +115,19 @@ impl Book {
             Err(ReadFault::Book(_)) => Err(TillFault::Book),
             Err(ReadFault::OtherBook) => Err(TillFault::OtherBook),
         }
+    }
+
+    /// Whether the last entry has the mark, as its key has; so has a book with none. Else another till entered it.
+    pub(crate) fn has_mark(&self, mark: &Mark) -> bool {
+        let Some(entry) = self.rows.entries.as_slice().last() else {
+            return true;
+        };
+        let letters = mark.as_bytes().as_slice();
+        entry
+            .request
+            .as_slice()
+            .windows(letters.len())
+            .any(|piece| piece == letters)
     }
 
     /// How many entries it has.

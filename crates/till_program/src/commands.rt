@@ -174,7 +174,12 @@ fn customer_name<K: Clock, V: Server, L: Shelf>(
 ) -> Result<String, TillFault> {
     match act {
         Act::Rent { customer, .. } | Act::Pay { customer, .. } => called(desk, *customer),
-        _ => Ok(String::new(desk.alloc)),
+        Act::Customer(_) | Act::Active { .. } | Act::TakeBack(_) | Act::Import { .. } => {
+            Ok(String::new(desk.alloc))
+        }
+        Act::Dispatch { .. } | Act::Receive { .. } | Act::Scrap(_) => {
+            Ok(String::new(desk.alloc))
+        }
     }
 }
 

@@ -59,7 +59,7 @@ impl<K: Clock, V: Server, L: Shelf> Desk<'_, K, V, L> {
         let now = self.now()?;
         match last {
             Some(last) if now.is_earlier(last) => Ok(last),
-            _ => Ok(now),
+            Some(_) | None => Ok(now),
         }
     }
 

@@ -31,6 +31,8 @@ pub enum TillFault {
     System,
     /// There are no settings beside the book, or they aren't of their form.
     Settings,
+    /// The settings can't keep the address.
+    NotKept,
     /// The book is another till's, or its settings are another book's.
     OtherBook,
     /// The last entry's moment is so many seconds ahead of the clock.
@@ -39,6 +41,8 @@ pub enum TillFault {
     Unanswered,
     /// The server had no memory, room or store.
     NotNow,
+    /// The server doesn't know the till's token.
+    NotKnown,
     /// Something was asked for that changes nothing, and no reply came, or the server had no memory or store for one.
     Silent,
     /// What came is no reply of the server's.
@@ -71,9 +75,22 @@ impl TillFault {
             | TillFault::NotSent
             | TillFault::IsOffice
             | TillFault::IsBranch
-            | TillFault::Already => 1,
-            TillFault::Unanswered | TillFault::NotNow | TillFault::Silent => 4,
-            _ => 3,
+            | TillFault::Already
+            | TillFault::NotKept => 1,
+            TillFault::Unanswered | TillFault::NotNow | TillFault::NotKnown | TillFault::Silent => {
+                4
+            }
+            TillFault::Book
+            | TillFault::Busy
+            | TillFault::NoBook
+            | TillFault::NotABook
+            | TillFault::Full
+            | TillFault::Memory
+            | TillFault::System
+            | TillFault::Settings
+            | TillFault::OtherBook
+            | TillFault::Ahead(_)
+            | TillFault::Foreign => 3,
         }
     }
 
@@ -95,6 +112,7 @@ impl TillFault {
             TillFault::System => "A file, the clock or the terminal failed. Say the word again.",
             TillFault::Settings =>
                 "The settings beside the book are missing or spoilt. Make a new book: init ADDRESS TOKEN --staff N.",
+            TillFault::NotKept => "The settings can't keep that address. Write it as HOST:PORT.",
             TillFault::OtherBook =>
                 "The book and its settings aren't of one till. Make a new book: init ADDRESS TOKEN --staff N.",
             TillFault::Ahead(_) => "The last entry is too far ahead of the clock.",
@@ -102,6 +120,8 @@ impl TillFault {
                 "No answer came. What was said is in the book and goes again by itself, once.",
             TillFault::NotNow =>
                 "The server can't take it now. What was said is in the book and goes again by itself, once.",
+            TillFault::NotKnown =>
+                "The server doesn't know this till. What was said is in the book and waits: have the till's token and the server's file looked at.",
             TillFault::Silent => "No answer came. Nothing was changed by it: say the word again.",
             TillFault::Foreign =>
                 "What came is no answer of the server's. See that the address is the server's.",
@@ -122,13 +142,10 @@ impl TillFault {
 impl fmt::Display for TillFault {
     fn fmt<W: fmt::Write>(&self, f: &mut fmt::Formatter<W>) -> fmt::Result {
         f.write_str((*self).sentences())?;
-        match self {
-            TillFault::Ahead(seconds) => write!(
-                f,
-                " Wait {seconds} seconds, and say the word again."
-            ),
-            _ => Ok(()),
+        if let TillFault::Ahead(seconds) = self {
+            return write!(f, " Wait {seconds} seconds, and say the word again.");
         }
+        Ok(())
     }
 }
 
@@ -161,6 +178,7 @@ impl From<DeskFault> for TillFault {
             DeskFault::NoEntry | DeskFault::NotLater => TillFault::OtherBook,
             DeskFault::Unanswered => TillFault::Unanswered,
             DeskFault::NotNow => TillFault::NotNow,
+            DeskFault::NotKnown => TillFault::NotKnown,
         }
     }
 }

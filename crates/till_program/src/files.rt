@@ -14,10 +14,14 @@ use std::io::{self, ErrorKind, Write};
 use std::os::unix::fs::{OpenOptionsExt, PermissionsExt};
 use std::thread;
 use std::time::Duration;
-use till_files::{create_book, open_book};
+use till_book::read_book;
+use till_files::{BookFault, close_book, create_book, open_book};
 
 /// How often a book is asked for that another window has, a tenth of a second apart.
 const TURNS: u32 = 50;
+
+/// What a database begins with, in SQLite's format.
+const DATABASE: &[u8] = b"SQLite format 3\0";
 
 /// Who may read and write the till's files: their owner.
 const OWNER: u32 = 0o600;
@@ -50,6 +54,23 @@ pub(crate) fn write_own(rt: &HostRuntime, path: &str, bytes: &[u8]) -> io::Resul
     fs::write(rt, path, bytes)
 }
 
+/// Whether the file holds nothing, or begins as a database does.
+pub(crate) fn may_be_book(rt: &HostRuntime, path: &str) -> bool {
+    match fs::read(rt, path) {
+        Ok(bytes) => bytes.is_empty() || bytes.as_slice().starts_with(DATABASE),
+        Err(_) => false,
+    }
+}
+
+/// The fault of a book in a file. A file that is read and is no database is no till's book.
+fn fault_at(rt: &HostRuntime, path: &str, fault: BookFault) -> TillFault {
+    let is_other = matches!(fault, BookFault::Store) && is_there(rt, path);
+    if is_other && !may_be_book(rt, path) {
+        return TillFault::NotABook;
+    }
+    TillFault::from(fault)
+}
+
 /// The two files of a book; while another window has them, they are asked for up to five seconds.
 fn files_at(rt: &HostRuntime, path: &str) -> Result<Files<File>, TillFault> {
     for turn in 0..TURNS {
@@ -66,18 +87,15 @@ fn files_at(rt: &HostRuntime, path: &str) -> Result<Files<File>, TillFault> {
     Err(TillFault::Busy)
 }
 
-/// Makes a book in a file that isn't there.
-pub(crate) fn create_at(
-    rt: &HostRuntime,
-    path: &str,
-) -> Result<Connection<FileStore<File>>, TillFault> {
+/// Makes a book in a file that isn't there or holds nothing.
+fn create_at(rt: &HostRuntime, path: &str) -> Result<Connection<FileStore<File>>, TillFault> {
     make_own(rt, path)?;
     let files = files_at(rt, path)?;
     match create_book(rt.alloc(), files) {
         Ok(conn) => Ok(conn),
         Err((fault, files)) => {
             drop(files);
-            Err(TillFault::from(fault))
+            Err(fault_at(rt, path, fault))
         }
     }
 }
@@ -94,8 +112,37 @@ pub(crate) fn open_at(
         Ok(conn) => Ok(conn),
         Err((fault, files)) => {
             drop(files);
-            Err(TillFault::from(fault))
+            Err(fault_at(rt, path, fault))
         }
+    }
+}
+
+/// Opens the book in a file, where it has no entry.
+fn open_empty(rt: &HostRuntime, path: &str) -> Result<Connection<FileStore<File>>, TillFault> {
+    let mut conn = open_at(rt, path)?;
+    let rows = read_book(rt.alloc(), &mut conn);
+    match rows {
+        Ok(rows) if rows.entries.as_slice().is_empty() => Ok(conn),
+        Ok(_) => {
+            drop(close_book(conn));
+            Err(TillFault::Already)
+        }
+        Err(_) => {
+            drop(close_book(conn));
+            Err(TillFault::Book)
+        }
+    }
+}
+
+/// Makes a book in a file that holds nothing, or opens the one there, where it has no entry.
+pub(crate) fn begin_at(
+    rt: &HostRuntime,
+    path: &str,
+) -> Result<Connection<FileStore<File>>, TillFault> {
+    match create_at(rt, path) {
+        Ok(conn) => Ok(conn),
+        Err(TillFault::Already) => open_empty(rt, path),
+        Err(fault) => Err(fault),
     }
 }
 

@@ -1,11 +1,11 @@
 //! A book is made.
 
 use crate::fault::TillFault;
-use crate::files::{create_at, is_there, write_own};
+use crate::files::{begin_at, is_there, may_be_book, write_own};
 use crate::said::Said;
 use std::fs;
 use till_files::close_book;
-use till_requests::{Settings, new_mark, read_settings, settings_text};
+use till_requests::{NoSettings, Settings, new_mark, read_settings, settings_text};
 use till_words::Beginning;
 
 /// The file of a book's settings.
@@ -23,18 +23,39 @@ pub(crate) fn settings_of(rt: &HostRuntime, book: &str) -> Result<Settings, Till
     Ok(read_settings(rt.alloc(), text.as_slice())?)
 }
 
-/// Whether a book, its log or its settings are there.
-fn is_any_there(rt: &HostRuntime, book: &str) -> Result<bool, TillFault> {
+/// Whether a book may be made there. Its settings are written last: as long as they aren't there or hold nothing, an
+/// `init` that was cut off may have left a book without an entry.
+fn is_free(rt: &HostRuntime, book: &str) -> Result<bool, TillFault> {
     let alloc = rt.alloc();
-    let log = format!(in alloc; "{book}-wal")?;
     let settings = settings_path(rt, book)?;
-    Ok(is_there(rt, book) || is_there(rt, log.as_str()) || is_there(rt, settings.as_str()))
+    let is_written = match fs::read(rt, settings.as_str()) {
+        Ok(text) => !text.is_empty(),
+        Err(_) => is_there(rt, settings.as_str()),
+    };
+    if is_written {
+        return Ok(false);
+    }
+    if is_there(rt, book) {
+        return Ok(may_be_book(rt, book));
+    }
+    let log = format!(in alloc; "{book}-wal")?;
+    Ok(!is_there(rt, log.as_str()))
 }
 
-/// Makes a book, with a mark that no other book has, and its settings beside it. Where one of its files is there
-/// nothing is made, and that stays.
+/// The text of the settings, which `read_settings` reads.
+fn text_of(rt: &HostRuntime, settings: &Settings) -> Result<Vec<u8>, TillFault> {
+    let text = settings_text(rt.alloc(), settings)?;
+    match read_settings(rt.alloc(), text.as_slice()) {
+        Ok(_) => Ok(text),
+        Err(NoSettings::Form) => Err(TillFault::NotKept),
+        Err(NoSettings::Memory) => Err(TillFault::Memory),
+    }
+}
+
+/// Makes a book, with a mark that no other book has, and its settings beside it. Where its settings or a book with
+/// entries are there, or a file that is no book, nothing is made, and that stays.
 pub(crate) fn begin(rt: &HostRuntime, book: &str, beginning: Beginning) -> Result<Said, TillFault> {
-    if is_any_there(rt, book)? {
+    if !is_free(rt, book)? {
         return Err(TillFault::Already);
     }
     let Beginning {
@@ -48,8 +69,8 @@ pub(crate) fn begin(rt: &HostRuntime, book: &str, beginning: Beginning) -> Resul
         staff,
         mark: new_mark(rt)?,
     };
-    let text = settings_text(rt.alloc(), &settings)?;
-    let conn = create_at(rt, book)?;
+    let text = text_of(rt, &settings)?;
+    let conn = begin_at(rt, book)?;
     drop(close_book(conn));
     let path = settings_path(rt, book)?;
     write_own(rt, path.as_str(), text.as_slice())?;

@@ -6,9 +6,12 @@ use crate::fault::TillFault;
 use shop_types::{CustomerNo, FilmNo, View};
 use std::alloc::Global;
 use std::time::Clock;
+use till_client::Answer;
 use till_desk::Server;
 use till_requests::view_request;
-use till_shows::{NotShown, Table, customer_named, customers_with, film_named, films_with};
+use till_shows::{
+    NotShown, Table, customer_named, customers_with, film_named, films_with, refusal_in,
+};
 
 /// For how many seconds a list is kept.
 const KEPT: u64 = 600;
@@ -66,28 +69,37 @@ fn kept<K: Clock, V: Server, L: Shelf>(desk: &Desk<'_, K, V, L>, list: List) -> 
     }
 }
 
-/// The list as the server has it now, which the shelf gets.
+/// Asks the server for the list, and puts it on the shelf. The reply may be a refusal.
 fn fetched<K: Clock, V: Server, L: Shelf>(
     desk: &Desk<'_, K, V, L>,
     list: List,
-) -> Result<Vec<u8>, TillFault> {
+) -> Result<Answer, TillFault> {
     let request = view_request(desk.alloc, desk.routes, &desk.settings.token, list.view())?;
     let answer = desk.ask(request.as_slice())?;
-    if answer.status != 200 {
-        return Err(TillFault::Foreign);
+    if answer.status == 200 {
+        if let Ok(now) = desk.seconds() {
+            desk.shelf
+                .put(desk.alloc, list.name(), now, answer.body.as_slice());
+        }
     }
-    if let Ok(now) = desk.seconds() {
-        desk.shelf
-            .put(desk.alloc, list.name(), now, answer.body.as_slice());
-    }
-    Ok(answer.body)
+    Ok(answer)
 }
 
-/// A list's body, and those in it that were looked for.
+/// A list, and those in it that were looked for. If the list was refused, the table has no row.
 #[derive(Drop)]
 pub(crate) struct Picked {
-    pub(crate) body: Vec<u8>,
+    pub(crate) answer: Answer,
     pub(crate) table: Table,
+}
+
+/// Picks the rows of the list in which the part is found.
+fn pick(alloc: Global, list: List, answer: Answer, part: &str) -> Result<Picked, TillFault> {
+    let body = answer.body.as_slice();
+    let table = match refusal_in(answer.status, body) {
+        Some(_) => Table::new(alloc, &[])?,
+        None => list.with(alloc, body, part)?,
+    };
+    Ok(Picked { answer, table })
 }
 
 /// Those of a list in which the part stands; where the kept list has none, a new one is asked for.
@@ -99,13 +111,13 @@ pub(crate) fn found<K: Clock, V: Server, L: Shelf>(
     if let Some(body) = kept(desk, list) {
         if let Ok(table) = list.with(desk.alloc, body.as_slice(), part) {
             if !table.is_empty() {
-                return Ok(Picked { body, table });
+                let answer = Answer { status: 200, body };
+                return Ok(Picked { answer, table });
             }
         }
     }
-    let body = fetched(desk, list)?;
-    let table = list.with(desk.alloc, body.as_slice(), part)?;
-    Ok(Picked { body, table })
+    let answer = fetched(desk, list)?;
+    pick(desk.alloc, list, answer, part)
 }
 
 /// The customer's name, where the kept list has it: nothing is asked for it.
@@ -117,7 +129,7 @@ pub(crate) fn name_if_known<K: Clock, V: Server, L: Shelf>(
     customer_named(desk.alloc, list.as_slice(), customer).ok()?
 }
 
-/// The customer's name; where the kept list lacks it, a new one is asked for.
+/// The customer's name; where the kept list lacks it, a new one is asked for. It is none where the list is refused.
 pub(crate) fn name_of<K: Clock, V: Server, L: Shelf>(
     desk: &Desk<'_, K, V, L>,
     customer: CustomerNo,
@@ -126,10 +138,13 @@ pub(crate) fn name_of<K: Clock, V: Server, L: Shelf>(
         return Ok(Some(name));
     }
     let list = fetched(desk, List::Customers)?;
-    Ok(customer_named(desk.alloc, list.as_slice(), customer)?)
+    if list.status != 200 {
+        return Ok(None);
+    }
+    Ok(customer_named(desk.alloc, list.body.as_slice(), customer)?)
 }
 
-/// The film's title; where the kept list lacks it, a new one is asked for.
+/// The film's title; where the kept list lacks it, a new one is asked for. It is none where the list is refused.
 pub(crate) fn title_of<K: Clock, V: Server, L: Shelf>(
     desk: &Desk<'_, K, V, L>,
     film: FilmNo,
@@ -140,5 +155,8 @@ pub(crate) fn title_of<K: Clock, V: Server, L: Shelf>(
         }
     }
     let list = fetched(desk, List::Films)?;
-    Ok(film_named(desk.alloc, list.as_slice(), film)?)
+    if list.status != 200 {
+        return Ok(None);
+    }
+    Ok(film_named(desk.alloc, list.body.as_slice(), film)?)
 }

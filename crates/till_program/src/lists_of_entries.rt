@@ -7,7 +7,9 @@ use crate::desk::Desk;
 use crate::fault::TillFault;
 use crate::said::Said;
 use counter_routes::Routes;
+use serde_json::Value;
 use std::alloc::Global;
+use std::ops::Range;
 use std::time::Clock;
 use till_book::BookReply;
 use till_desk::Server;
@@ -29,27 +31,65 @@ fn outcome(alloc: Global, is_office: bool, reply: Option<&BookReply>) -> Result<
     }
 }
 
-/// Head office's words in a request, whose body lists them, but for the key behind them.
-fn office_words(request: &[u8]) -> Option<&str> {
+/// What is shown of a token.
+const DOTS: &str = "....";
+
+/// The list in the body of a request.
+fn list_in(alloc: Global, request: &[u8]) -> Option<Value> {
     let text = std::str::from_utf8(request).ok()?;
     let (_, body) = text.split_once("\r\n\r\n")?;
-    let (words, _) = body.strip_prefix("[\"")?.rsplit_once("\",\"--key\",\"")?;
-    Some(words)
+    Value::from_slice(alloc, body.as_bytes()).ok()
 }
 
-/// The same as a line, with blanks between them.
-fn words_line(alloc: Global, request: Option<&[u8]>) -> Result<String, TillFault> {
-    let mut line = String::new(alloc);
-    let Some(words) = request.and_then(office_words) else {
-        line.push_str("head office's words")?;
-        return Ok(line);
-    };
-    for word in words.split("\",\"") {
+/// Puts a word as it is typed: in quotation marks where it has a blank, or nothing, in it.
+fn put_word(word: &str, line: &mut String) -> Result<(), TillFault> {
+    let is_quoted = word.is_empty() || word.as_bytes().contains(&b' ');
+    if is_quoted {
+        line.push_str("\"")?;
+    }
+    line.push_str(word)?;
+    if is_quoted {
+        line.push_str("\"")?;
+    }
+    Ok(())
+}
+
+/// Puts the words of the list as they are typed, with blanks between them; of a token it puts dots.
+fn put_words(words: &[Value], line: &mut String) -> Result<(), TillFault> {
+    let mut is_token = false;
+    for value in words {
+        let word = value.as_str().unwrap_or("");
         if !line.as_str().is_empty() {
             line.push_str(" ")?;
         }
-        line.push_str(word)?;
+        if is_token {
+            line.push_str(DOTS)?;
+        } else if word.starts_with("--token=") {
+            line.push_str("--token=")?;
+            line.push_str(DOTS)?;
+        } else {
+            put_word(word, line)?;
+        }
+        is_token = word == "--token";
     }
+    Ok(())
+}
+
+/// Returns head office's words in a request as a line. The request's body lists them, and last the key, which isn't
+/// shown.
+fn words_line(alloc: Global, request: Option<&[u8]>) -> Result<String, TillFault> {
+    let mut line = String::new(alloc);
+    let list = match request {
+        Some(request) => list_in(alloc, request),
+        None => None,
+    };
+    if let Some(Value::Array(values)) = &list {
+        if let [words @ .., _, _] = values.as_slice() {
+            put_words(words, &mut line)?;
+            return Ok(line);
+        }
+    }
+    line.push_str("head office's words")?;
     Ok(line)
 }
 
@@ -108,30 +148,30 @@ const COLUMNS: [Column; 3] = [
     },
 ];
 
-/// The table of the entries from that place on.
+/// Returns a table of the entries at these places.
 fn entries_table(
     alloc: Global,
     routes: &Routes,
     is_office: bool,
     book: &Book,
-    first: usize,
+    places: Range<usize>,
 ) -> Result<Table, TillFault> {
     let mut table = Table::new(alloc, &COLUMNS)?;
-    for at in first..book.len() {
+    for at in places {
         add_entry(alloc, routes, is_office, book, at, &mut table)?;
     }
     Ok(table)
 }
 
-/// The entries from that place on, as a table.
-pub(crate) fn entries_from<K: Clock, V: Server, L: Shelf>(
+/// Shows the entries at these places as a table.
+pub(crate) fn entries_at<K: Clock, V: Server, L: Shelf>(
     desk: &Desk<'_, K, V, L>,
     book: &Book,
-    first: usize,
+    places: Range<usize>,
     none: &str,
 ) -> Result<Said, TillFault> {
     let (alloc, is_office) = (desk.alloc, desk.settings.staff.is_none());
-    let table = entries_table(alloc, desk.routes, is_office, book, first)?;
+    let table = entries_table(alloc, desk.routes, is_office, book, places)?;
     let mut said = Said::done(alloc);
     says_table(alloc, &table, none, &mut said)?;
     Ok(said)
@@ -142,7 +182,7 @@ pub(crate) fn waiting_entries<K: Clock, V: Server, L: Shelf>(
     desk: &Desk<'_, K, V, L>,
     book: &Book,
 ) -> Result<Said, TillFault> {
-    entries_from(desk, book, book.replies(), "nothing waits")
+    entries_at(desk, book, book.replies()..book.len(), "nothing waits")
 }
 
 /// The last so many entries, with what became of them.
@@ -152,5 +192,5 @@ pub(crate) fn last_entries<K: Clock, V: Server, L: Shelf>(
     count: u32,
 ) -> Result<Said, TillFault> {
     let first = book.len().saturating_sub(count as usize);
-    entries_from(desk, book, first, "nothing was entered yet")
+    entries_at(desk, book, first..book.len(), "nothing was entered yet")
 }

@@ -1,8 +1,6 @@
 //! What is looked up, and changes nothing.
 
-use crate::answers::{
-    says_all, says_body, says_holder, says_lines, says_list, says_sales, says_table,
-};
+use crate::answers::{says_all, says_holder, says_lines, says_list, says_sales, says_table};
 use crate::caches::Shelf;
 use crate::commands::called;
 use crate::desk::Desk;
@@ -56,10 +54,10 @@ fn name_in<K: Clock, V: Server, L: Shelf>(
     desk: &Desk<'_, K, V, L>,
     ask: &Ask,
 ) -> Result<String, TillFault> {
-    match ask {
-        Ask::Balance { customer, .. } => called(desk, *customer),
-        _ => Ok(String::new(desk.alloc)),
+    if let Ask::Balance { customer, .. } = ask {
+        return called(desk, *customer);
     }
+    Ok(String::new(desk.alloc))
 }
 
 /// Says what is asked for of one thing, as lines.
@@ -120,7 +118,7 @@ fn copies<K: Clock, V: Server, L: Shelf>(
     Ok(())
 }
 
-/// What the branch has taken, in all or by category.
+/// What customers paid for rentals, in all or by category.
 fn sales_by<K: Clock, V: Server, L: Shelf>(
     desk: &Desk<'_, K, V, L>,
     view: View,
@@ -141,8 +139,8 @@ fn search<K: Clock, V: Server, L: Shelf>(
     said: &mut Said,
 ) -> Result<(), TillFault> {
     let it = found(desk, list, part)?;
-    if desk.is_json {
-        return says_body(it.body.as_slice(), said);
+    if says_all(desk.alloc, desk.is_json, &it.answer, said)? {
+        return Ok(());
     }
     says_table(desk.alloc, &it.table, list.none(), said)
 }
@@ -183,52 +181,24 @@ fn customer_look<K: Clock, V: Server, L: Shelf>(
     Ok(())
 }
 
-/// What is asked for, where that is told in one list.
-fn list_ask(look: &TillLook, now: Moment) -> Option<(Ask, &'static str)> {
-    match look {
-        TillLook::Overdue => Some((Ask::Overdue(now), "nothing is overdue")),
-        TillLook::Arrivals => Some((Ask::Arrivals, "nothing was sent here")),
-        TillLook::Sent => Some((Ask::Sent, "nothing was sent")),
-        _ => None,
-    }
-}
-
-/// What is asked for, where that is told in some lines; `behind` is now, or the last entry's moment where that is
-/// later.
-fn line_ask(look: &TillLook, now: Moment, behind: Moment) -> Option<Ask> {
-    match look {
-        TillLook::Film(film) => Some(Ask::Film(*film)),
-        TillLook::InStock(copy) => Some(Ask::InStock(*copy)),
-        TillLook::Balance(customer) => Some(Ask::Balance {
-            customer: *customer,
-            at: behind,
-        }),
-        TillLook::Rewards { purchases, cents } => Some(Ask::Rewards {
-            at: now,
-            purchases: *purchases,
-            cents: *cents,
-        }),
-        _ => None,
-    }
-}
-
-/// Looks at what is neither, and puts what is said of it.
-fn put_other<K: Clock, V: Server, L: Shelf>(
+/// What customers paid for rentals, in all and then by category.
+fn sales<K: Clock, V: Server, L: Shelf>(
     desk: &Desk<'_, K, V, L>,
-    look: &TillLook,
     said: &mut Said,
 ) -> Result<(), TillFault> {
-    match look {
-        TillLook::Customer(customer) => customer_look(desk, *customer, said),
-        TillLook::Customers(part) => search(desk, List::Customers, part.as_str(), said),
-        TillLook::Films(part) => search(desk, List::Films, part.as_str(), said),
-        TillLook::HeldBy(copy) => held_by(desk, *copy, said),
-        TillLook::Copies(film) => copies(desk, *film, said),
-        _ => {
-            sales_by(desk, View::SalesByStore, said)?;
-            sales_by(desk, View::SalesByFilmCategory, said)
-        }
-    }
+    sales_by(desk, View::SalesByStore, said)?;
+    sales_by(desk, View::SalesByFilmCategory, said)
+}
+
+/// What a customer owes now, or at the last entry's moment where that is later.
+fn balance<K: Clock, V: Server, L: Shelf>(
+    desk: &Desk<'_, K, V, L>,
+    customer: CustomerNo,
+    last: Option<Moment>,
+    said: &mut Said,
+) -> Result<(), TillFault> {
+    let at = desk.now_behind(last)?;
+    line_look(desk, &Ask::Balance { customer, at }, said)
 }
 
 /// Looks, and puts what is said of it.
@@ -239,13 +209,28 @@ fn put_look<K: Clock, V: Server, L: Shelf>(
     said: &mut Said,
 ) -> Result<(), TillFault> {
     let now = desk.now()?;
-    let behind = desk.now_behind(last)?;
-    if let Some((ask, none)) = list_ask(look, now) {
-        return table_look(desk, &ask, none, said);
-    }
-    match line_ask(look, now, behind) {
-        Some(ask) => line_look(desk, &ask, said),
-        None => put_other(desk, look, said),
+    match look {
+        TillLook::Customer(customer) => customer_look(desk, *customer, said),
+        TillLook::Customers(part) => search(desk, List::Customers, part.as_str(), said),
+        TillLook::Film(film) => line_look(desk, &Ask::Film(*film), said),
+        TillLook::Films(part) => search(desk, List::Films, part.as_str(), said),
+        TillLook::InStock(copy) => line_look(desk, &Ask::InStock(*copy), said),
+        TillLook::HeldBy(copy) => held_by(desk, *copy, said),
+        TillLook::Copies(film) => copies(desk, *film, said),
+        TillLook::Balance(customer) => balance(desk, *customer, last, said),
+        TillLook::Overdue => table_look(desk, &Ask::Overdue(now), "nothing is overdue", said),
+        TillLook::Arrivals => table_look(desk, &Ask::Arrivals, "nothing was sent here", said),
+        TillLook::Sent => table_look(desk, &Ask::Sent, "nothing was sent", said),
+        TillLook::Rewards { purchases, cents } => {
+            let (purchases, cents) = (*purchases, *cents);
+            let ask = Ask::Rewards {
+                at: now,
+                purchases,
+                cents,
+            };
+            line_look(desk, &ask, said)
+        }
+        TillLook::Sales => sales(desk, said),
     }
 }
 

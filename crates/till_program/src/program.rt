@@ -22,7 +22,7 @@ use std::time::{Clock, Duration};
 use till_desk::{Server, Watch};
 use till_files::close_book;
 use till_requests::Settings;
-use till_words::{FileName, TillAct, TillLine, help_text, read_till_words};
+use till_words::{FileName, TillAct, TillLine, asks_for_help, help_text, read_till_words};
 
 /// The book's file, where none is named.
 const BOOK: &str = "till.book";
@@ -235,6 +235,16 @@ fn help(rt: &HostRuntime) -> Result<Said, TillFault> {
     Ok(Said { text, status: 0 })
 }
 
+/// Says how words are to be given. Where they ask for that by `--help`, it is what they wanted.
+fn usage(rt: &HostRuntime, words: &[String], text: &str) -> Result<Said, TillFault> {
+    let mut said = Said::done(rt.alloc());
+    said.line(text.trim_end())?;
+    if !asks_for_help(rt.alloc(), words)? {
+        said.status = 2;
+    }
+    Ok(said)
+}
+
 /// Does what words ask for that aren't a prompt's beginning.
 pub(crate) fn perform_words<W: Write, E: Write>(
     rt: &HostRuntime,
@@ -247,10 +257,7 @@ pub(crate) fn perform_words<W: Write, E: Write>(
             Ok(status) => status,
             Err(fault) => print(Err(fault), out, err),
         },
-        Err(Usage::Words(text)) => {
-            let _ = writeln!(err, "{}", text.as_str().trim_end());
-            2
-        }
+        Err(Usage::Words(text)) => print(usage(rt, words, text.as_str()), out, err),
         Err(Usage::Memory) => print(Err(TillFault::Memory), out, err),
     }
 }

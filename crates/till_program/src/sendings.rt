@@ -12,7 +12,7 @@ use crate::book::Book;
 use crate::caches::Shelf;
 use crate::desk::Desk;
 use crate::fault::TillFault;
-use crate::lists_of_entries::entries_from;
+use crate::lists_of_entries::entries_at;
 use crate::said::Said;
 use sqlite::{Alter, Connection};
 use std::time::Clock;
@@ -40,11 +40,12 @@ pub(crate) fn send_all<S: Alter, K: Clock, V: Server, L: Shelf, W: Watch>(
     }
 }
 
-/// The entries from that place on, as the book has them now, as a table.
+/// The entries from that place on, up to another or to the last one, as the book has them now, as a table.
 fn entries_now<S: Alter, K: Clock, V: Server, L: Shelf>(
     desk: &Desk<'_, K, V, L>,
     conn: &mut Connection<S>,
     first: usize,
+    end: Option<usize>,
     none: &str,
 ) -> Result<Said, TillFault>
     requires { conn.old.in_transaction ≡ false }
@@ -53,7 +54,8 @@ fn entries_now<S: Alter, K: Clock, V: Server, L: Shelf>(
     ensures stays { HasCleanDisk (state S.Store conn.new) → Stays (state S.Store conn.old) (state S.Store conn.new) }
 {
     let book = Book::read(desk.alloc, desk.routes, conn)?;
-    entries_from(desk, &book, first, none)
+    let end = end.unwrap_or(book.len());
+    entries_at(desk, &book, first..end, none)
 }
 
 /// Sends all that waits, and says what became of each.
@@ -76,10 +78,10 @@ pub(crate) fn send<S: Alter, K: Clock, V: Server, L: Shelf, W: Watch>(
         Ok(_) => {}
         Err(fault) => return Err(fault),
     }
-    entries_now(desk, conn, before, "nothing waits")
+    entries_now(desk, conn, before, None, "nothing waits")
 }
 
-/// What became of those that had waited before the last entry, as a table, where something had.
+/// Shows the entries that waited when the book was read, as a table. None if nothing waited.
 pub(crate) fn waited<S: Alter, K: Clock, V: Server, L: Shelf>(
     desk: &Desk<'_, K, V, L>,
     conn: &mut Connection<S>,
@@ -93,6 +95,6 @@ pub(crate) fn waited<S: Alter, K: Clock, V: Server, L: Shelf>(
     if desk.is_json || book.replies() >= book.len() {
         return Ok(None);
     }
-    let table = entries_now(desk, conn, book.replies(), "")?;
+    let table = entries_now(desk, conn, book.replies(), Some(book.len()), "")?;
     Ok(Some(table))
 }

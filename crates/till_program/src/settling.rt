@@ -22,6 +22,21 @@ use till_work::{SettleFault, Settled, settle};
 /// How many entries are made sure of behind one word.
 const MOST: usize = 10;
 
+/// Whether an entry that was refused so may get another reply when it is sent once more. These the server tells before
+/// it looks at the moment, and so each time, but for `MomentBack` itself, which decides the entry.
+fn can_be_settled(refusal: Refusal) -> bool {
+    !matches!(
+        refusal,
+        Refusal::BadHead
+            | Refusal::TooLong
+            | Refusal::NoRoute
+            | Refusal::BadBody
+            | Refusal::KeyUsed
+            | Refusal::Full
+            | Refusal::MomentBack
+    )
+}
+
 /// Whether the entry at that place was refused, may still act for all that its reply says, and wasn't made sure of.
 fn is_open(book: &Book, at: usize) -> bool {
     let Some(reply) = book.reply_at(at) else {
@@ -30,10 +45,10 @@ fn is_open(book: &Book, at: usize) -> bool {
     if reply.status == 200 || book.is_settled(at) {
         return false;
     }
-    !matches!(
-        refusal_in(reply.status, reply.body.as_slice()),
-        Some(Refusal::MomentBack)
-    )
+    match refusal_in(reply.status, reply.body.as_slice()) {
+        Some(refusal) => can_be_settled(refusal),
+        None => true,
+    }
 }
 
 /// The numbers of the entries to make sure of: those that are open before the last accepted one.

@@ -25,7 +25,7 @@ use sqlite::{Alter, Connection};
 use std::time::Clock;
 use till_desk::{Server, Watch};
 use till_requests::is_office_look;
-use till_words::{TillAct, WordList, help_text};
+use till_words::{TillAct, TillLook, WordList, help_text};
 
 /// What a word comes to, once the book was looked at.
 enum Plan {
@@ -39,9 +39,22 @@ enum Plan {
     Say(Said),
 }
 
+/// Refuses a book that another till's settings were beside.
+fn is_own<K: Clock, V: Server, L: Shelf>(
+    desk: &Desk<'_, K, V, L>,
+    book: &Book,
+) -> Result<(), TillFault> {
+    if book.has_mark(&desk.settings.mark) {
+        Ok(())
+    } else {
+        Err(TillFault::OtherBook)
+    }
+}
+
 /// The plan for head office's words, which are for its own book.
 fn office_plan<K: Clock, V: Server, L: Shelf>(
     desk: &Desk<'_, K, V, L>,
+    book: &Book,
     words: WordList,
 ) -> Result<Plan, TillFault>
     ensures planned { IfOk result (IsPlannedFor desk.now.settings.now.staff) }
@@ -51,6 +64,7 @@ fn office_plan<K: Clock, V: Server, L: Shelf>(
     if desk.settings.staff.is_some() {
         return Err(TillFault::IsBranch);
     }
+    is_own(desk, book)?;
     if is_office_look(words.as_slice()) {
         Ok(Plan::Say(read_office(desk, words.as_slice())?))
     } else {
@@ -69,6 +83,7 @@ fn act_plan<K: Clock, V: Server, L: Shelf>(
     ensures others { desk.now.settings.now.staff ≡ None → result ≡ Err (others_fault desk.now.settings.now.staff) }
 {
     let _ = desk.giver()?;
+    is_own(desk, book)?;
     match act {
         Act::TakeBack(rental) => {
             let customer = customer_of(desk.alloc, desk.routes, book, rental)?;
@@ -89,8 +104,34 @@ fn copy_plan<K: Clock, V: Server, L: Shelf>(
     ensures others { desk.now.settings.now.staff ≡ None → result ≡ Err (others_fault desk.now.settings.now.staff) }
 {
     let _ = desk.giver()?;
+    is_own(desk, book)?;
     let (rental, customer) = rental_at(desk.alloc, desk.routes, book, copy)?;
     Ok(Plan::Give(Act::TakeBack(rental), customer))
+}
+
+/// The plan for what waits.
+fn send_plan<K: Clock, V: Server, L: Shelf>(
+    desk: &Desk<'_, K, V, L>,
+    book: &Book,
+) -> Result<Plan, TillFault>
+    ensures { IfOk result (IsPlannedFor desk.now.settings.now.staff) }
+{
+    is_own(desk, book)?;
+    Ok(Plan::Send)
+}
+
+/// The plan for a look, which is a branch's.
+fn look_plan<K: Clock, V: Server, L: Shelf>(
+    desk: &Desk<'_, K, V, L>,
+    book: &Book,
+    it: TillLook,
+) -> Result<Plan, TillFault>
+    ensures planned { IfOk result (IsPlannedFor desk.now.settings.now.staff) }
+    ensures own { OnOk result (IsSome desk.now.settings.now.staff) }
+    ensures others { desk.now.settings.now.staff ≡ None → result ≡ Err (others_fault desk.now.settings.now.staff) }
+{
+    let _ = desk.giver()?;
+    Ok(Plan::Say(look(desk, it, book.last)?))
 }
 
 /// What a word comes to: looks are asked for at once, and a return by copy is of the rental that the book has of it.
@@ -107,9 +148,9 @@ fn plan_of<K: Clock, V: Server, L: Shelf>(
     match act {
         TillAct::Do(act) => act_plan(desk, book, act),
         TillAct::ReturnCopy(copy) => copy_plan(desk, book, copy),
-        TillAct::Office(words) => office_plan(desk, words),
-        TillAct::Send => Ok(Plan::Send),
-        TillAct::Look(it) => Ok(Plan::Say(look(desk, it, book.last)?)),
+        TillAct::Office(words) => office_plan(desk, book, words),
+        TillAct::Send => send_plan(desk, book),
+        TillAct::Look(it) => look_plan(desk, book, it),
         TillAct::Waiting => Ok(Plan::Say(waiting_entries(desk, book)?)),
         TillAct::Last(count) => Ok(Plan::Say(last_entries(desk, book, count)?)),
         TillAct::Help | TillAct::Init(_) | TillAct::Import { .. } | TillAct::Prompt => {
@@ -201,9 +242,9 @@ fn carry_out<S: Alter, K: Clock, V: Server, L: Shelf, W: Watch>(
 
 /// Does what a word asks for at an open book, and says what it came to. A word that makes a book, a prompt, or a
 /// stock file that is still to be read is none of these, and is answered as a usage. A branch's book goes on as one,
-/// unless it failed, and what stood in it stays, in head office's book too. A branch's command at head office's book,
-/// whoever gives it, and head office's words at a branch's are refused, and nothing is entered: `IsOffice`,
-/// `IsBranch`.
+/// unless it failed, and what stood in it stays, in head office's book too. A branch's command or look at head office's
+/// book, whoever gives it, and head office's words at a branch's are refused, and nothing is entered: `IsOffice`,
+/// `IsBranch`. So is a word that enters or sends, where another till's settings are beside the book: `OtherBook`.
 pub fn do_word<S: Alter, K: Clock, V: Server, L: Shelf, W: Watch>(
     desk: &Desk<'_, K, V, L>,
     conn: &mut Connection<S>,

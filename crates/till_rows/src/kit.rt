@@ -45,6 +45,8 @@ fn happen<C: Counter>(wire: &mut Wire<C>, what: &str) -> Result<(), Fault> {
     match what {
         "down" => wire.goes_down(true),
         "up" => wire.goes_down(false),
+        "other file" => wire.has_other_file(true),
+        "own file" => wire.has_other_file(false),
         "keep" => wire.keeps_next(),
         "late" => wire.come_late(),
         _ => return Err(Fault::Line("nothing like that happens")),

@@ -29,6 +29,10 @@ pub enum Cut {
     Told(u64),
 }
 
+/// The reply of a server over another file, which doesn't know who asks.
+const NOBODY: &[u8] = b"HTTP/1.1 403 Forbidden\r\ncontent-type: application/json\r\n\
+    content-length: 24\r\n\r\n{\"refused\":\"no_counter\"}";
+
 /// Cuts the bytes behind so many, where there are more. How many cuts that are.
 fn cut_off(bytes: &mut Vec<u8>, most: u64) -> u32 {
     match usize::try_from(most) {
@@ -93,6 +97,8 @@ pub struct Wire<C: Counter> {
     counter: C,
     /// Whether nobody is there.
     is_down: bool,
+    /// Whether the server that is there has another file.
+    is_other: bool,
     /// Whether the next message is kept under way, and its connection breaks.
     keeps: bool,
     /// Where the next connection breaks whose message isn't kept.
@@ -124,6 +130,7 @@ impl<C: Counter> Wire<C> {
             alloc,
             counter,
             is_down: false,
+            is_other: false,
             keeps: false,
             cut: Cut::Never,
             breaks: 0,
@@ -144,6 +151,11 @@ impl<C: Counter> Wire<C> {
     /// From now on nobody is there, or somebody is.
     pub fn goes_down(&mut self, is_down: bool) {
         self.is_down = is_down;
+    }
+
+    /// From now on the server that is there has another file, or its own.
+    pub fn has_other_file(&mut self, is_other: bool) {
+        self.is_other = is_other;
     }
 
     /// The next message is kept under way.
@@ -190,6 +202,10 @@ impl<C: Counter> Wire<C> {
     /// The message comes, or is kept.
     fn comes(&mut self) -> io::Result<()> {
         self.read = Some(0);
+        if self.is_other {
+            self.told.extend_from_slice(NOBODY)?;
+            return Ok(());
+        }
         if mem::replace(&mut self.keeps, false) {
             let message = self.taken();
             self.kept.push(message)?;

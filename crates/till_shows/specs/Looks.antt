@@ -1,5 +1,5 @@
 -- What looks and accepted commands say, as lines, by the bodies of their replies.
-use Rattle.std.specs.Prelude.{ℕ, zero, suc, ℤ, pos, negsuc, Bool, List, [], ◌∷◌, ◌++◌, Option, Some, None, is_some, option_map, option_and_then, codes, decimal, if◌then◌else◌}
+use Rattle.std.specs.Prelude.{ℕ, zero, suc, ℤ, pos, negsuc, ◌==◌, Bool, true, false, List, [], ◌∷◌, ◌++◌, Option, Some, None, is_some, option_map, option_and_then, codes, decimal, if◌then◌else◌}
 use Rattle.std.specs.Option.{option_or}
 use Rattle.serde_json.specs.Data.{Data}
 use Rattle.serde_json.specs.Find.{get, as_null, as_array}
@@ -12,8 +12,14 @@ use Rattle.till_shows.specs.Numbers.{commas}
 
 -- ---- looks
 
+-- no customer, or one
+abbrev pub who_text : Bool → Text
+who_text true = codes "no"
+who_text false = codes "a"
+
+-- it says nothing of a copy that was sent or scrapped: no customer has that one
 abbrev pub stock_text : ℕ → Bool → Text
-stock_text copy is_in = codes "copy " ++ (decimal copy ++ (codes " is " ++ (not_text is_in ++ codes "in stock")))
+stock_text copy is_in = who_text is_in ++ (codes " customer has copy " ++ decimal copy)
 
 abbrev pub in_stock_in : ℕ → Text → Option Text
 in_stock_in copy body = option_map (stock_text copy) (option_and_then (flag_at (codes "in_stock")) (body_of body))
@@ -77,7 +83,8 @@ abbrev pub consignment_in : Data → Option Text
 consignment_in d = option_and_then (λ number. option_map (consignment_text number) (number_at (codes "to") d)) (number_at (codes "consignment") d)
 
 abbrev pub arrived_text : ℕ → ℕ → Text
-arrived_text count first = decimal count ++ (codes " copies, the first of them " ++ decimal first)
+arrived_text count first = if count == 1 then codes "1 copy, number " ++ decimal first
+    else decimal count ++ (codes " copies, the first of them " ++ decimal first)
 
 -- the copies that came in: by their numbers where they are listed, by how many and the first where they are counted
 abbrev pub copies_in : Data → Data → Option Text

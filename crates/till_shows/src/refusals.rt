@@ -24,7 +24,7 @@ fn fact(refusal: Refusal) -> &'static str
         Refusal::NoCounter => "The server doesn't know this till.",
         Refusal::NoRoute => "The server has nothing like that for this till.",
         Refusal::BadBody => "Something in this entry isn't of the right form.",
-        Refusal::KeyUsed => "This entry was done before, in another form.",
+        Refusal::KeyUsed => "Another command has this entry's number. This one wasn't done.",
         Refusal::Full => "The branch's books can take in no more.",
         Refusal::MomentBack => {
             "The branch's last command was given later than this till's clock says."
@@ -66,9 +66,10 @@ fn advice(refusal: Refusal) -> &'static str
         Refusal::BadHead | Refusal::TooLong | Refusal::NoRoute | Refusal::Size => {
             "Stop, and call whoever keeps the program."
         }
-        Refusal::NoCounter => "Stop, and have the till's token looked at.",
+        Refusal::NoCounter => "Stop, and have the till's token and the server's file looked at.",
         Refusal::BadBody => "Look at it, and enter it anew in the right form.",
-        Refusal::KeyUsed => "Look at what was done, and don't enter it again.",
+        Refusal::KeyUsed =>
+            "Enter it again, and tell the manager that the book may be an old copy.",
         Refusal::Full => "Tell the manager.",
         Refusal::MomentBack => "Check the clock, and enter it anew.",
         Refusal::NoStaff => "Look at the number of the member of staff.",
@@ -80,7 +81,9 @@ fn advice(refusal: Refusal) -> &'static str
         Refusal::FilmWithdrawn => "Neither rent it out nor take copies of it in.",
         Refusal::SameMoment => "Wait a second, and enter it anew.",
         Refusal::NoRental => "Look at the number of the rental.",
-        Refusal::RentalReturned => "There is nothing to do: the copy is in.",
+        Refusal::RentalReturned => {
+            "Ask held-by COPY before you put it away: another till may have rented it out again."
+        }
         Refusal::WrongCustomer => "Look at the numbers of the customer and the rental.",
         Refusal::NoFilm => "Look the film up in the list of films.",
         Refusal::LotIn => "Give another name only where this is another box.",

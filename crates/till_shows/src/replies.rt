@@ -2,14 +2,14 @@
 
 ghost use Rattle.std.specs.Prelude.{◌≡◌, Some, None, IfOk, IfErr, option_map, string_bytes};
 ghost use Rattle.serde_json.specs.View.{view};
-ghost use Rattle.till_shows.specs.Looks.{may_rent_text, may_rent_in, consignment_text, consignment_in, numbered_in};
+ghost use Rattle.till_shows.specs.Looks.{may_rent_text, may_rent_in, consignment_text, consignment_in, arrived_text, numbered_in};
 ghost use Rattle.till_shows.specs.Looks.{copies_in, reply_of, reply_in};
 ghost use Rattle.till_shows.specs.declared.bodies.NotShown.TheVariants.{OtherForm};
 
 use crate::bodies::{NotShown, flag_at, number_at, numbers_in, value_of};
 use crate::looks::{counted_or, not};
 use serde_json::Value;
-use std::alloc::Global;
+use std::alloc::{AllocError, Global};
 
 /// The line of a reply that says a number under that name alone.
 fn numbered(alloc: Global, value: &Value) -> Result<String, NotShown>
@@ -34,6 +34,17 @@ fn numbered(alloc: Global, value: &Value) -> Result<String, NotShown>
     }
 }
 
+/// Returns the line for so many copies that came in, by the number of the first.
+fn arrived(alloc: Global, count: u64, first: u64) -> Result<String, AllocError>
+    ensures { IfOk result (λ line. string_bytes line ≡ arrived_text count first) }
+{
+    if count == 1 {
+        format!(in alloc; "1 copy, number {first}")
+    } else {
+        format!(in alloc; "{count} copies, the first of them {first}")
+    }
+}
+
 /// The line of a reply that says which copies came in.
 fn copies(alloc: Global, value: &Value, copies: &Value) -> Result<String, NotShown>
     ensures shown { IfOk result (λ line. copies_in (view value.now) (view copies.now) ≡ Some (string_bytes line)) }
@@ -47,7 +58,7 @@ fn copies(alloc: Global, value: &Value, copies: &Value) -> Result<String, NotSho
         return Err(NotShown::OtherForm);
     };
     match number_at(value, "first") {
-        Some(first) => Ok(format!(in alloc; "{count} copies, the first of them {first}")?),
+        Some(first) => Ok(arrived(alloc, count, first)?),
         None => Err(NotShown::OtherForm),
     }
 }
@@ -97,7 +108,7 @@ fn line_of(alloc: Global, value: &Value) -> Result<String, NotShown>
 
 /// What the reply to an accepted command says, by its body: `customer 17`, `customer 17 may rent`,
 /// `customer 17 may not rent`, `rental 12`, `rental 12 returned`, `payment 9`, `copy 4 scrapped`,
-/// `consignment 1 to branch 2`, `copies 3, 4`, `no copies`, `4 copies, the first of them 1`.
+/// `consignment 1 to branch 2`, `copies 3, 4`, `no copies`, `4 copies, the first of them 1`, `1 copy, number 5`.
 pub fn reply_line(alloc: Global, body: &[u8]) -> Result<String, NotShown>
     ensures shown { IfOk result (λ line. reply_in body.now ≡ Some (string_bytes line)) }
     ensures other { IfErr result (λ fault. fault ≡ OtherForm → reply_in body.now ≡ None) }

@@ -1,9 +1,10 @@
-ghost use Rattle.std.specs.Prelude.{◌≡◌, Some, None, IfOk, IfErr, map, string_bytes};
-ghost use Rattle.clap.specs.Words.{found_of, rows_of, kind_of, fault_of, matches_of, subcommand_of, FailsBy, subcommand_rows_of};
+ghost use Rattle.std.specs.Prelude.{◌≡◌, true, Some, None, IfOk, IfErr, map, string_bytes};
+ghost use Rattle.clap.specs.Words.{found_of, rows_of, kind_of, fault_of, matches_of, subcommand_of, FailsBy, IsAmong, subcommand_rows_of};
 ghost use Rattle.shop_types.specs.declared.line.Usage.TheVariants as usage;
 ghost use Rattle.till_words.specs.CommandLine.{till_app};
 ghost use Rattle.till_words.specs.Given.{values_of, Reads};
-ghost use Rattle.till_words.specs.Places.{office_words, named_words};
+ghost use Rattle.till_words.specs.Places.{office_words};
+ghost use Rattle.till_words.specs.Places as places;
 ghost use Rattle.till_words.specs.Line.{till_line_of, line_from, read_of, entered_act};
 
 use crate::words::{TillAct, TillLine};
@@ -71,6 +72,16 @@ fn read_named(alloc: Global, words: &[String], named: &[&str]) -> Result<TillLin
     }
 }
 
+/// Whether clap finds that the words ask for help.
+fn is_help(alloc: Global, named: &[&str]) -> bool
+    ensures { result ≡ true → IsAmong ErrorKind.DisplayHelp (fault_of till_app (map (λ s. s.now) named.now)) }
+{
+    match matches(alloc, named) {
+        Ok(_) => false,
+        Err(error) => error.kind() == ErrorKind::DisplayHelp,
+    }
+}
+
 /// The line that the words are, without the program's name. Where they are none it is `Usage::Words`, with the text
 /// that tells how they are to be given, and where memory is wanting `Usage::Memory`.
 pub fn read_till_words(alloc: Global, words: &[String]) -> Result<TillLine, Usage>
@@ -81,6 +92,15 @@ pub fn read_till_words(alloc: Global, words: &[String]) -> Result<TillLine, Usag
         Ok(named) => read_named(alloc, words, named.as_slice()),
         Err(_) => Err(Usage::Memory),
     }
+}
+
+/// Returns whether the words ask for help by `--help` or `-h`: then `read_till_words` gives its text as a usage.
+pub fn asks_for_help(alloc: Global, words: &[String]) -> Result<bool, AllocError>
+    ensures { IfOk result (λ asks. asks ≡ true → IsAmong ErrorKind.DisplayHelp
+        (fault_of till_app (places.named_words (map string_bytes words.now)))) }
+{
+    let named = named::named_words(alloc, words)?;
+    Ok(is_help(alloc, named.as_slice()))
 }
 
 /// What the words of a till are, for one who asks for help.

@@ -107,7 +107,7 @@ static SUBCOMMANDS: [Subcommand; 27] = [
     },
     Subcommand {
         name: "in-stock",
-        about: "Whether a copy is in stock: in-stock COPY",
+        about: "Whether no customer has a copy: in-stock COPY",
         options: &[("copy", Kind::Row)],
     },
     Subcommand {
@@ -147,7 +147,7 @@ static SUBCOMMANDS: [Subcommand; 27] = [
     },
     Subcommand {
         name: "sales",
-        about: "What the branch has taken",
+        about: "What customers paid for rentals, in all and by category",
         options: &[],
     },
     // ---- the till itself

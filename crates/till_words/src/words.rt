@@ -69,7 +69,7 @@ pub enum TillLook {
     Sent,
     /// The customers who paid more often than `purchases`, and more than `cents`, in the month before.
     Rewards { purchases: u32, cents: u32 },
-    /// What the branch has taken, as a whole and by category.
+    /// What customers paid the branch for rentals, as a whole and by category.
     Sales,
 }
 

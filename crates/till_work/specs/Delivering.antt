@@ -3,23 +3,26 @@ use Rattle.std.specs.Prelude.{◌≡◌, ◌≢◌, ℕ, List, ◌⊎◌, Option
 use Rattle.std.specs.Io.KnownBytes.{Appends, Consumes, Keeps}
 use Rattle.sqlite_trees.specs.Tree.{Trees}
 use Rattle.sqlite.specs.State.{State}
-use Rattle.shop_model.specs.Answers.{Answer}
+use Rattle.shop_model.specs.Refusals.{NoCounter}
+use Rattle.shop_model.specs.Machine.{Sorry}
+use Rattle.shop_model.specs.Answers.{Answer, answer_of}
 use Rattle.till_book.specs.Journal.{Journal, waiting, with_reply}
 use Rattle.till_book.specs.Steps.{Rests, IsNextReply, LeavesRecorded}
 use Rattle.till_client.specs.Replies.{seen_answer, answer_bytes}
 use Rattle.till_client.specs.Exchanges.{FailsToAsk}
 use Rattle.till_client.specs.declared.replies.Answer.{Answer as Read}
 use Rattle.till_work.specs.declared.delivering.DeliverFault.{DeliverFault}
-use Rattle.till_work.specs.declared.delivering.DeliverFault.TheVariants.{Book, Unanswered, NotNow}
+use Rattle.till_work.specs.declared.delivering.DeliverFault.TheVariants.{Book, Unanswered, NotNow, NotKnown}
 
 -- What was written is that entry, whole; what was read is the reply that is told, whole; and that reply stands in the book, on the disk too, for that entry and
--- no other.
+-- no other. It is neither that the store couldn't do its part nor that the server doesn't know who asks.
 pub record DeliversOne (journal : Journal) (answer : Answer) (new : State) (input left output written : Option (List ℕ)) : Type 0 where
   pub request : List ℕ
   pub oldest : waiting journal ≡ Some request
   pub writes : Appends output written request
   pub reads : Consumes input left (answer_bytes answer)
   pub decided : answer.status ≢ 503
+  pub known : answer ≢ answer_of (Sorry NoCounter)
   pub rests : Rests new (with_reply answer journal)
 
 -- where each entry has its reply, nothing is written or read, and the book stays
@@ -45,6 +48,8 @@ abbrev pub FailsToDeliver : ℕ → DeliverFault → State → State → Option 
 FailsToDeliver n (Unanswered fault) old new output written =
     (journal : Journal) → Rests old journal → IsNextReply n journal → Rests new journal × OfOldest journal (λ request. FailsToAsk fault request output written)
 FailsToDeliver n NotNow old new output written =
+    (journal : Journal) → Rests old journal → IsNextReply n journal → Rests new journal × OfOldest journal (λ request. Appends output written request)
+FailsToDeliver n NotKnown old new output written =
     (journal : Journal) → Rests old journal → IsNextReply n journal → Rests new journal × OfOldest journal (λ request. Appends output written request)
 FailsToDeliver n (Book fault) old new output written =
     (journal : Journal) → Rests old journal → IsNextReply n journal → Keeps output written ⊎ OfOldest journal (λ request. Appends output written request)

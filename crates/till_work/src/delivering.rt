@@ -1,10 +1,15 @@
 //! The oldest entry without a reply is sent, and its reply recorded.
 
-ghost use Rattle.std.specs.Prelude.{◌≡◌, false, IfOk, IfErr};
+ghost use Rattle.std.specs.Prelude.{◌≡◌, ◌↔◌, false, IsTrue, IfOk, IfErr};
 ghost use Rattle.sqlite.specs.Held.{state};
 ghost use Rattle.sqlite.specs.State.{HasCleanDisk, Survives};
+ghost use Rattle.shop_model.specs.Refusals.{NoCounter};
+ghost use Rattle.shop_model.specs.Machine.{Sorry};
+ghost use Rattle.shop_model.specs.Answers.{answer_of};
+ghost use Rattle.till_client.specs.Replies.{seen_answer};
 ghost use Rattle.till_work.specs.Delivering.{Delivers, FailsToDeliver, MayLeave};
 
+use shop_types::{Refusal, Reply};
 use sql_rows::StoreFault;
 use sqlite::{Alter, Connection};
 use std::alloc::Global;
@@ -21,13 +26,24 @@ pub enum DeliverFault {
     Unanswered(AskFault),
     /// The server had no room or no store for it, and did nothing.
     NotNow,
+    /// The server doesn't know the entry's token, as over another file, and did nothing.
+    NotKnown,
+}
+
+/// Returns whether the reply is that the server doesn't know who asks.
+fn is_unknown(answer: &Answer) -> bool
+    ensures { IsTrue result ↔ (seen_answer answer.now ≡ answer_of (Sorry NoCounter)) }
+{
+    let unknown = Reply::refused(Refusal::NoCounter);
+    answer.status == unknown.status && answer.body.as_slice() == unknown.body_bytes()
 }
 
 /// Sends the oldest entry that has no reply, over a connection that is there for it alone, and records the reply that
 /// came. `next` is the number of the next reply. Where every entry has its reply, nothing is written or read.
 ///
 /// An entry is on the disk before its first byte is written, and stays the oldest until its reply is on the disk too:
-/// whatever fails, the next call sends the same bytes again. A reply with status 503 is none.
+/// whatever fails, the next call sends the same bytes again. A reply with status 503 is none, and so is `no_counter`:
+/// a server that was started over another file decides nothing of an entry.
 pub fn deliver<S: Alter, R: Read, W: Write>(
     alloc: Global,
     conn: &mut Connection<S>,
@@ -57,6 +73,9 @@ pub fn deliver<S: Alter, R: Read, W: Write>(
     };
     if answer.status == 503 {
         return Err(DeliverFault::NotNow);
+    }
+    if is_unknown(&answer) {
+        return Err(DeliverFault::NotKnown);
     }
     match record(conn, next, u32::from(answer.status), &answer.body) {
         Ok(()) => Ok(Some(answer)),
