@@ -1,9 +1,11 @@
 """The two files of a chain, FILE and FILE-wal: who has them open, whether they are sound, and how they are copied. What the scripts beside this one share."""
 import contextlib
+import datetime
 import fcntl
 import hashlib
 import json
 import os
+import re
 import shutil
 import struct
 import subprocess
@@ -11,6 +13,7 @@ import sys
 
 BESIDE = os.path.join(os.path.dirname(os.path.abspath(__file__)), "../crates/sakila/out/sakila")
 LOG, SUMS = "-wal", "sums"
+COPY = re.compile(r"\d{8}T\d{6}Z")
 
 
 class Wrong(Exception):
@@ -107,6 +110,47 @@ def are_as_written(folder, of):
         return it.read() == sums(folder)
 
 
+def copies_in(folder):
+    """Returns the names of a folder's whole copies, the oldest first."""
+    return sorted(it for it in os.listdir(folder) if COPY.fullmatch(it)) if os.path.isdir(folder) else []
+
+
+def moment_of(name):
+    """Returns the moment at which a copy was taken, by its name."""
+    return datetime.datetime.strptime(name + "+0000", "%Y%m%dT%H%M%SZ%z")
+
+
+def removes_halves(folder):
+    """Removes what a script that was stopped has left of a copy."""
+    for it in os.listdir(folder):
+        if it.endswith(".part") and COPY.fullmatch(it.removesuffix(".part")):
+            shutil.rmtree(os.path.join(folder, it))
+
+
+def removes_old(folder, keep):
+    """Removes all copies but the newest; returns how many there are."""
+    names = copies_in(folder)
+    for it in names[:-keep]:
+        # Renamed first, so that no half of a copy ever has a copy's name.
+        os.rename(os.path.join(folder, it), os.path.join(folder, it + ".part"))
+        shutil.rmtree(os.path.join(folder, it + ".part"))
+    return len(names[-keep:])
+
+
+@contextlib.contextmanager
+def alone_in(folder):
+    """Keeps other scripts that write copies out of the folder."""
+    fd = os.open(os.path.join(folder, "lock"), os.O_CREAT | os.O_RDWR, 0o600)
+    try:
+        try:
+            fcntl.flock(fd, fcntl.LOCK_EX | fcntl.LOCK_NB)
+        except BlockingIOError:
+            raise Wrong(f"another script is at work in {folder}", 3) from None
+        yield
+    finally:
+        os.close(fd)
+
+
 def to_disk(path):
     """Has a file or a folder written to the disk."""
     fd = os.open(path, os.O_RDONLY)
@@ -126,3 +170,5 @@ def ends(main):
     except OSError as it:
         print(f"{os.path.basename(sys.argv[0])}: {it}", file=sys.stderr)
         sys.exit(3)
+    except KeyboardInterrupt:
+        sys.exit(130)
