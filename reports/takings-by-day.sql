@@ -1,4 +1,5 @@
--- What a branch took on each day.
+-- What was entered on each day as paid at a branch. It isn't what came into the drawer: a payment of no rental may be a correction, for which no money was taken, and
+-- money that was handed back isn't entered (docs/SHOP.md, "A mistake is put right"). The books mark neither. `payments-of-none` lists the payments in question.
 -- Asked: @branch, the branch's number; @since and @until, the first and the last moment that count, which are the calendar's own where none are set.
 -- Units: cents; `payments` counts them. `of_rentals` is what payments of a rental brought, `of_none` what those of no rental did, `cents` both.
 -- sqlite3 -readonly -bail -box -cmd ".parameter set @branch 1" -cmd ".parameter set @since 2026-03-01T00:00:00" -cmd ".parameter set @until 2026-03-31T23:59:59" COPY < reports/takings-by-day.sql
