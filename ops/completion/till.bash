@@ -1,0 +1,59 @@
+# Completion for `till`, for Bash: its words and their options, and head office's words after `office`. bench/packages holds them against what the program says.
+
+_till() {
+    local -A options=(
+        [rent]="--customer --copy"
+        [return]="--copy --rental"
+        [pay]="--customer --amount --rental"
+        [join]="--first --last --address --phone --city --postal"
+        [bar]="--customer"
+        [unbar]="--customer"
+        [import]="--file --lot"
+        [dispatch]="--to --copies"
+        [receive]="--from --number --missing"
+        [scrap]="--copy"
+        [customer]="--find"
+        [film]="--find"
+        [in-stock]="--copy"
+        [held-by]="--copy"
+        [copies]="--film"
+        [balance]="--customer"
+        [overdue]=""
+        [arrivals]=""
+        [sent]=""
+        [rewards]="--purchases --amount"
+        [sales]=""
+        [waiting]=""
+        [send]=""
+        [last]="--count"
+        [help]=""
+        [init]="--address --token --staff --office"
+        [office]=""
+    )
+    local office="country-add language-add category-add city-add actor-add film-add film-price film-withdraw cast-add branch-add staff-add staff-leave manager-set balance-rule sales custody transit audit"
+    local current=$2 previous=$3 word="" at offered=""
+    for ((at = 1; at < COMP_CWORD; at++)); do
+        if [[ ${COMP_WORDS[at - 1]} != --@(book|staff) && -n ${options[${COMP_WORDS[at]}]+is} ]]; then
+            word=${COMP_WORDS[at]}
+            break
+        fi
+    done
+    case $previous in
+        --book | --file) compopt -o default ;;
+        --json | --office) ;&
+        [!-]*)
+            if [[ -z $word ]]; then
+                offered="${!options[*]} --book --json --staff --help"
+            elif [[ $word == office ]]; then
+                ((at + 1 < COMP_CWORD)) || offered=$office
+            elif [[ $word == import && $previous == import ]]; then
+                compopt -o default
+            else
+                offered="${options[$word]} --help"
+            fi
+            ;;
+    esac
+    mapfile -t COMPREPLY < <(compgen -W "$offered" -- "$current")
+}
+
+complete -F _till till

@@ -1,0 +1,58 @@
+#compdef till
+# Completion for `till`, for Zsh: its words and their options, and head office's words after `office`. bench/packages holds them against what the program says.
+
+_till() {
+    local -A options=(
+        [rent]="--customer --copy"
+        [return]="--copy --rental"
+        [pay]="--customer --amount --rental"
+        [join]="--first --last --address --phone --city --postal"
+        [bar]="--customer"
+        [unbar]="--customer"
+        [import]="--file --lot"
+        [dispatch]="--to --copies"
+        [receive]="--from --number --missing"
+        [scrap]="--copy"
+        [customer]="--find"
+        [film]="--find"
+        [in-stock]="--copy"
+        [held-by]="--copy"
+        [copies]="--film"
+        [balance]="--customer"
+        [overdue]=""
+        [arrivals]=""
+        [sent]=""
+        [rewards]="--purchases --amount"
+        [sales]=""
+        [waiting]=""
+        [send]=""
+        [last]="--count"
+        [help]=""
+        [init]="--address --token --staff --office"
+        [office]=""
+    )
+    local -a office=(country-add language-add category-add city-add actor-add film-add film-price film-withdraw cast-add branch-add staff-add staff-leave manager-set balance-rule sales custody transit audit)
+    local word="" at
+    for ((at = 2; at < CURRENT; at++)); do
+        if [[ $words[at-1] != --(book|staff) ]] && (( ${+options[$words[at]]} )); then
+            word=$words[at]
+            break
+        fi
+    done
+    case $words[CURRENT-1] in
+        --book | --file) _files ;;
+        --json | --office | [^-]*)
+            if [[ -z $word ]]; then
+                compadd -- ${(k)options} --book --json --staff --help
+            elif [[ $word == office ]]; then
+                (( at + 1 < CURRENT )) || compadd -a office
+            elif [[ $word == import && $words[CURRENT-1] == import ]]; then
+                _files
+            else
+                compadd -- ${=options[$word]} --help
+            fi
+            ;;
+    esac
+}
+
+_till "$@"
