@@ -39,7 +39,7 @@ pub film_without_key : line_of (codes "film-add" ∷ title_and_kinds) ≡ None
 unfolding clap_on_literals
 film_without_key = refl
 
--- a rule is told by its name
+-- a line gives a rule by its name
 pub rule_of_the_comment : line_of (codes "balance-rule" ∷ codes "--key" ∷ codes "r1" ∷ codes "--rule" ∷ codes "comment" ∷ []) ≡ Some (record {
   db = None;
   act = act.Office (record { key = codes "r1"; act = office.Rule rule.ByComment });

@@ -1,5 +1,7 @@
 -- The command line of head office, as the library `clap` sees it: `[--db FILE] SUBCOMMAND [OPTION]..`, without the program's name.
-use Rattle.std.specs.Prelude.{ℕ, true, List, [], ◌∷◌, ◌++◌, Some, codes, fold}
+use Rattle.std.specs.Prelude.{ℕ, Bool, true, List, [], ◌∷◌, ◌++◌, Some, codes, fold}
+use Rattle.std.specs.List.{list_any}
+use Rattle.std.specs.Str.{bytes_eq}
 use Rattle.clap.specs.Words.{App, Rule, Shape, Text, new_rule, with_subcommand}
 use Rattle.clap.specs.Simple.{new_shape}
 use Rattle.clap.specs.declared.builder.value_parser.ValueParser.TheVariants as parser
@@ -155,6 +157,10 @@ request_shapes = serve_shape ∷ replay_shape ∷ []
 
 abbrev pub reading_shapes : List Shape
 reading_shapes = sales_shape ∷ custody_shape ∷ transit_shape ∷ audit_shape ∷ []
+
+-- head office only reads with the subcommand of this name
+abbrev pub is_reading : Text → Bool
+is_reading name = list_any (λ shape. bytes_eq shape.name name) reading_shapes
 
 -- the command line before its subcommands
 abbrev pub top_app : App

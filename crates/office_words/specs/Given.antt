@@ -1,4 +1,4 @@
--- What the options of a subcommand say, each as a value of its kind: none where it isn't there or isn't of its kind.
+-- What the options of a subcommand say, each as a value of its kind. An option that is missing or isn't of its kind gives none.
 use Rattle.std.specs.Prelude.{◌≡◌, ℕ, ◌^◌, ◌&&◌, ◌==◌, List, Option, Some, None}
 use Rattle.std.specs.Prelude.{Result, Ok, Err, option_and_then, option_map, codes, find, [], ◌∷◌, if◌then◌else◌, nat_lt, nat_le}
 use Rattle.std.specs.Str.{bytes_eq}
@@ -21,12 +21,12 @@ use Rattle.shop_types.specs.Seen.{seen_rule}
 abbrev pub values_of : ArgMatches → List Row
 values_of matches = rows_of (found_of matches)
 
--- a reading gives the value where there is one, and fails where there is none; it may also fail for want of memory
+-- a reading gives the value if there is one, and fails if there is none; it may also fail when out of memory
 abbrev pub Reads : {A : Type 0} → Result A Usage → Option A → Type 0
 Reads (Ok value) found = found ≡ Some value
 Reads (Err e) found = ¬ (e ≡ usage.Memory) → found ≡ None
 
--- what the function makes of the value, where there is one
+-- what the function makes of the value, if there is one
 abbrev pub with_value : {A B : Type 0} → Option A → (A → Option B) → Option B
 with_value found f = option_and_then f found
 

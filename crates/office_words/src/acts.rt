@@ -11,10 +11,17 @@ use shop_types::{
 };
 use std::alloc::Global;
 
+/// What is wrong with a name that no subcommand has.
+pub(crate) const NO_COMMAND: &str = "a subcommand has to be named; --help lists them";
+
+const PORT: &str = "a port, 1 to 65535";
+
+const CONNECTIONS: &str = "how many, 1 to 1000000";
+
 fn city(alloc: Global, given: &ArgMatches<'_>) -> Result<City, Usage>
     ensures { Reads result (city_of (values_of given.now)) }
 {
-    let country = given::of_kind(alloc, given::row(given, "country"))?;
+    let country = given::row(alloc, given, "country")?;
     Ok(City {
         name: given::text(alloc, given, "name")?,
         country,
@@ -43,25 +50,25 @@ struct FilmFacts {
     features: Features,
 }
 
-fn film_facts(given: &ArgMatches<'_>) -> Option<FilmFacts>
-    ensures { result ≡ facts_of (values_of given.now) }
+fn film_facts(alloc: Global, given: &ArgMatches<'_>) -> Result<FilmFacts, Usage>
+    ensures { Reads result (facts_of (values_of given.now)) }
 {
-    Some(FilmFacts {
-        language: given::row(given, "language")?,
-        category: given::row(given, "category")?,
-        period: given::period(given)?,
-        rate: given::rate(given)?,
-        replacement: given::replacement(given)?,
-        minutes: given::minutes(given)?,
-        rating: given::rating(given)?,
-        features: given::features(given)?,
+    Ok(FilmFacts {
+        language: given::row(alloc, given, "language")?,
+        category: given::row(alloc, given, "category")?,
+        period: given::period(alloc, given)?,
+        rate: given::rate(alloc, given)?,
+        replacement: given::replacement(alloc, given)?,
+        minutes: given::minutes(alloc, given)?,
+        rating: given::rating(alloc, given)?,
+        features: given::features(alloc, given)?,
     })
 }
 
 fn film(alloc: Global, given: &ArgMatches<'_>) -> Result<Film, Usage>
     ensures { Reads result (film_of (values_of given.now)) }
 {
-    let facts = given::of_kind(alloc, film_facts(given))?;
+    let facts = film_facts(alloc, given)?;
     Ok(Film {
         title: given::text(alloc, given, "title")?,
         description: given::text(alloc, given, "description")?,
@@ -97,8 +104,8 @@ fn contact_details(alloc: Global, given: &ArgMatches<'_>) -> Result<Contact, Usa
 fn branch(alloc: Global, given: &ArgMatches<'_>) -> Result<Branch, Usage>
     ensures { Reads result (branch_of (values_of given.now)) }
 {
-    let token = given::of_kind(alloc, given::token(given))?;
-    let city = given::of_kind(alloc, given::row(given, "city"))?;
+    let token = given::token(alloc, given)?;
+    let city = given::row(alloc, given, "city")?;
     let found = contact_details(alloc, given)?;
     Ok(Branch {
         token,
@@ -112,7 +119,7 @@ fn branch(alloc: Global, given: &ArgMatches<'_>) -> Result<Branch, Usage>
 fn person(alloc: Global, given: &ArgMatches<'_>) -> Result<Person, Usage>
     ensures { Reads result (person_of (values_of given.now)) }
 {
-    let city = given::of_kind(alloc, given::row(given, "city"))?;
+    let city = given::row(alloc, given, "city")?;
     let names = actor(alloc, given)?;
     let found = contact_details(alloc, given)?;
     Ok(Person {
@@ -128,49 +135,49 @@ fn person(alloc: Global, given: &ArgMatches<'_>) -> Result<Person, Usage>
 fn staff(alloc: Global, given: &ArgMatches<'_>) -> Result<Staff, Usage>
     ensures { Reads result (staff_of (values_of given.now)) }
 {
-    let branch = given::of_kind(alloc, given::row(given, "branch"))?;
+    let branch = given::row(alloc, given, "branch")?;
     Ok(Staff {
         branch,
         person: person(alloc, given)?,
     })
 }
 
-/// What a command of this name does that takes numbers alone, or a rule.
-fn plain_act(name: &str, given: &ArgMatches<'_>) -> Option<OfficeAct>
-    ensures { result ≡ plain_act_of name.now (values_of given.now) }
+/// Returns what a command of this name does that takes numbers alone, or a rule.
+fn plain_act(alloc: Global, name: &str, given: &ArgMatches<'_>) -> Result<OfficeAct, Usage>
+    ensures { Reads result (plain_act_of name.now (values_of given.now)) }
 {
     match name {
-        "film-price" => Some(OfficeAct::Price {
-            film: given::row(given, "film")?,
-            rate: given::rate(given)?,
+        "film-price" => Ok(OfficeAct::Price {
+            film: given::row(alloc, given, "film")?,
+            rate: given::rate(alloc, given)?,
         }),
-        "film-withdraw" => Some(OfficeAct::Withdraw(given::row(given, "film")?)),
-        "cast-add" => Some(OfficeAct::Cast {
-            film: given::row(given, "film")?,
-            actor: given::row(given, "actor")?,
+        "film-withdraw" => Ok(OfficeAct::Withdraw(given::row(alloc, given, "film")?)),
+        "cast-add" => Ok(OfficeAct::Cast {
+            film: given::row(alloc, given, "film")?,
+            actor: given::row(alloc, given, "actor")?,
         }),
-        "staff-leave" => Some(OfficeAct::Leave(given::row(given, "staff")?)),
-        "manager-set" => Some(OfficeAct::Manager {
-            branch: given::row(given, "branch")?,
-            staff: given::row(given, "staff")?,
+        "staff-leave" => Ok(OfficeAct::Leave(given::row(alloc, given, "staff")?)),
+        "manager-set" => Ok(OfficeAct::Manager {
+            branch: given::row(alloc, given, "branch")?,
+            staff: given::row(alloc, given, "staff")?,
         }),
-        "balance-rule" => Some(OfficeAct::Rule(given::rule(given)?)),
-        _ => None,
+        "balance-rule" => Ok(OfficeAct::Rule(given::rule(alloc, given)?)),
+        _ => Err(given::unread(alloc, NO_COMMAND)),
     }
 }
 
-/// What a command of this name does that adds a branch or staff, or takes numbers alone or a rule.
+/// Returns what a command of this name does that adds a branch or staff, or takes numbers alone or a rule.
 fn place_act(alloc: Global, name: &str, given: &ArgMatches<'_>) -> Result<OfficeAct, Usage>
     ensures { Reads result (place_act_of name.now (values_of given.now)) }
 {
     match name {
         "branch-add" => Ok(OfficeAct::Branch(branch(alloc, given)?)),
         "staff-add" => Ok(OfficeAct::Staff(staff(alloc, given)?)),
-        _ => given::of_kind(alloc, plain_act(name, given)),
+        _ => plain_act(alloc, name, given),
     }
 }
 
-/// What a command of this name does to the catalogue.
+/// Returns what a command of this name does to the catalogue.
 fn office_act(alloc: Global, name: &str, given: &ArgMatches<'_>) -> Result<OfficeAct, Usage>
     ensures { Reads result (office_act_of name.now (values_of given.now)) }
 {
@@ -194,46 +201,48 @@ fn command(alloc: Global, name: &str, given: &ArgMatches<'_>) -> Result<LineAct,
     }))
 }
 
-fn serve(given: &ArgMatches<'_>) -> Option<LineAct>
-    ensures { result ≡ serve_of (values_of given.now) }
+fn serve(alloc: Global, given: &ArgMatches<'_>) -> Result<LineAct, Usage>
+    ensures { Reads result (serve_of (values_of given.now)) }
 {
-    Some(LineAct::Serve {
-        port: given::u16_of(given, "port")?,
-        connections: given::u32_of(given, "connections")?,
+    let port = given::u16_of(given, "port");
+    let connections = given::u32_of(given, "connections");
+    Ok(LineAct::Serve {
+        port: given::of_kind(alloc, port, "port", PORT)?,
+        connections: given::of_kind(alloc, connections, "connections", CONNECTIONS)?,
     })
 }
 
-/// The reading of where the copy of a mark is.
-fn custody(given: &ArgMatches<'_>) -> Option<OfficeAsk>
-    ensures { result ≡ custody_of (values_of given.now) }
+/// Returns the reading of where the copy of a mark is.
+fn custody(alloc: Global, given: &ArgMatches<'_>) -> Result<OfficeAsk, Usage>
+    ensures { Reads result (custody_of (values_of given.now)) }
 {
-    Some(OfficeAsk::Custody(Mark {
-        branch: given::row(given, "branch")?,
-        copy: given::row(given, "copy")?,
+    Ok(OfficeAsk::Custody(Mark {
+        branch: given::row(alloc, given, "branch")?,
+        copy: given::row(alloc, given, "copy")?,
     }))
 }
 
-/// What a subcommand of this name reads, or does as a command.
+/// Returns what a subcommand of this name reads, or does as a command.
 fn reading(alloc: Global, name: &str, given: &ArgMatches<'_>) -> Result<LineAct, Usage>
     ensures { Reads result (reading_of name.now (values_of given.now)) }
 {
     match name {
         "sales" => Ok(LineAct::OfficeLook(OfficeAsk::Sales)),
-        "custody" => Ok(LineAct::OfficeLook(given::of_kind(alloc, custody(given))?)),
+        "custody" => Ok(LineAct::OfficeLook(custody(alloc, given)?)),
         "transit" => Ok(LineAct::OfficeLook(OfficeAsk::Transit)),
         "audit" => Ok(LineAct::OfficeLook(OfficeAsk::Audit)),
         _ => command(alloc, name, given),
     }
 }
 
-/// What a subcommand of this name asks for.
+/// Returns what a subcommand of this name asks for.
 pub(crate) fn act(alloc: Global, name: &str, given: &ArgMatches<'_>) -> Result<LineAct, Usage>
     ensures { Reads result (act_of name.now (values_of given.now)) }
 {
     match name {
-        "init" => Ok(LineAct::Init(given::of_kind(alloc, given::token(given))?)),
+        "init" => Ok(LineAct::Init(given::token(alloc, given)?)),
         "migrate" => Ok(LineAct::Migrate),
-        "serve" => given::of_kind(alloc, serve(given)),
+        "serve" => serve(alloc, given),
         "replay" => Ok(LineAct::Replay),
         _ => reading(alloc, name, given),
     }

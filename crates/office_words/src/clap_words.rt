@@ -19,7 +19,7 @@ pub struct ClapWords {
     pub alloc: Global,
 }
 
-/// What clap finds in the words.
+/// Returns what clap finds in the words.
 fn matches<'a>(alloc: Global, words: &'a [String]) -> Result<ArgMatches<'a>, Error>
     ensures fails { FailsBy (fault_of office_app (map string_bytes words.now)) result }
     ensures ok { IfOk result (λ m. (rows_of (found_of m) ≡ matches_of office_app (map string_bytes words.now))
@@ -28,7 +28,7 @@ fn matches<'a>(alloc: Global, words: &'a [String]) -> Result<ArgMatches<'a>, Err
     commands::office(alloc)?.try_get_matches_from(words)
 }
 
-/// What clap says of words that it refuses.
+/// Returns what clap says of words that it refuses.
 fn refused(alloc: Global, error: &Error) -> Usage
     ensures { kind_of error.now ≡ ErrorKind.OutOfMemory → result ≡ usage.Memory }
 {
@@ -41,7 +41,7 @@ fn refused(alloc: Global, error: &Error) -> Usage
     }
 }
 
-/// The name of the chain's file.
+/// Returns the name of the chain's file.
 fn file(alloc: Global, given: &ArgMatches<'_>) -> Result<Option<String>, Usage>
     ensures ok { IfOk result (λ db. option_map string_bytes db ≡ first_of (codes "db") (values_of given.now)) }
     ensures memory { IfErr result (λ e. e ≡ usage.Memory) }
@@ -52,7 +52,7 @@ fn file(alloc: Global, given: &ArgMatches<'_>) -> Result<Option<String>, Usage>
     }
 }
 
-/// The line of words that clap takes.
+/// Returns the line of words that clap takes.
 fn line(
     alloc: Global,
     given: &ArgMatches<'_>,
@@ -69,9 +69,9 @@ fn line(
     Ok(Line { db, act })
 }
 
-/// The line that the words are, without the program's name. Where they are none it is `Usage::Words`, with the text
-/// that tells how they are to be given, and where memory is wanting `Usage::Memory`. `docs/REQUESTS.md` has the
-/// words.
+/// Returns the line that the words are, without the program's name. If the words are none, fails with `Usage::Words`,
+/// with the text that says how words are given. If out of memory, fails with `Usage::Memory`. `docs/REQUESTS.md` lists
+/// the words.
 pub fn read_words(alloc: Global, words: &[String]) -> Result<Line, Usage>
     ensures ok { IfOk result (λ line. line_of (map string_bytes words.now) ≡ Some (seen_line line)) }
     ensures refused { IfErr result (λ e. ¬ (e ≡ usage.Memory) → line_of (map string_bytes words.now) ≡ None) }
@@ -81,7 +81,7 @@ pub fn read_words(alloc: Global, words: &[String]) -> Result<Line, Usage>
         Err(error) => return Err(refused(alloc, &error)),
     };
     let Some((name, inner)) = matches.subcommand() else {
-        return Err(given::unread(alloc));
+        return Err(given::unread(alloc, acts::NO_COMMAND));
     };
     line(alloc, &matches, name, inner)
 }

@@ -4,6 +4,7 @@ ghost use Rattle.std.specs.Prelude.{◌≡◌, false, IfOk, map, fold};
 ghost use Rattle.clap.specs.Words.{app_of, shape_of, with_subcommand};
 ghost use Rattle.clap.specs.declared.builder.command.Command.TheViews.{out-Command as fields_of};
 ghost use Rattle.office_words.specs.CommandLine as line;
+ghost use Rattle.office_words.specs.CommandLine.{is_reading};
 ghost use Rattle.office_words.specs.Table.{table_shape};
 
 use crate::options::{Kind, optional, with_options};
@@ -17,8 +18,8 @@ struct Subcommand {
     options: &'static [(&'static str, Kind)],
 }
 
-/// The subcommands, in the order in which help tells them.
-static SUBCOMMANDS: [Subcommand; 22] = [
+/// The subcommands with which head office doesn't only read, in the order in which help lists them.
+static COMMANDS: [Subcommand; 18] = [
     // ---- what changes the catalogue
     Subcommand {
         name: "country-add",
@@ -146,7 +147,10 @@ static SUBCOMMANDS: [Subcommand; 22] = [
         name: "replay",
         options: &[],
     },
-    // ---- what head office reads
+];
+
+/// The subcommands with which head office only reads. They have no key, and help lists them after the others.
+static READINGS: [Subcommand; 4] = [
     Subcommand {
         name: "sales",
         options: &[],
@@ -165,7 +169,7 @@ static SUBCOMMANDS: [Subcommand; 22] = [
     },
 ];
 
-/// The command of a subcommand.
+/// Returns the command of a subcommand.
 fn command_of<'a>(alloc: Global, subcommand: Subcommand) -> Result<Command<'a>, AllocError>
     ensures shape { IfOk result (λ c. shape_of c ≡ table_shape subcommand) }
     ensures local { IfOk result (λ c. (fields_of c).has_globals ≡ false) }
@@ -174,7 +178,7 @@ fn command_of<'a>(alloc: Global, subcommand: Subcommand) -> Result<Command<'a>, 
     with_options(alloc, command, subcommand.options)
 }
 
-/// The command with these subcommands more.
+/// Returns the command with the subcommands added.
 fn with_commands<'a>(
     alloc: Global,
     mut command: Command<'a>,
@@ -192,7 +196,7 @@ fn with_commands<'a>(
     Ok(command)
 }
 
-/// The command line before its subcommands.
+/// Returns the command line before its subcommands.
 fn top<'a>(alloc: Global) -> Result<Command<'a>, AllocError>
     ensures app { IfOk result (λ c. app_of c ≡ line.top_app) }
     ensures local { IfOk result (λ c. (fields_of c).has_globals ≡ false) }
@@ -203,11 +207,19 @@ fn top<'a>(alloc: Global) -> Result<Command<'a>, AllocError>
         .arg(optional(alloc, "db"))
 }
 
-/// The command line of head office.
+/// Returns the command line of head office.
 pub(crate) fn office<'a>(alloc: Global) -> Result<Command<'a>, AllocError>
     ensures app { IfOk result (λ c. app_of c ≡ line.office_app) }
     ensures local { IfOk result (λ c. (fields_of c).has_globals ≡ false) }
 {
     let command = top(alloc)?;
-    with_commands(alloc, command, &SUBCOMMANDS)
+    let command = with_commands(alloc, command, &COMMANDS)?;
+    with_commands(alloc, command, &READINGS)
+}
+
+/// Returns whether head office only reads with the subcommand of this name.
+pub fn is_reading(name: &str) -> bool
+    ensures { result ≡ is_reading name.now }
+{
+    READINGS.iter().any(|reading| reading.name == name)
 }

@@ -8,3 +8,4 @@ mod given;
 mod options;
 
 pub use clap_words::{ClapWords, read_words};
+pub use commands::is_reading;

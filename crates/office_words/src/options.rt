@@ -35,7 +35,7 @@ pub(crate) fn optional<'a>(alloc: Global, name: &'a str) -> Arg<'a>
     Arg::new(alloc, name).long(name)
 }
 
-/// The option of this name and kind.
+/// Returns the option of this name and kind.
 fn option<'a>(alloc: Global, name: &'static str, kind: Kind) -> Arg<'a>
     ensures rule { rule_of result ≡ kind_rule name.entry.now kind }
     ensures local { result.global ≡ false }
@@ -57,7 +57,7 @@ fn option<'a>(alloc: Global, name: &'static str, kind: Kind) -> Arg<'a>
     }
 }
 
-/// The command with these options more.
+/// Returns the command with the options added.
 pub(crate) fn with_options<'a>(
     alloc: Global,
     mut command: Command<'a>,

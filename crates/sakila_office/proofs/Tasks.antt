@@ -1,4 +1,4 @@
--- A task that isn't begun, for want of memory.
+-- A task that isn't begun, because there is no memory.
 use Rattle.std.proofs.Common.{ℕ, List, Option, inr}
 use Rattle.std.specs.Io.KnownBytes.{Keeps}
 use Rattle.sqlite_disk.specs.declared.Disk.{Ghosts}

@@ -1,4 +1,4 @@
--- A chain in a file: how it is made, how it becomes one of this version, how it answers a request of head office, and how it serves connections.
+-- A chain in a file: how the program makes it, migrates it, puts a request of head office to it, and serves connections by it.
 use Rattle.std.specs.Prelude.{◌≡◌, ◌⊎◌, ℕ, false, List, Option, codes}
 use Rattle.std.specs.Io.KnownBytes.{Keeps}
 use Rattle.sqlite_disk.specs.declared.Disk.{Ghosts}
@@ -21,7 +21,7 @@ use Rattle.sql_rows.specs.Files.{HoldsNoTable}
 use Rattle.counter_http.specs.Exchanges.{Exchange, events_of, answers_of}
 use Rattle.sakila_office.specs.Printed.{IsPrinted, IsSilent, IsTold}
 
--- ---- between two runs of the program the books stand in two files, the database and its log
+-- ---- between two runs of the program the books are in two files, the database and its log
 
 -- a chain with these books, just opened, with the greatest limits
 abbrev pub opened_holding : Books → Holding
@@ -34,8 +34,8 @@ pub record IsMade {D : Type 0} (g : Ghosts D) (token : List ℕ) : Type 0 where
   pub none : AreClean g left.log left.db → HoldsNoTable (image_of g files)
   pub kept : AreClean g left.log left.db → KeepsBooks g left (first_books token)
 
--- The files held a chain of version 1, whose books were sound. It became one of this version and was closed, and these are the files then, which keep these books
--- with the terms of each rental; and so they do whatever books of version 1 the files are known to hold.
+-- The files held a chain of version 1, whose books were sound. It became one of this version and was closed. The files then keep the same books, with the terms
+-- of each rental. This holds of whatever books of version 1 the files are known to hold.
 pub record IsMigrated {D : Type 0} (g : Ghosts D) : Type 0 where
   pub files : Files D
   pub left : Files D
@@ -48,8 +48,8 @@ abbrev pub AnswersFrom : {D : Type 0} → Ghosts D → Files D → Request → A
 AnswersFrom g left request answer books =
     (after : Holding) × Answers HeadOffice (seen_request request) answer (opened_holding books) after × (after.is_failed ≡ false → KeepsBooks g left after.books)
 
--- The files hold a chain of this version. It was opened in them, got the request and answered so, and was closed. The answer is that of the sound books which
--- the files hold, and of whatever books they are known to hold.
+-- The files hold a chain of this version. It was opened, got the request, gave this answer, and was closed. The answer follows from the sound books that the
+-- files hold, and from whatever books they are known to hold.
 pub record IsAnswered {D : Type 0} (g : Ghosts D) (request : Request) (answer : Answer) : Type 0 where
   pub files : Files D
   pub left : Files D
@@ -57,7 +57,7 @@ pub record IsAnswered {D : Type 0} (g : Ghosts D) (request : Request) (answer : 
   pub sound : AreClean g left.log left.db → (books : Books) × HoldsSoundly (image_of g files) books × AnswersFrom g left request answer books
   pub answers : AreClean g left.log left.db → (books : Books) → HoldsBooks (image_of g files) books → AnswersFrom g left request answer books
 
--- From these books on, the chain runs over the exchanges, and unless the store fails, these files then keep the books after it. With status 0 it didn't fail.
+-- From these books on, the chain runs over the exchanges. Unless the store fails, the files then keep the books after the run. With status 0 it didn't fail.
 abbrev pub RunsFrom : {D : Type 0} → Ghosts D → Files D → ℕ → List Exchange → Books → Type 0
 RunsFrom g left status exchanges books =
     (after : Holding) × Runs (events_of line_of exchanges) (answers_of exchanges) (opened_holding books) after
@@ -75,24 +75,24 @@ pub record IsServedIn {D : Type 0} (g : Ghosts D) (status : ℕ) : Type 0 where
 
 -- ---- the four tasks, over such files
 
--- the chain was made and its version is told, or there are tables already, or the store couldn't do its part
+-- the chain was made and its version is printed, or there are tables already, or the store couldn't do its part
 pub data Makes {D : Type 0} (g : Ghosts D) (token : List ℕ) (status : ℕ) (output written errors told : Option (List ℕ)) : Type 0 where
   made : IsMade g token → IsPrinted (codes "{\"version\":2}") status output written → Keeps errors told → Makes g token status output written errors told
   already : IsTold (problem_answer (Decision Already)) status output written errors told → Makes g token status output written errors told
   not_made : IsSilent 3 status output written → Makes g token status output written errors told
 
--- the chain became one of this version, and that is told; or it is one already, or there is none that can be, or the store couldn't do its part
+-- The chain became one of this version, which is printed. Or it is one already, or there is none to migrate, or the store couldn't do its part.
 pub data Migrates {D : Type 0} (g : Ghosts D) (status : ℕ) (output written errors told : Option (List ℕ)) : Type 0 where
   made_new : IsMigrated g → IsPrinted (codes "{\"version\":2}") status output written → Keeps errors told → Migrates g status output written errors told
   already_new : IsTold (problem_answer (Decision Already)) status output written errors told → Migrates g status output written errors told
   not_migrated : IsSilent 3 status output written → Migrates g status output written errors told
 
--- the request was answered, and the answer is told; or no chain was opened, and it did nothing
+-- The request was answered, and the answer is printed. Or no chain was opened, and the request did nothing.
 pub data Puts {D : Type 0} (g : Ghosts D) (request : Request) (status : ℕ) (output written errors told : Option (List ℕ)) : Type 0 where
   answered : (answer : Answer) → IsAnswered g request answer → IsTold answer status output written errors told → Puts g request status output written errors told
   not_opened : IsSilent 3 status output written → Puts g request status output written errors told
 
--- the chain served connections, and nothing is printed; or no chain was opened, and it did nothing
+-- The chain served connections, and nothing is printed. Or no chain was opened, and nothing was done.
 pub data Serves {D : Type 0} (g : Ghosts D) (status : ℕ) (output written errors told : Option (List ℕ)) : Type 0 where
   served : IsServedIn g status → (status ≡ 0) ⊎ (status ≡ 3) → Keeps output written → Keeps errors told → Serves g status output written errors told
   not_served : IsSilent 3 status output written → Serves g status output written errors told

@@ -11,7 +11,7 @@ line_bytes text = text ++ 10 ∷ []
 abbrev pub IsCutOff : List ℕ → Option (List ℕ) → Option (List ℕ) → Type 0
 IsCutOff bytes output written = (front : List ℕ) × (rest : List ℕ) × (bytes ≡ front ++ rest) × (0 < length rest) × Appends output written front
 
--- the text is printed as a line, with status 0; where standard output fails before the line's end the status is 3
+-- the text is printed as a line, with status 0; if standard output fails before the line's end the status is 3
 abbrev pub IsPrinted : List ℕ → ℕ → Option (List ℕ) → Option (List ℕ) → Type 0
 IsPrinted text status output written = ((status ≡ 0) × Appends output written (line_bytes text)) ⊎ ((status ≡ 3) × IsCutOff (line_bytes text) output written)
 
@@ -23,15 +23,16 @@ IsSilent wanted status output written = (status ≡ wanted) × Keeps output writ
 abbrev pub IsQuiet : ℕ → Option (List ℕ) → Option (List ℕ) → Type 0
 IsQuiet status errors told = status ≡ 0 → Keeps errors told
 
--- the text is written as a line on standard error, or a front of it where standard error fails, and nothing else is
+-- the text is written as a line on standard error, or a front of the line if standard error fails, and nothing else
 abbrev pub IsComplaint : List ℕ → Option (List ℕ) → Option (List ℕ) → Type 0
 IsComplaint text errors told = (front : List ℕ) × (rest : List ℕ) × (line_bytes text ≡ front ++ rest) × Appends errors told front
 
--- 3 where the chain couldn't do its part, for want of memory or room or because its store failed, and 1 for any other refusal
+-- 3 if the chain ran out of memory or room, or its store failed, and 1 for any other refusal
 abbrev pub refused_status : ℕ → ℕ
 refused_status status = if status == 503 then 3 else 1
 
--- The body of an accepted answer is printed on standard output, and nothing on standard error. Of a refusal nothing is printed there, and its body is the complaint.
+-- The body of an accepted answer is printed on standard output, and nothing on standard error. The body of a refusal is written on standard error, and nothing
+-- on standard output.
 pub record IsTold (answer : Answer) (status : ℕ) (output written errors told : Option (List ℕ)) : Type 0 where
   pub accepted : answer.status ≡ 200 → IsPrinted answer.body status output written × Keeps errors told
   pub refused : answer.status ≢ 200 → IsSilent (refused_status answer.status) status output written × IsComplaint answer.body errors told

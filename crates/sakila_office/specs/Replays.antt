@@ -13,7 +13,7 @@ use Rattle.counter_http.specs.declared.connection.Served.{Served}
 use Rattle.counter_http.specs.declared.connection.ServeFault.{ServeFault}
 use Rattle.sakila_office.specs.Commands.{opened_holding}
 
--- 0 where all that came was answered, 1 where the input broke off or was no message, 3 where the store failed
+-- 0 if all that came was answered, 1 if the input broke off or was no message, 3 if the store failed
 abbrev pub status_of : End → ℕ
 status_of Closed = 0
 status_of Asked = 0
@@ -22,16 +22,16 @@ status_of Cut = 1
 status_of Refused = 1
 status_of StoreFailed = 3
 
--- the chain that is shown, before anything is asked
+-- the chain with the opening rows, before anything is asked
 abbrev pub opening_holding : Holding
 opening_holding = opened_holding opening_books
 
--- the chain that is shown answers the messages, one after another, head office's words read by the table of words
+-- the chain with the opening rows answers the messages, one after another; the table of words reads head office's words
 abbrev pub RunsFromOpening : List Exchange → Type 0
 RunsFromOpening exchanges = (after : Holding) × Runs (events_of line_of exchanges) (answers_of exchanges) opening_holding after
 
--- An input was replayed: 1,000 requests at most were answered by a chain with the opening rows, or reading or writing failed, or there was no memory or room. On
--- standard error it is told only that there is no chain.
+-- An input was replayed: a chain with the opening rows answered at most 1,000 requests. Or reading or writing failed, or there was no memory or room. Something
+-- is written on standard error only if there is no chain.
 pub data Replays (status : ℕ) (input left output written errors told : Option (List ℕ)) : Type 0 where
   replayed : (served : Served) → IsServed served 1000 RunsFromOpening input left output written → status ≡ status_of served.end → Keeps errors told
       → Replays status input left output written errors told

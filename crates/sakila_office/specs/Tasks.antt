@@ -11,16 +11,16 @@ pub data Task : Type 0 where
   Replay : Task
   -- to make a chain with this token in the file
   Make : (file token : List ℕ) → Task
-  -- to make the chain of version 1 in the file one of this version
+  -- to turn the chain of version 1 in the file into one of this version
   Migrate : (file : List ℕ) → Task
   -- to put a request of head office to the chain in the file
   Put : (file : List ℕ) → Request → Task
   -- to serve so many connections at the port by the chain in the file
   Serve : (file : List ℕ) → (port connections : ℕ) → Task
-  -- nothing that it does: the words are no line, or `--db` is missing, or is there with `replay`
+  -- to do nothing: the words are no line, or `--db` is missing, or is given with `replay`
   Nothing : Task
 
--- a chain stands in a file, but the one that replays
+-- each task needs a file for the chain, except `replay`, which takes none
 abbrev pub task_with : LineAct → Option (List ℕ) → Task
 task_with act.Replay None = Replay
 task_with act.Replay (Some file) = Nothing

@@ -1,4 +1,4 @@
-//! A chain in a file: it is made, becomes one of this version, gets one request of head office, or serves connections.
+//! A chain in a file: the program makes it, migrates it, puts one request of head office to it, or serves connections.
 ghost use Rattle.std.specs.Prelude.{◌≡◌, ◌⊎◌, ℕ, true, List, Option};
 ghost use Rattle.office_words.specs.Line.{line_of};
 ghost use Rattle.counter_http.specs.Exchanges.{Exchange, RunsOver};
@@ -19,10 +19,10 @@ use std::io::Write;
 use std::net::{Ipv4Addr, Net, TcpListener, TcpStream};
 use std::time::{Clock, Duration};
 
-/// For how many seconds a peer that sends no whole request, or takes nothing of a reply, is waited for.
+/// How many seconds the server waits for a peer that sends no whole request, or takes nothing of a reply.
 const PATIENCE: u64 = 30;
 
-/// Makes a chain in the file, and tells its version.
+/// Makes a chain in the file, and prints its version.
 pub(crate) fn make<W: Write, E: Write>(
     rt: &HostRuntime,
     file: &str,
@@ -53,7 +53,7 @@ pub(crate) fn make<W: Write, E: Write>(
     }
 }
 
-/// Makes the chain of version 1 in the file one of this version, and tells that.
+/// Turns the chain of version 1 in the file into one of this version, and prints that version.
 pub(crate) fn migrate<W: Write, E: Write>(
     rt: &HostRuntime,
     file: &str,
@@ -82,7 +82,7 @@ pub(crate) fn migrate<W: Write, E: Write>(
     }
 }
 
-/// Puts the request of head office to the chain in the file, and tells the answer.
+/// Puts the request of head office to the chain in the file, and prints the answer.
 pub(crate) fn put<W: Write, E: Write>(
     rt: &HostRuntime,
     file: &str,
@@ -109,9 +109,10 @@ pub(crate) fn put<W: Write, E: Write>(
     }
 }
 
-/// Serves so many connections at the port of this machine by the chain, as the program does: a peer that keeps it
-/// waiting is left after half a minute. Port 0 is any that is free, which `rt` is told of. The answer is 0 where all
-/// were served, and 3 where the port can't be had, none could be accepted any more or the store failed.
+/// Serves so many connections at the port of this machine by the chain, as the program does. A peer that keeps the
+/// server waiting is disconnected after half a minute. With port 0 the listener gets any free port, and `rt`, which
+/// opens the listener, can find out which. Returns 0 if all connections were served. Returns 3 if the port can't be
+/// opened, no more connections could be accepted, or the store failed.
 pub fn serve_port<
     R: Net<Listener = TcpListener, Stream = TcpStream> + Clock + AllocGlobal,
     S: Alter,

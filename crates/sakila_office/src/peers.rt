@@ -1,4 +1,4 @@
-//! A connection that is open, and how long its peer is waited for.
+//! An open connection, and how long the server waits for its peer.
 ghost use Rattle.std.specs.Prelude.{List};
 ghost use Rattle.counter_http.specs.Exchanges.{Exchange, RunsOver};
 
@@ -14,17 +14,17 @@ use std::time::{Clock, Duration};
 /// How many requests of a connection are answered before the others have their turn.
 const MOST_IN_A_TURN: u32 = 16;
 
-/// Behind how many milliseconds of its turn no further request of a connection is answered before the others have
-/// theirs.
+/// After how many milliseconds a connection's turn ends: the other connections have their turns before its next
+/// request is answered.
 const LONGEST_TURN: u64 = 1;
 
-/// How many pieces that a peer still sends behind its last reply are dropped.
+/// How many pieces that a peer still sends after its last reply are read and dropped.
 const MOST_DROPPED: u32 = 64;
 
-/// Behind how many milliseconds of silence between two requests a connection may be left for one that waits.
+/// After how many milliseconds of silence between two requests a connection may be disconnected for one that waits.
 const LONG_SILENCE: u64 = 250;
 
-/// How each reply begins, and how one to a caller without a token that somebody has.
+/// How each reply begins. A reply to a caller without a token that somebody has begins with `FORBIDDEN`.
 const REPLY: &[u8] = b"HTTP/1.1 ";
 
 const FORBIDDEN: &[u8] = b"HTTP/1.1 403 ";
@@ -39,18 +39,18 @@ enum Asker {
     Known,
 }
 
-/// Where a peer stands.
+/// Whether a peer is answered, is being disconnected, or is gone.
 #[derive(Clone, Copy)]
 enum Phase {
     /// It is answered.
     Served,
-    /// It has its last reply. What it still sends is read and dropped, so many pieces: a socket that is closed over
-    /// bytes that nobody read is reset, and then the reply may be lost.
+    /// It has its last reply. At most so many pieces that it still sends are read and dropped. Closing a socket with
+    /// unread bytes would reset the connection, and the reply might be lost.
     Leaving(u32),
     Gone,
 }
 
-/// A socket that is written to, whether its peer has taken something, and who it is then.
+/// A socket to write to. Notes whether its peer has taken something, and who the peer is by its last reply.
 #[derive(Drop)]
 struct Outlet<'s> {
     stream: &'s TcpStream,
@@ -76,7 +76,7 @@ impl Write for Outlet<'_> {
     }
 }
 
-/// The time by the clock, or the one that was told before where the clock fails.
+/// Returns the clock's time, or `before` if the clock fails.
 pub(crate) fn time<R: Clock>(rt: &R, before: Duration) -> Duration {
     rt.monotonic().unwrap_or(before)
 }
@@ -89,12 +89,12 @@ pub(crate) struct Peer {
     stream: TcpStream,
     connection: Connection,
     phase: Phase,
-    /// Whether it can go on without waiting, as far as is known.
+    /// Whether the connection can go on without waiting, as far as is known.
     pub(crate) is_ready: bool,
-    /// Whether it was silent behind a whole reply, or since it came, when it was last looked.
+    /// Whether, at the last look, the peer had sent nothing since its last whole reply, or since it came.
     is_silent: bool,
     asker: Asker,
-    /// When it came, was last answered, last took bytes of a reply, or began to leave.
+    /// When the peer came, was last answered, last took bytes of a reply, or began to be disconnected.
     since: Duration,
 }
 
@@ -121,17 +121,18 @@ impl Peer {
         matches!(self.phase, Phase::Gone)
     }
 
-    /// Whether it is still answered.
+    /// Reports whether the peer is still answered.
     pub(crate) fn is_served(&self) -> bool {
         matches!(self.phase, Phase::Served)
     }
 
-    /// Whether it can go on without waiting and is still answered.
+    /// Reports whether the peer can go on without waiting and is still answered.
     pub(crate) fn is_busy(&self) -> bool {
         self.is_ready && self.is_served()
     }
 
-    /// From when on it may be left for one that waits, where it is silent between two requests: a stranger at once.
+    /// If the peer is silent between two requests, returns when it may be disconnected for one that waits. A stranger
+    /// may be disconnected at once.
     pub(crate) fn yields_at(&self) -> Option<Duration> {
         if !self.is_silent || self.is_ready || !self.is_served() {
             return None;
@@ -147,23 +148,23 @@ impl Peer {
         }
     }
 
-    /// Whether it may be left now for one that waits.
+    /// Reports whether the peer may be disconnected now for one that waits.
     pub(crate) fn may_yield(&self, now: Duration) -> bool {
         self.yields_at().is_some_and(|at| at <= now)
     }
 
-    /// Whether its last request came with a token that somebody has, and it is still answered.
+    /// Reports whether the peer's last request came with a token that somebody has, and the peer is still answered.
     pub(crate) fn is_known(&self) -> bool {
         self.asker == Asker::Known && self.is_served()
     }
 
-    /// Its place in the order in which peers are left for those that wait: whoever isn't known goes first, then who
-    /// was silent longest.
+    /// Returns the peer's place in the order in which peers are disconnected for others that wait. Peers that aren't
+    /// known go first, and among equals the peer that was silent longest.
     pub(crate) fn rank(&self) -> (bool, Duration) {
         (self.is_known(), self.since)
     }
 
-    /// Leaves it for one that waits, unless more has come of it meanwhile. Whether it is left.
+    /// Disconnects the peer for one that waits, unless it has sent more meanwhile. Reports whether it did.
     pub(crate) fn yields(&mut self, now: Duration) -> bool {
         match self.stream.peek(&mut [0u8; 1]) {
             Ok(_) => {
@@ -177,7 +178,7 @@ impl Peer {
         }
     }
 
-    /// When it began to leave, where it is leaving.
+    /// Returns when the peer began to be disconnected, if it isn't gone yet.
     pub(crate) fn leaves_since(&self) -> Option<Duration> {
         match self.phase {
             Phase::Leaving(_) => Some(self.since),
@@ -185,12 +186,13 @@ impl Peer {
         }
     }
 
-    /// Waits for it no more.
+    /// Drops the peer without waiting for it.
     pub(crate) fn let_go(&mut self) {
         self.phase = Phase::Gone;
     }
 
-    /// When it is left, where so long is waited for a peer that is answered.
+    /// Returns when the peer's time is up. A peer that is answered gets `patience`, one that is being disconnected at
+    /// most a second.
     pub(crate) fn deadline(&self, patience: Duration) -> Duration {
         let wait = match self.phase {
             Phase::Served => patience,
@@ -200,7 +202,8 @@ impl Peer {
         self.since.saturating_add(wait)
     }
 
-    /// Leaves it, where it can't go on and its time is up. One that was answered is told that no more comes.
+    /// Disconnects the peer if it can't go on and its time is up. For a peer that was answered, shuts down the sending
+    /// side first, so that the peer sees the end.
     pub(crate) fn expire(&mut self, now: Duration, patience: Duration) {
         if !self.is_ready && now >= self.deadline(patience) {
             match self.phase {
@@ -210,7 +213,7 @@ impl Peer {
         }
     }
 
-    /// Answers it no more.
+    /// Begins to disconnect the peer, if it is still answered.
     pub(crate) fn dismiss(&mut self, now: Duration) {
         if self.is_served() {
             self.begin_to_leave(now);
@@ -245,8 +248,8 @@ impl Peer {
         self.phase = Phase::Gone;
     }
 
-    /// Answers what has come, up to the end of a turn. What the connection waits for then, whether its peer has taken
-    /// something, and who it is.
+    /// Answers what has come, up to the end of a turn. Returns what the connection then waits for, whether its peer has
+    /// taken something, and who the peer is.
     fn answer_some<R: Clock + AllocGlobal, O: OfficeWords, S: Alter>(
         &mut self,
         rt: &R,
@@ -281,7 +284,7 @@ impl Peer {
         (standing, outlet.has_taken, outlet.asker)
     }
 
-    /// Answers what has come, and notes how it stands then.
+    /// Answers what has come, and notes what the connection then waits for.
     fn answer<R: Clock + AllocGlobal, O: OfficeWords, S: Alter>(
         &mut self,
         rt: &R,
@@ -306,7 +309,7 @@ impl Peer {
         }
     }
 
-    /// One turn: it goes on as far as its bytes reach and a turn goes.
+    /// Takes one turn: goes on as far as the peer's bytes reach, up to the end of the turn.
     pub(crate) fn turn<R: Clock + AllocGlobal, O: OfficeWords, S: Alter>(
         &mut self,
         rt: &R,

@@ -17,7 +17,7 @@ fn write_line<W: Write>(writer: &mut W, text: &[u8]) -> io::Result<()>
     write_whole(writer, b"\n")
 }
 
-/// Prints a line on standard output, with status 0; with 3 where standard output fails before the line's end.
+/// Prints a line on standard output, and returns status 0. If standard output fails before the line's end, returns 3.
 pub(crate) fn print<W: Write>(out: &mut W, text: &[u8]) -> u8
     ensures { IsPrinted text.now result (W.contents out.old) (W.contents out.new) }
 {
@@ -56,7 +56,7 @@ pub(crate) fn tell_usage<E: Write>(text: &str, err: &mut E) -> u8
     2
 }
 
-/// Prints that `--db` is missing, or is there where it may not be.
+/// Prints that `--db` is missing, or that it isn't allowed here.
 pub(crate) fn tell_misplaced<E: Write>(err: &mut E) -> u8
     ensures { result ≡ 2 }
 {

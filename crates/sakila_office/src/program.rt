@@ -16,7 +16,7 @@ use sqlite_disk::Disk;
 use sqlite_std_file::File;
 use std::io::{Read, Write};
 
-/// Puts the request of head office to the chain in the file, and lets it go.
+/// Puts the request of head office to the chain in the file, and drops the request.
 fn put_request<W: Write, E: Write>(
     rt: &HostRuntime,
     file: &str,
@@ -102,8 +102,8 @@ fn perform<R: Read, W: Write, E: Write>(
     }
 }
 
-/// The whole program for its words, without its own name, over a reader and two writers: it answers the status.
-/// `docs/REQUESTS.md` has the words. What it can't do is told on `err`: the usage, a refusal, or `store: NAME` where
+/// Runs the whole program for its words, without its own name, over a reader and two writers, and returns the status.
+/// `docs/REQUESTS.md` lists the words. Writes on `err` what it can't do: the usage, a refusal, or `store: NAME` if
 /// there is no chain in the file.
 pub fn run<R: Read, W: Write, E: Write>(
     rt: &HostRuntime,

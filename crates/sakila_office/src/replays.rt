@@ -12,7 +12,7 @@ use shop_types::Limits;
 use std::alloc::Global;
 use std::io::{Read, Write};
 
-/// The status that the program ends with after a connection that ended so.
+/// Returns the program's status after a connection with this end.
 fn status(end: End) -> u8
     ensures { result ≡ status_of end }
 {
@@ -23,7 +23,7 @@ fn status(end: End) -> u8
     }
 }
 
-/// Answers the requests of the reader by a new chain with the opening rows.
+/// Answers the reader's requests by a new chain with the opening rows.
 pub(crate) fn replay<R: Read, W: Write, E: Write>(
     alloc: Global,
     reader: &mut R,

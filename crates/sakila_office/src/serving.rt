@@ -21,14 +21,14 @@ pub(crate) const MOST_REQUESTS: u32 = 1000;
 /// How many connections have a place; the rest wait.
 const MOST_OPEN: usize = 256;
 
-/// How many sockets there are at most, with those that have their last reply and those that hold no place. A program
-/// may mostly have 1,024 files open.
+/// How many sockets there are at most, including sockets with their last reply and sockets that hold no place. A
+/// program may mostly have 1,024 files open.
 const MOST_SOCKETS: usize = 768;
 
 /// How many connections are accepted before the others have their turn.
 const MOST_ARRIVALS: u32 = 16;
 
-/// The listener's own token. The connections have those behind it, in the order in which they come.
+/// The listener's own token. The connections have the tokens after it, in the order in which they come.
 const LISTENER: usize = 0;
 
 /// What serving needs beside the chain.
@@ -39,17 +39,17 @@ struct Server {
     board: Switchboard,
     /// The connections that are open, in the order in which they came.
     peers: Vec<Peer>,
-    /// The connection that came last, where there is no place for it yet.
+    /// The connection that came last, if there is no place for it yet.
     waiting: Option<TcpStream>,
     /// How many connections were accepted.
     accepted: u32,
-    /// How many are to be.
+    /// How many connections are to be accepted.
     connections: u32,
     /// Whether the listener may have a connection without waiting.
     may_accept: bool,
     /// Whether all connections that had come before the serving began were answered as far as their bytes reached.
     has_caught_up: bool,
-    /// When it was last looked who is ready.
+    /// When the server last looked who is ready.
     now: Duration,
     patience: Duration,
 }
@@ -88,10 +88,10 @@ impl Server {
         })
     }
 
-    /// Opens a connection. One that there is no memory for, or that is gone already, is let go.
+    /// Opens a connection. Drops it if there is no memory for it, or if it is gone already.
     fn open<R: Clock + AllocGlobal>(&mut self, rt: &R, stream: TcpStream) -> io::Result<()> {
         stream.set_nonblocking(true)?;
-        // A reply goes out in two pieces, and the second isn't to wait until the peer has told that it has the first.
+        // A reply goes out in two pieces. The second doesn't wait until the peer acknowledges the first.
         stream.set_nodelay(true)?;
         let token = self.accepted as usize;
         let both = Interest::READABLE | Interest::WRITABLE;
@@ -102,32 +102,32 @@ impl Server {
         Ok(())
     }
 
-    /// Whether one more connection may be accepted, if one waits.
+    /// Reports whether one more connection may be accepted, if one waits.
     fn has_room(&self) -> bool {
         self.may_accept && self.accepted < self.connections && self.waiting.is_none()
     }
 
-    /// Whether the next connection waits for one that came before it: so it is with those that had come before the
-    /// serving began.
+    /// Reports whether the next connection waits for an earlier one that can still go on. It does until all connections
+    /// that had come before the serving began are accepted.
     fn is_held(&self) -> bool {
         !self.has_caught_up && self.peers.iter().any(|peer| peer.is_busy())
     }
 
-    /// The peer that is left first for one that waits, where one may be left.
+    /// Returns the token of the peer to disconnect first for one that waits, if any may be disconnected.
     fn first_to_yield(&self, with_known: bool) -> Option<usize> {
         let mut first: Option<&Peer> = None;
         for peer in &self.peers {
             if peer.may_yield(self.now) && (with_known || !peer.is_known()) {
                 first = match first {
                     Some(other) if other.rank() <= peer.rank() => Some(other),
-                    _ => Some(peer),
+                    Some(_) | None => Some(peer),
                 };
             }
         }
         first.map(|peer| peer.token)
     }
 
-    /// Leaves a peer for one that waits. Whether it did.
+    /// Disconnects a peer for one that waits. Reports whether it did.
     fn make_place(&mut self, with_known: bool) -> bool {
         for _ in 0..MOST_SOCKETS {
             let Some(token) = self.first_to_yield(with_known) else {
@@ -143,8 +143,8 @@ impl Server {
         false
     }
 
-    /// Whether there is a place for one more, after a peer was left for it where all are taken. Whoever isn't known
-    /// and is within a request isn't left, and keeps nobody else out.
+    /// Reports whether there is a place for one more. If all are taken, tries to disconnect a peer first. A peer that
+    /// isn't known and is within a request isn't disconnected, and keeps nobody else out.
     fn has_place(&mut self) -> bool {
         let served = self.peers.iter().filter(|peer| peer.is_served()).count();
         if served < MOST_OPEN {
@@ -155,7 +155,7 @@ impl Server {
         self.make_place(is_full) || !is_full
     }
 
-    /// Lets the peer go that began to leave first. Whether there was one.
+    /// Drops the peer that began to be disconnected first. Reports whether there was one.
     fn let_one_go(&mut self) -> bool {
         let Some(first) = self
             .peers
@@ -175,7 +175,7 @@ impl Server {
         true
     }
 
-    /// Opens the connection that waits, where there is a place or a peer is left for it.
+    /// Opens the connection that waits, if there is a place or a peer can be disconnected for it.
     fn seat<R: Clock + AllocGlobal>(&mut self, rt: &R) {
         if self.waiting.is_none() || self.is_held() || !self.has_place() {
             return;
@@ -188,7 +188,8 @@ impl Server {
         }
     }
 
-    /// Accepts one connection, where one waits, no other waits for a place, and none holds it. Whether it did.
+    /// Accepts one connection, if one has come, no other waits for a place, and no earlier one holds it. Reports
+    /// whether it did.
     fn accept<R: Clock + AllocGlobal>(
         &mut self,
         rt: &R,
@@ -219,17 +220,17 @@ impl Server {
         }
     }
 
-    /// Whether something can be done without waiting.
+    /// Reports whether something can be done without waiting.
     fn is_busy(&self) -> bool {
         self.has_room() || self.peers.iter().any(|peer| peer.is_ready)
     }
 
-    /// Whether all are served.
+    /// Reports whether all connections are served.
     fn is_done(&self) -> bool {
         self.accepted >= self.connections && self.peers.is_empty() && self.waiting.is_none()
     }
 
-    /// Accepts no more connections, and answers those that are open no more.
+    /// Stops accepting connections, and begins to disconnect the open ones.
     fn close<R: Clock>(&mut self, rt: &R) {
         self.connections = self.accepted;
         self.waiting = None;
@@ -238,7 +239,8 @@ impl Server {
         }
     }
 
-    /// For how long nothing need happen: until the first peer is left, or may be for one that waits.
+    /// Returns for how long nothing need happen: until a peer's time is up, or until a peer may be disconnected for one
+    /// that waits.
     fn longest_wait(&self) -> Duration {
         let mut wait = self.patience;
         for peer in &self.peers {
@@ -267,7 +269,7 @@ impl Server {
         }
     }
 
-    /// Waits until something is ready, unless something is. Whether that could be told.
+    /// Waits until something is ready, unless something is already. Returns false if the poll failed.
     fn wait<R: Clock>(&mut self, rt: &R) -> bool {
         let wait = if self.is_busy() {
             Duration::ZERO
@@ -282,8 +284,8 @@ impl Server {
         true
     }
 
-    /// Each peer that is ready has its turn. Whoever can't go on and has had its time is left, and those that are
-    /// gone are forgotten.
+    /// Gives each peer that is ready its turn. Disconnects each peer that can't go on and whose time is up, and forgets
+    /// the peers that are gone.
     fn turns<R: Clock + AllocGlobal, O: OfficeWords, S: Alter>(
         &mut self,
         rt: &R,
@@ -303,8 +305,8 @@ impl Server {
         self.peers.retain(|peer| !peer.is_gone());
     }
 
-    /// Accepts some connections. Of those that had come before the serving began each has its first turn before the
-    /// next is accepted. Whether the listener is sound.
+    /// Accepts some connections. A connection that had come before the serving began has its first turn before the next
+    /// is accepted. Returns false if the listener failed.
     fn arrivals<R: Clock + AllocGlobal, O: OfficeWords, S: Alter>(
         &mut self,
         rt: &R,
@@ -325,7 +327,7 @@ impl Server {
         true
     }
 
-    /// Serves until all are served, the listener fails, or the store does.
+    /// Serves until all connections are served, the listener fails, or the store fails.
     fn serve<R: Clock + AllocGlobal, O: OfficeWords, S: Alter>(
         &mut self,
         rt: &R,
@@ -354,17 +356,20 @@ impl Server {
     }
 }
 
-/// Serves so many connections by the chain, side by side in 256 places, each with at most 1,000 requests. Where all
-/// places are taken and one more waits, the connection is left that was silent longest between two requests, for a
-/// quarter of a second at least. But first one of which no request came with a token that somebody has, and at once
-/// where the last one came with none; within a request such a one isn't left either, and keeps nobody else out, up to
-/// 768 sockets in all. A request is answered when it has come whole, one after another. The others have their turn
-/// behind at most 16 requests of a connection, and behind the one at which its turn has taken a millisecond by the
-/// clock of `rt`; where the bytes of all have come before, each connection is answered to its end, in the order in
-/// which they came. A fault of a connection ends that connection alone. A peer of which no whole request has come for
-/// as long as `patience`, by that clock, is left, and so is one that took nothing of a reply for as long. The answer
-/// is 0 where all were served, and 3 where serving couldn't begin, none could be accepted any more or the store
-/// failed.
+/// Serves so many connections by the chain, side by side in 256 places, each with at most 1,000 requests. Returns 0 if
+/// all were served. Returns 3 if serving couldn't begin, no more connections could be accepted, or the store failed.
+///
+/// If all places are taken and one more connection waits, the server disconnects another for it. It chooses the
+/// connection that was silent longest between two requests, for at least a quarter of a second. Unknown connections go
+/// first: they have asked nothing yet, or their last request came without a token that somebody has. A connection whose
+/// last request came without such a token may be disconnected at once. An unknown connection within a request isn't
+/// disconnected, and keeps nobody else out, up to 768 sockets in all.
+///
+/// Requests are answered one after another, each when it has come whole. A connection's turn ends after 16 requests, or
+/// with the request at which it has taken a millisecond by the clock of `rt`. Then the others have their turns. If the
+/// bytes of all connections came before the serving began, each connection is answered to its end, in the order in
+/// which they came. A fault of a connection ends only that connection. A peer is disconnected if, by the same clock, it
+/// sends no whole request or takes nothing of a reply for as long as `patience`.
 pub fn serve_listener<R: Net + Clock + AllocGlobal, O: OfficeWords, S: Alter>(
     rt: &R,
     listener: &TcpListener,
