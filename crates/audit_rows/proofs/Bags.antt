@@ -1,4 +1,4 @@
--- Two lists of keys in order are one where each key is in both equally often.
+-- Two lists of keys in order are equal if each key occurs equally often in both.
 use Rattle.shop_types.proofs.Common.{◌≡◌, ◌&&◌, ◌+◌, List, [], ◌∷◌, map, Bool, true, false, refl, sym, ap, subst, ◌∙◌, arith, true≢false, IsPermutation, Ordering, Less, Equal, Greater, is_lt, nat_cmp, ordering_reverse, slice_cmp, bytes_eq, IsSortedByKey, exact_bytes, bytes_eq-Decides, IsPermutation-map, one}
 use Rattle.sqlite_keyed.proofs.ListLemmas.{along_permutation}
 use Rattle.audit_rows.specs.Lists.{Key, is_below, same_lists, count, SameCounts}

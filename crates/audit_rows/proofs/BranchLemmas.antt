@@ -1,4 +1,4 @@
--- What one branch's rows show is what the definitions say of its shop.
+-- The checks of one branch's rows mean what the definitions say of the branch's shop.
 use Rattle.shop_types.proofs.Common.{◌≡◌, ◌&&◌, ◌==◌, ℕ, List, [], ◌∷◌, map, filter, length, Bool, true, refl, sym, ap, subst, ◌∙◌, arith, ◌≤◌, nat_le, Option, list_all, bytes_eq, length_permutation, Moment, Row, Owned, is_of, of, IsCounted, AreNumbered, Text, Customer, Copy, Rental, Payment, Arrival, Rules, Kept, Shop, is_within, rental_by, are_apart, rises, IsGoodShop, has_row, IsLinkedShop, are_different, is_parcel, is_staff_of, pays_for, Books, Consignment, shop_of, unmarked, as_parcel, HasOneHolder, HasTerms, widest, seen_rental, seen_payment, same_if, equal_test, Table, Customers, CopyRows, Rentals, TermRows, Payments, RowOf, rows_of}
 use Rattle.sqlite_keyed.proofs.ListLemmas.{IsPermutation-filter}
 use Rattle.shop_model.specs.Calendar.{seconds_of}
@@ -58,7 +58,7 @@ module _ (rows : OrderedBooks) (books : Books) (o : AreOrdered rows) (s : HaveOr
       map-twice (checked_columns t) (λ (row : Row (RowOf t)). row.it) (filter (is_of b) (rows_of books t))
       ∙ sym (map-twice (λ (row : CheckedOf t). row.it) (checked_row t) (filter (is_of b) (rows_of books t))) ∙ ap (map (λ (row : CheckedOf t). row.it)) (own t)
 
-  -- where what is checked tells a row, the rows are those that are told
+  -- if `seen` recovers a row from its checked columns, the shop has the rows that `seen` recovers
   told : (t : Table) (seen : ColumnsOf t → RowOf t) → ((it : RowOf t) → seen (checked_columns t it) ≡ it) → of b (rows_of books t) ≡ map (λ (row : CheckedOf t). seen row.it) (part.rows t)
   told t seen again = sym (map-undone seen (checked_columns t) again (of b (rows_of books t))) ∙ ap (map seen) (columns_are t) ∙ map-twice seen (λ (row : CheckedOf t). row.it) (part.rows t)
 

@@ -1,4 +1,4 @@
--- Rows in the order of their keys are, branch by branch, those of any books that have the same rows and are numbered.
+-- Rows in the order of their keys agree, branch by branch, with any numbered books that have the same rows.
 use Rattle.shop_types.proofs.Common.{◌≡◌, ◌+◌, ◌<◌, ◌==◌, ℕ, zero, suc, List, [], ◌∷◌, map, filter, Bool, true, false, cond, refl, ap, subst, arith, IsPermutation, IsSorted, Ordering, Less, is_lt, add-one, nat_cmp, IsTotalOrder, AllByRecursion, nat_cmp_total, on_total, nat_tests, Row, is_of, of, IsCounted, AreNumbered}
 use Rattle.sqlite_trees.specs.Tree.{IsAscending}
 use Rattle.sqlite_keyed.proofs.ListLemmas.{ascending-filter, IsPermutation-filter}
@@ -65,7 +65,7 @@ module _ {X : Type 0} (number : X → ℕ) where
   sorted_from_rising (x ∷ y ∷ xs) up zero d p q = not_less x y up.0.0
   sorted_from_rising (x ∷ y ∷ xs) up (suc k) d p q = rw add-one (rw add-one at (sorted_from_rising (y ∷ xs) up.1 k d (omega arith) (omega arith)))
 
-  -- what is counted is the one list of its rows in which numbers rise
+  -- rows whose numbers count are in the only order in which their numbers rise
   pub one_rising : (xs ys : List X) → IsPermutation ys xs → IsCounted 1 (map number ys) → IsAscending (λ a b. number a < number b) xs → xs ≡ ys
   one_rising xs ys h c up = sorted_unique by_number by_number_total ys xs (counted_ascends 1 ys c) h (sorted_from_rising xs up)
 
@@ -96,7 +96,7 @@ module _ {A : Type 0} (b : ℕ) where
   rise_within [] q h = tt
   rise_within (r ∷ rows) q h = (all_within r rows q.0 q.1 h.0, rise_within rows q.1 h.1)
 
-  -- the rows of a branch, in the order of their keys, are those of books with the same rows whose numbers count
+  -- if xs is in the order of its keys and ys is the same rows, numbered, branch b has the same rows in both
   pub same_branch : (xs ys : List (Row A)) → climbs (map row_key xs) ≡ true → IsPermutation ys xs → AreNumbered (is_of b) (λ row. row.number) ys → filter (is_of b) xs ≡ filter (is_of b) ys
   same_branch xs ys up h c =
       one_rising (λ (row : Row A). row.number) (filter (is_of b) xs) (filter (is_of b) ys) (IsPermutation-filter (is_of b) ys xs h) c

@@ -1,4 +1,4 @@
--- The checks of shared rows are what the definitions say of the catalogues that have them.
+-- The checks of shared rows mean what the definitions say of the catalogues that have the rows.
 use Rattle.shop_types.proofs.Common.{◌≡◌, ◌&&◌, ◌+◌, ◌==◌, ℕ, zero, suc, List, [], ◌∷◌, map, length, not, Bool, true, false, refl, sym, ap, subst, ◌∙◌, arith, nat_le, None, option_to_list, list_any, list_all, bytes_eq, at, Text, City, Film, Cast, Branch, Staff, Rules, OfficeKept, Catalogue, Books, has_row, are_different, is_staff_of, IsGoodCatalogue, widest, at_zero}
 use Rattle.audit_rows.specs.declared.books.OrderedBooks.{OrderedBooks}
 use Rattle.audit_rows.specs.declared.rows.CheckedCity.{CheckedCity}

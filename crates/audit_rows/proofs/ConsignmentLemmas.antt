@@ -1,4 +1,4 @@
--- Consignments: what the checks of their rows say of any books that have them.
+-- Consignments: what the checks of their rows say of any books that have the rows.
 use Rattle.shop_types.proofs.Common.{◌≡◌, ◌&&◌, ◌+◌, ◌<◌, ◌==◌, ℕ, List, [], ◌∷◌, map, filter, Bool, true, false, cond, refl, sym, ap, subst, ◌∙◌, arith, true≢false, IsPermutation, IsSorted, Option, Some, None, nat_lt, Less, nat_cmp, AllByRecursion, list_all, nat_cmp_total, on_total, nat_tests, IsPermutation-sym, IsCounted, Consignment, same_if, equal_test}
 use Rattle.sqlite_trees.specs.Tree.{IsAscending}
 use Rattle.sqlite_keyed.proofs.ListLemmas.{ascending-filter, IsPermutation-filter}
@@ -53,7 +53,7 @@ sorted_same ms ns p s h =
     let counted : IsCounted 1 (map (λ (n : ℕ). n) ms) = subst (IsCounted 1) (sym (itself ms)) (counted_is 1 ms h) in
     sorted_unique nat_cmp nat_cmp_total ms ns (counted_ascends (λ (n : ℕ). n) 1 ms counted) p s
 
--- of two orders of the same numbers, both rising, both count or neither does
+-- if two orders of the same numbers both rise, both count or neither does
 pub sorted_counts : (ms ns : List ℕ) → IsPermutation ms ns → IsSorted nat_cmp ms → IsSorted nat_cmp ns → counts_from 1 ms ≡ counts_from 1 ns
 sorted_counts ms ns p s t = go (counts_from 1 ms) (counts_from 1 ns) refl refl
   where
@@ -65,7 +65,7 @@ sorted_counts ms ns p s t = go (counts_from 1 ms) (counts_from 1 ns) refl refl
 
 -- ---- numbers of a sender and an addressee
 
--- what goes on behind a number and a place, and what begins
+-- which consignments may follow a number and a place, and which may come first
 abbrev goes_on : ℕ → ℕ → List Header → Bool
 goes_on n p [] = true
 goes_on n p (h ∷ hs) = h.number == n + 1 && nat_lt p h.place && goes_on h.number h.place hs
@@ -74,7 +74,7 @@ abbrev begins : List Header → Bool
 begins [] = true
 begins (h ∷ hs) = h.number == 1 && goes_on h.number h.place hs
 
--- what is left of one sender and addressee, behind some consignment
+-- whether the consignments from s to a in the list may come after the consignment `last`
 abbrev goes : ℕ → ℕ → Header → List Header → Bool
 goes s a last hs = cond (is_pair s a last) (goes_on last.number last.place (filter (is_pair s a) hs)) (begins (filter (is_pair s a) hs))
 
@@ -91,7 +91,7 @@ is_own h = (λ i. same h.source i && same h.addressee i)
     same n = grind (arith, nat_tests)
 
 module _ (s a : ℕ) where
-  -- behind one of other two there are no more
+  -- if a consignment from s to a is followed by one of another pair, no later consignment is from s to a
   no_more : (last h : Header) (hs : List Header) → is_below (header_key last) (header_key h) ≡ true → AllByRecursion (λ k. is_below (header_key h) k ≡ true) (map header_key hs)
       → is_pair s a last ≡ true → is_pair s a h ≡ false → filter (is_pair s a) hs ≡ []
   no_more last h [] below up p q = refl
@@ -269,7 +269,7 @@ module _ (s a : ℕ) where
       go false e more = more
       go true e more = (numbers_above h hs e up.0, more)
 
--- in the order of the keys each two's consignments follow, where in the order of the places they are numbered
+-- if consignments are numbered in the order of their places, then in the order of the keys each pair's consignments follow each other
 module _ (hs js : List Header) (bag : IsPermutation hs js) (up : climbs (map header_key hs) ≡ true) (placed : IsCounted 1 (map (λ (h : Header). h.place) js)) where
   own_bag : (s a : ℕ) → IsPermutation (filter (is_pair s a) hs) (filter (is_pair s a) js)
   own_bag s a = IsPermutation-filter (is_pair s a) hs js bag

@@ -1,4 +1,4 @@
--- Where no two copies have the same key, what custody asks of each mark holds of all tests of marks alike, and each mark has an origin.
+-- If no two copies have the same key, what custody asks of each mark holds of all tests of marks, and each mark has an origin.
 use Rattle.shop_types.proofs.Common.{◌≡◌, ◌&&◌, ◌||◌, ◌+◌, ◌==◌, ◌≤◌, ℕ, nat_lt, List, [], ◌∷◌, ◌++◌, map, not, Bool, true, false, cond, refl, sym, ap, ◌∙◌, arith, true≢false, IsPermutation, list_any, list_all, bytes_eq, IsPermutation-map, IsPermutation-append, Row, Here, Scrapped, BookCopy, Mark, Line, UnderWay, Missing, are_different, one, is_mark, is_origin, copy_is, line_is, rows_made, is_made_as}
 use Rattle.audit_rows.specs.Lists.{count, climbs}
 use Rattle.audit_rows.specs.Canons.{row_key}
@@ -9,7 +9,7 @@ use Rattle.audit_rows.proofs.Tests.{all_congr, any_congr, different_congr}
 use Rattle.audit_rows.proofs.Transfer.{all_along, total_along}
 use Rattle.audit_rows.proofs.MarkLemmas.{Looked, all_from, all_both, all_append, some_counted, both_found, not_true, same_marks, mark_itself, mark_test, made_of, placed_of, lines_of, count_made, count_places, looked_of_asked, is_asked, within_all, one_some}
 
--- ---- of two lists of marks, the one has no more than the other where it has each once, and the other has them all
+-- ---- if one list has each mark once, and another list has all its marks, the first list has no more of any mark
 
 none_all : {X : Type 0} (p : X → Bool) (xs : List X) → list_any p xs ≡ false → list_all (λ x. not (p x)) xs ≡ true
 none_all p [] h = refl

@@ -1,4 +1,4 @@
--- Where rows are in the order of their branches, those of the first branch stand in front.
+-- If rows are in the order of their branches, the rows of the first branch come first.
 use Rattle.shop_types.proofs.Common.{◌≡◌, ◌+◌, ◌<◌, ◌≤◌, ◌==◌, ◌++◌, ℕ, List, [], ◌∷◌, filter, Bool, true, false, cond, refl, sym, ap, subst, ◌∙◌, arith, AllByRecursion, nat_tests}
 use Rattle.sqlite_trees.specs.Tree.{IsAscending}
 use Rattle.audit_rows.specs.Lists.{front_of, back_of}
@@ -24,7 +24,7 @@ module _ {X : Type 0} (owner : X → ℕ) where
   later : (b : ℕ) (x : X) → b ≤ owner x → (owner x == b) ≡ false → b + 1 ≤ owner x
   later b x p q = grind (arith, nat_tests)
 
-  -- the branch's rows are those in front
+  -- the branch's rows are the leading rows
   pub own_in_front : (b : ℕ) (xs : List X) → OwnersRise xs → FromOn b xs → front_of (λ x. owner x == b) xs ≡ filter (λ x. owner x == b) xs
   own_in_front b [] up low = refl
   own_in_front b (x ∷ xs) up low = go (owner x == b) refl (own_in_front b xs up.1 low.1)
@@ -34,7 +34,7 @@ module _ {X : Type 0} (owner : X → ℕ) where
       go true e more = ap (λ l. x ∷ l) more
       go false e more = sym (none_of b xs (above b x xs (later b x low.0 e) up.0))
 
-  -- what is behind is of later branches
+  -- all rows after the leading rows of branch b are of later branches
   pub back_is_later : (b : ℕ) (xs : List X) → OwnersRise xs → FromOn b xs → FromOn (b + 1) (back_of (λ x. owner x == b) xs)
   back_is_later b [] up low = tt
   back_is_later b (x ∷ xs) up low = go (owner x == b) refl (back_is_later b xs up.1 low.1)
@@ -51,7 +51,7 @@ module _ {X : Type 0} (owner : X → ℕ) where
       go true more = more
       go false more = up
 
-  -- the rows of any later branch are behind
+  -- the rows after the leading rows of branch b include all rows of any later branch
   pub others_behind : (b c : ℕ) → b < c → (xs : List X) → filter (λ x. owner x == c) (back_of (λ x. owner x == b) xs) ≡ filter (λ x. owner x == c) xs
   others_behind b c h [] = refl
   others_behind b c h (x ∷ xs) = go (owner x == b) refl (others_behind b c h xs)
@@ -64,7 +64,7 @@ module _ {X : Type 0} (owner : X → ℕ) where
       go true e more = more ∙ sym (ap (λ t. cond t (x ∷ filter (λ y. owner y == c) xs) (filter (λ y. owner y == c) xs)) (apart (owner x) e))
       go false e more = refl
 
-  -- the rows in front and behind are all
+  -- the leading rows that pass, and the rows after them, make up the list
   pub parts : (p : X → Bool) (xs : List X) → front_of p xs ++ back_of p xs ≡ xs
   parts p [] = refl
   parts p (x ∷ xs) = go (p x) (parts p xs)
@@ -75,7 +75,7 @@ module _ {X : Type 0} (owner : X → ℕ) where
 
 -- ---- one branch after another
 
--- what is left of all rows behind those of the first b branches
+-- `rest` is what remains of `all` after the rows of the first b branches
 pub record IsRest {X : Type 0} (owner : X → ℕ) (all rest : List X) (b : ℕ) : Type 0 where
   pub rise : OwnersRise owner rest
   pub low : FromOn owner (b + 1) rest
@@ -85,7 +85,7 @@ module _ {X : Type 0} (owner : X → ℕ) (all : List X) where
   pub rest_begins : OwnersRise owner all → FromOn owner 1 all → IsRest owner all all 0
   rest_begins up low = record { rise = up; low = low; same = λ c h. refl }
 
-  -- the rows in front are the next branch's
+  -- the leading rows are the next branch's
   pub rest_own : (b : ℕ) (rest front : List X) → IsRest owner all rest b → front ≡ front_of (λ x. owner x == b + 1) rest → front ≡ filter (λ x. owner x == b + 1) all
   rest_own b rest front r e = e ∙ own_in_front owner (b + 1) rest r.rise r.low ∙ r.same (b + 1) (omega arith)
 

@@ -1,4 +1,4 @@
--- The join of two tables gives the consignments of which they have the rows, and fails only where they have those of none.
+-- The join of two tables gives the consignments whose rows the tables have. It fails only if no consignments have these rows.
 use Rattle.shop_types.proofs.Common.{◌≡◌, ◌&&◌, ◌+◌, ◌<◌, ◌==◌, ◌++◌, ℕ, zero, suc, List, [], ◌∷◌, map, length, Bool, true, false, cond, refl, sym, ap, subst, ◌∙◌, arith, true≢false, IsPermutation, IsSorted, Option, Some, None, is_some, Ordering, Less, Equal, Greater, is_lt, add-one, get_or, drop, drop-cons, nat_cmp, ordering_then, ordering_reverse, IsTotalOrder, slice_cmp, AllByRecursion, flat_map, on_total, nat_tests, bytes_eq-Decides, IsPermutation-refl, IsPermutation-sym, IsPermutation-cons, IsPermutation-trans, IsPermutation-middle, numbered, numbered_from, Line, Consignment}
 use Rattle.sqlite_trees.specs.Tree.{IsAscending}
 use Rattle.sqlite_keyed.proofs.ListLemmas.{along_permutation, IsPermutation-flat_map, ascending-append, all-append}
@@ -209,7 +209,7 @@ in_order (x ∷ []) up k d p q = absurd (omega arith)
 in_order (x ∷ y ∷ xs) up zero d p q = not_below x y up.0.0
 in_order (x ∷ y ∷ xs) up (suc k) d p q = rw add-one (rw add-one at (in_order (y ∷ xs) up.1 k d (omega arith) (omega arith)))
 
--- where any consignments have the rows, and the keys of both tables climb, the join finds them
+-- if any consignments have the rows, and the keys of both tables climb, the join finds the consignments
 pub join_complete : (others : List Consignment) (hs : List Header) (ps : List Placed) → IsPermutation (map header others) hs → IsPermutation (flat_map placed others) ps → climbs (map header_key hs) ≡ true → climbs (map placed_key ps) ≡ true
     → (its : List Consignment) × IsPermutation others its × (join hs ps ≡ Some its)
 join_complete others hs ps p q up down =

@@ -1,4 +1,4 @@
--- Keys in order: where neighbours rise, no two are the same, in whatever order they are looked at.
+-- Keys in order: if each key is above the one before it, no two keys of the list are the same, in any order of the list.
 use Rattle.shop_types.proofs.Common.{◌≡◌, ◌&&◌, ◌||◌, suc, List, [], ◌∷◌, map, not, Bool, true, false, refl, sym, ap, subst, ◌∙◌, arith, true≢false, IsPermutation, Ordering, Less, Equal, Greater, is_lt, add-one, nat_cmp, ordering_reverse, IsTotalOrder, slice_cmp, bytes_eq, list_any, IsSortedByKey, nat_list_cmp_total, tied_itself, exact_bytes, bytes_eq-Decides, are_different}
 use native.Mathlib.Numerals.{unary_clauses}
 use Rattle.sqlite_keyed.proofs.ListLemmas.{along_permutation}
@@ -141,7 +141,7 @@ module _ {X : Type 0} (key : X → Key) where
   climbs_decides [] h = refl
   climbs_decides (x ∷ xs) h = climbs_decides_from (key x) (map key xs) (never_falls x xs h)
 
-  -- in order, neighbours tell whether any two rows have the same key; and then it is so in any order
+  -- in sorted rows, comparing neighbours decides whether two rows have the same key; any other order of the rows gives the same result
   pub distinct_by_order : (xs ys : List X) → IsPermutation xs ys → Sorted ys → climbs (map key ys) ≡ are_different (λ a b. bytes_eq (key a) (key b)) xs
   distinct_by_order xs ys h s =
       climbs_decides ys s ∙ different-map bytes_eq key ys

@@ -1,4 +1,4 @@
--- Last moments, which stand in the rows of branches.
+-- The last moments of branches, which are in the branches' rows.
 use Rattle.shop_types.proofs.Common.{◌≡◌, ◌&&◌, ◌||◌, ◌+◌, ◌-◌, ◌≤◌, ◌<◌, ◌==◌, ◌++◌, ℕ, List, [], ◌∷◌, map, filter, length, not, Bool, true, false, cond, refl, sym, ap, ◌∙◌, arith, Option, Some, None, list_any, list_all, nat_tests, Moment, Owned, at, owned_by, are_different, head}
 use Rattle.audit_rows.specs.declared.rows.CheckedBranch.{CheckedBranch}
 use Rattle.audit_rows.specs.Shops.{is_among}

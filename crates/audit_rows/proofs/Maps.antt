@@ -25,7 +25,7 @@ pub length-map : {X Y : Type 0} (f : X → Y) (xs : List X) → length (map f xs
 length-map f [] = refl
 length-map f (x ∷ xs) = ap suc (length-map f xs)
 
--- so many of the rows, and so many of what is kept of them
+-- there are as many rows as there are mapped rows
 pub many_kept : {X Y A : Type 0} (f : X → Y) (g : X → A) (q : Y → Bool) (xs : List X) (ys : List Y) → map f xs ≡ ys → length (map g (filter (λ x. q (f x)) xs)) ≡ length (filter q ys)
 many_kept f g q xs ys e =
     length-map g (filter (λ x. q (f x)) xs) ∙ sym (length-map f (filter (λ x. q (f x)) xs)) ∙ ap length (sym (filter-map q f xs)) ∙ ap (λ l. length (filter q l)) e

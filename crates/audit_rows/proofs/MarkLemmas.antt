@@ -1,4 +1,4 @@
--- Marks as keys: what is looked for in them is what custody asks.
+-- Marks as keys: searching for keys answers what custody asks of marks.
 use Rattle.shop_types.proofs.Common.{◌≡◌, ◌&&◌, ◌||◌, ◌+◌, ◌==◌, ℕ, nat_lt, nat_le, List, [], ◌∷◌, ◌++◌, map, not, Bool, true, false, cond, refl, sym, ap, subst, ◌∙◌, arith, true≢false, IsPermutation, bytes_eq, list_any, list_all, nat_eq_equiv, nat_tests, list_any-IsPermutation, IsPermutation-map, Row, CopyState, Here, Sent, Scrapped, BookCopy, Mark, Line, LineState, UnderWay, Arrived, Missing, are_different, one, is_mark, is_origin, rows_made, rows_in, lines_in, copy_is, line_is}
 use Rattle.sqlite_keyed.proofs.ListLemmas.{map-map}
 use Rattle.audit_rows.specs.Lists.{Key, count}
@@ -411,7 +411,7 @@ module _ (copies : List (Row BookCopy)) (lines : List Line) where
       let l = looked_of_asked (made_of copies) places (marked copies lines) within_all (is_asked a) in
       (single_is ∙ (λ i. l.single i && l.apart i), sym all_found ∙ l.found)
 
--- ---- rows that have these keys, in another order
+-- ---- rows that have the keys, in another order
 
 module _ {X : Type 0} (key : X → Key) where
   pub any_sorted : (rows sorted : List X) (ks : List Key) → map key rows ≡ ks → IsPermutation rows sorted → (k : Key) → list_any (bytes_eq k) (map key sorted) ≡ list_any (bytes_eq k) ks

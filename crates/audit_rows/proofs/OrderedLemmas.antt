@@ -62,7 +62,7 @@ pub copy_again : (row : Row BookCopy) → seen_copy (checked_row CopyRows row) �
 copy_again row = λ i. record row { it = book_copy_again row.it i }
 
 module _ (rows : OrderedBooks) (c : Books) (s : HaveOrderedRows rows c) where
-  -- where a row is told by what is checked of it, the books have the rows that are told
+  -- if `seen` recovers a row from what is checked of it, the books have the rows that `seen` recovers
   pub rows_seen : (t : Table) (seen : CheckedOf t → Row (RowOf t)) → ((row : Row (RowOf t)) → seen (checked_row t row) ≡ row) → rows_of c t ≡ map seen (checked_rows rows t)
   rows_seen t seen again = sym (map-undone seen (checked_row t) again (rows_of c t)) ∙ ap (map seen) (s.rows t)
 

@@ -51,7 +51,7 @@ all_from_owners p owner (x ∷ xs) h =
     less b true it = (both (p x) (list_all p (filter (λ y. owner y == b) xs)) it).1
     less b false it = it
 
--- where texts with their owners are different, each owner's texts are
+-- if texts with their owners are different, each owner's texts are different
 module _ {A : Type 0} (text : A → List ℕ) (b : ℕ) where
   any_own : (t : List ℕ) (xs : List (Owned A)) → list_any (λ y. bytes_eq t (text y)) (owned_by b xs) ≡ list_any (λ (y : Owned A). b == y.owner && bytes_eq t (text y.it)) xs
   any_own t [] = refl

@@ -1,4 +1,4 @@
--- One branch after another: what each has is what the tables have of it.
+-- One branch after another: each branch's part has exactly the branch's rows of the tables.
 use Rattle.shop_types.proofs.Common.{◌≡◌, ◌&&◌, ◌+◌, ◌<◌, ◌≤◌, ◌==◌, ℕ, suc, List, [], ◌∷◌, map, filter, length, Bool, true, refl, sym, ap, subst, ◌∙◌, arith, get_or, drop, drop-cons, add-one, AllByRecursion, list_all, nat_tests, Table}
 use Rattle.sqlite_trees.specs.Tree.{IsAscending}
 use Rattle.audit_rows.specs.declared.books.OrderedBooks.{OrderedBooks}

@@ -1,4 +1,4 @@
--- What the tests of one branch's rows say in the words of the definitions.
+-- The tests of one branch's rows mean what the definitions say.
 use Rattle.std.proofs.Common.{is_none}
 use Rattle.shop_types.proofs.Common.{◌<◌, ◌≡◌, ◌&&◌, ◌||◌, ◌+◌, ◌-◌, ◌≤◌, ◌==◌, ℕ, suc, List, [], ◌∷◌, map, filter, length, not, Bool, true, false, cond, refl, sym, ap, subst, ◌∙◌, arith, true≢false, nat_le, get_or, bytes_eq, list_any, list_all, AllByRecursion, nat_tests, bytes_eq-Decides, nat_eq_equiv, Moment, IsMoment, moment_text, same_moment, at, is_empty, Rental, Copy, is_here, keeps_out, in_stock, rises, are_apart, same_rental, has_row, are_different, one, same_if, same_test}
 use Rattle.shop_model.specs.Calendar.{seconds_of}
@@ -43,7 +43,7 @@ none_below : (ns : List ℕ) → list_all (nat_le 0) ns ≡ true
 none_below [] = refl
 none_below (n ∷ ns) = let first : nat_le 0 n ≡ true = grind (arith, nat_tests) in let rest = none_below ns in (λ i. first i && rest i)
 
--- moments that rise from one to the next stand in order
+-- moments that rise from one to the next are in order
 pub rises_is : (ms : List Moment) → rises_from 0 (map seconds_of ms) ≡ rises ms
 rises_is ms = rises_decides 0 (map seconds_of ms) ∙ ap (λ b. b && rising (map seconds_of ms)) (none_below (map seconds_of ms)) ∙ sym (rises_is_rising ms)
 
@@ -58,7 +58,7 @@ is_one n k h = grind (arith, nat_tests)
 nothing : (n : ℕ) → is_among 0 n ≡ false
 nothing n = grind (arith, nat_tests)
 
--- a list has the row of a number where the number is one of its length
+-- a list has the row of a number exactly if the number is from 1 to the list's length
 pub has_row_is : {A : Type 0} (xs : List A) (n : ℕ) → has_row xs n ≡ is_among (length xs) n
 has_row_is [] n = sym (nothing n)
 has_row_is (x ∷ xs) n = go (n == 1) refl (has_row_is xs (n - 1))
@@ -67,7 +67,7 @@ has_row_is (x ∷ xs) n = go (n == 1) refl (has_row_is xs (n - 1))
     go true h more = sym (is_one n (length xs) h)
     go false h more = more ∙ one_less n (length xs) h
 
--- ---- keys of which each comes once
+-- ---- keys that occur once each
 
 any_counts : (k : Key) (ks : List Key) → list_any (bytes_eq k) ks ≡ true → 1 ≤ count (bytes_eq k) ks
 any_counts k [] h = absurd (true≢false (sym h))
@@ -260,7 +260,7 @@ module _ (one_text : (a b : Moment) → IsMoment a → IsMoment b → moment_tex
   any_same r [] p all = refl
   any_same r (s ∷ rentals) p all = λ i. same_key r s p all.0 i || any_same r rentals p all.1 i
 
-  -- rentals are apart where their keys are
+  -- rentals are apart exactly if their keys are different
   pub apart_is : (rentals : List Rental) → AllByRecursion (λ (r : Rental). IsMoment r.rented) rentals → are_different bytes_eq (map rental_key rentals) ≡ are_apart rentals
   apart_is [] all = refl
   apart_is (r ∷ rentals) all = λ i. not (any_same r rentals all.0 all.1 i) && apart_is rentals all.1 i

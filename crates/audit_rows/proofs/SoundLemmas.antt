@@ -1,4 +1,4 @@
--- What is checked of rows in order is the soundness of the books that have them.
+-- Rows in order pass the checks exactly if the books that have the rows are sound.
 use Rattle.shop_types.proofs.Common.{◌≡◌, ◌&&◌, ◌+◌, ◌≤◌, ◌==◌, ◌++◌, inl, inr, ℕ, suc, zero, List, [], ◌∷◌, map, filter, length, not, Bool, true, false, cond, refl, sym, ap, subst, ◌∙◌, arith, nat_lt, nat_le, IsPermutation, None, list_all, flat_map, bytes_eq, nat_tests, IsPermutation-map, IsPermutation-refl, IsPermutation-sym, Moment, Row, Owned, at, is_empty, owned_by, numbered_from, IsCounted, AreNumbered, Text, Arrival, Rules, Kept, has_row, are_different, is_parcel, Books, BookCopy, Line, UnderWay, Consignment, shop_of, as_arrival, as_parcel, head, HasOwners, IsSound, widest, all_lines, is_settled, line_is, at_zero, Table, CopyRows, RowOf, rows_of}
 use Rattle.sqlite_keyed.proofs.ListLemmas.{IsPermutation-flat_map}
 use Rattle.audit_rows.specs.declared.books.OrderedBooks.{OrderedBooks}

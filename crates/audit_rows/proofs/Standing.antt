@@ -74,7 +74,7 @@ module _ {Y : Type 0} (p : Y → Bool) where
   first_part : (us vs : List Y) → AllByRecursion (λ y. p y ≡ true) us → AllByRecursion (λ y. p y ≡ false) vs → filter p (us ++ vs) ≡ us
   first_part us vs a b = filter-append us vs ∙ (λ i. filter_all p us a i ++ filter_none p vs b i) ∙ append-nil us
 
-  -- where a test tells the two lists apart, a bag of both is a bag of each
+  -- if a test separates the two parts of each list, and the lists are one bag, their second parts are one bag
   pub second_bag : (us vs ss ts : List Y) → AllByRecursion (λ y. p y ≡ false) us → AllByRecursion (λ y. p y ≡ true) vs → AllByRecursion (λ y. p y ≡ false) ss → AllByRecursion (λ y. p y ≡ true) ts
       → IsPermutation (us ++ vs) (ss ++ ts) → IsPermutation vs ts
   second_bag us vs ss ts a b c d h = subst₂ IsPermutation (second_part us vs a b) (second_part ss ts c d) (IsPermutation-filter p _ _ h)

@@ -1,4 +1,4 @@
--- Books that are sound stay so in the order of their keys.
+-- Sound books stay sound if they are put in the order of their keys.
 use Rattle.shop_types.proofs.Common.{◌≡◌, ◌&&◌, ◌+◌, ◌≤◌, ◌==◌, ℕ, List, [], ◌∷◌, map, filter, length, Bool, true, false, cond, refl, sym, ap, subst, ◌∙◌, arith, true≢false, IsPermutation, Ordering, bytes_eq, nat_cmp, list_all, flat_map, nat_cmp_total, on_total, nat_eq_equiv, nat_tests, IsPermutation-map, length_permutation, list_any-IsPermutation, Moment, Row, Owned, owned_by, IsCounted, AreNumbered, total, Text, Branch, Cast, Rules, Here, Scrapped, Kept, OfficeKept, Catalogue, Shop, IsGoodShop, has_row, IsLinkedShop, IsGoodCatalogue, Books, BookCopy, Mark, Line, UnderWay, Missing, Consignment, shop_of, head, as_arrival, as_parcel, HasOneHolder, HasOwners, HasTerms, IsSound, is_made_as, is_origin, is_settled, one, copy_is, lines_in, all_lines, AreRowsNumbered, Table, CopyRows, RowOf, rows_of}
 use Rattle.shop_model.specs.Books.{RowsOf}
 use Rattle.sqlite_keyed.proofs.ListLemmas.{along_permutation, IsPermutation-filter}
@@ -25,7 +25,7 @@ total_along {X} w = along_permutation (λ (xs ys : List X). total w xs ≡ total
 owned_along : {A : Type 0} (b : ℕ) (xs ys : List (Owned A)) → IsPermutation xs ys → IsPermutation (owned_by b xs) (owned_by b ys)
 owned_along {A} b xs ys h = IsPermutation-map (λ (row : Owned A). row.it) _ _ (IsPermutation-filter (λ (row : Owned A). row.owner == b) xs ys h)
 
--- ---- a shop whose keys and lots stand in another order
+-- ---- a shop whose keys and lots are in another order
 
 module _ (s : Shop) (lots : List Text) (kept : List Kept) (p : IsPermutation s.lots lots) (q : IsPermutation s.kept kept) where
   few : {X : Type 0} (xs : List X) → length xs ≤ length s.kept → length xs ≤ length kept
@@ -73,7 +73,7 @@ module _ (s : Shop) (lots : List Text) (kept : List Kept) (p : IsPermutation s.l
   one_holder : HasOneHolder s → HasOneHolder (record s { lots = lots; kept = kept })
   one_holder g = record { one = g.one; here = g.here }
 
--- ---- a catalogue whose keys and casts stand in another order
+-- ---- a catalogue whose keys and casts are in another order
 
 same_cast : (x y : Cast) → (x.film == y.film && x.actor == y.actor) ≡ (y.film == x.film && y.actor == x.actor)
 same_cast x y = λ i. nat_eq_equiv.symm x.film y.film i && nat_eq_equiv.symm x.actor y.actor i

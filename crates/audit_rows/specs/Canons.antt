@@ -1,4 +1,4 @@
--- When books in the order of their keys have the same rows as others.
+-- When books in the order of their keys have the same rows as other books.
 use Rattle.std.specs.Prelude.{◌≡◌, ◌==◌, ℕ, true, ◌∷◌, [], map, IsPermutation}
 use Rattle.std.specs.List.{list_all}
 use Rattle.std.specs.List.Sorted.{IsSorted}
@@ -13,12 +13,12 @@ use Rattle.audit_rows.specs.Lists.{Key, climbs}
 abbrev pub row_key : {A : Type 0} → Row A → Key
 row_key row = row.branch ∷ row.number ∷ []
 
--- Whether a member of staff who was added is gone isn't stored, so that no more can be told of head office's commands than their keys.
+-- Books don't store whether an added member of staff has left. So only the keys of head office's commands are compared.
 abbrev pub office_key : OfficeKept → Key
 office_key it = it.command.key
 
--- The one has the rows of the other, each list of numbered rows in the order of its keys, the consignments in that of their places; and one
--- last moment at most a branch.
+-- Books c have the rows of books b. In c, each list of numbered rows is in the order of its keys, and consignments are in the order of their places.
+-- A branch has at most one last moment in c.
 pub record IsCanonOf (c b : Books) : Type 0 where
   pub shared : c.catalogue ≡ record b.catalogue { kept = c.catalogue.kept; casts = c.catalogue.casts }
   pub office_kept : IsPermutation (map office_key b.catalogue.kept) (map office_key c.catalogue.kept)

@@ -13,7 +13,7 @@ use Rattle.audit_rows.specs.declared.rows.CheckedStaff.{CheckedStaff}
 use Rattle.audit_rows.specs.Shops.{is_among}
 use Rattle.audit_rows.specs.Parts.{is_staff_row}
 
--- the manager of each branch, from branch b on, where it has one, is of its staff
+-- for each branch, from branch b on: the manager, if there is one, is of the branch's staff
 abbrev pub managers_from : ℕ → List CheckedStaff → List CheckedBranch → Bool
 managers_from b staff [] = true
 managers_from b staff (row ∷ rows) = list_all (is_staff_row b staff) (option_to_list row.manager) && managers_from (b + 1) staff rows

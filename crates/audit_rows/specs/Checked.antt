@@ -1,4 +1,4 @@
--- What is checked of rows in order, each table's by itself: that this is soundness is shown, for all books that have the rows.
+-- The checks of rows in order, each table by itself. It is proved that they mean soundness, for all books that have the rows.
 use Rattle.std.specs.Prelude.{◌≡◌, ◌&&◌, Bool, true, List, map, length}
 use Rattle.shop_model.specs.Books.{Consignment}
 use Rattle.audit_rows.specs.declared.books.OrderedBooks.{OrderedBooks}
@@ -14,7 +14,7 @@ are_good_consignments rows its =
     are_settled (length rows.films.items) (map seen_header rows.headers.items) (map seen_placed rows.lines.items) && pairs_follow (map seen_header rows.headers.items)
     && counts_from 1 (map (λ (it : Consignment). it.place) its)
 
--- the consignments are those of the rows, in the order of their places
+-- the rows pass all checks; `its` are the consignments of the rows, in the order of their places
 pub record AreChecked (rows : OrderedBooks) (its : List Consignment) : Type 0 where
   pub catalogue : is_good_catalogue rows ≡ true
   pub owned : is_owned rows ≡ true

@@ -50,7 +50,7 @@ abbrev pub with_first : Consignment → Option (List Consignment) → Option (Li
 with_first it None = None
 with_first it (Some its) = Some (it ∷ its)
 
--- in the order of the keys, each consignment's lines stand in front, from 1 on without a gap, and no line is left
+-- in the order of the keys, each consignment's lines come first, from 1 on without a gap, and no line is left over
 abbrev pub join : List Header → List Placed → Option (List Consignment)
 join [] [] = Some []
 join [] (p ∷ ps) = None

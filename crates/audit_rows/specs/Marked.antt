@@ -19,14 +19,14 @@ marked_row row = (row.it.film, row.it.mark)
 abbrev pub marked_line : Line → Marked
 marked_line line = (line.film, line.mark)
 
--- those of each row and of each line
+-- the film and the mark of each row and of each line
 abbrev pub marked : List (Row BookCopy) → List Line → List Marked
 marked copies lines = map marked_row copies ++ map marked_line lines
 
 abbrev pub places_in : (Mark → Bool) → List (Row BookCopy) → List Line → ℕ
 places_in test copies lines = rows_in Here test copies + lines_in UnderWay test lines + (rows_in Scrapped test copies + lines_in Missing test lines)
 
--- each mark is made, has exactly one place, and goes with one film
+-- each mark is made, has exactly one place, and belongs to one film
 pub record AreInCustody (copies : List (Row BookCopy)) (lines : List Line) : Type 0 where
   pub is_made : list_all (λ (it : Marked). nat_lt 0 (rows_made (is_mark it.1) copies)) (marked copies lines) ≡ true
   pub place : list_all (λ (it : Marked). places_in (is_mark it.1) copies lines == 1) (marked copies lines) ≡ true
@@ -57,7 +57,7 @@ abbrev pub made_keys : List (Row BookCopy) → List Key
 made_keys [] = []
 made_keys (row ∷ rows) = if is_origin row then mark_key row.it.mark ∷ made_keys rows else made_keys rows
 
--- of the copies that are a place of their marks, and of such lines
+-- the marks of the copies that are a place of their marks, and of the lines that are
 abbrev pub rows_placed : List (Row BookCopy) → List Key
 rows_placed [] = []
 rows_placed (row ∷ rows) = if is_copy_placed row.it.state then film_key row.it.film row.it.mark ∷ rows_placed rows else rows_placed rows
@@ -66,6 +66,6 @@ abbrev pub lines_placed : List Line → List Key
 lines_placed [] = []
 lines_placed (line ∷ lines) = if is_line_placed line.state then film_key line.film line.mark ∷ lines_placed lines else lines_placed lines
 
--- each place is that of a mark that was made, and no mark has two
+-- each place belongs to a mark that was made, and no mark has two places
 abbrev pub places_are_single : List Key → List Key → Bool
 places_are_single made placed = list_all (λ (it : Key). list_any (bytes_eq it) made) placed && are_different bytes_eq placed

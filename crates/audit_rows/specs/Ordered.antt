@@ -1,5 +1,5 @@
--- Rows in order, and the books that have them. The rows have not all columns of the books, so that what they say is a relation: texts that soundness doesn't ask
--- about, and what was commanded under a key, are left open.
+-- Rows in order, and the books that have them. The rows don't have all columns of the books, so several books may have the same rows. Texts that soundness
+-- doesn't ask about, and the commands under keys, are left open.
 use Rattle.std.specs.Prelude.{◌≡◌, ℕ, ◌+◌, ◌&&◌, Bool, true, List, [], ◌∷◌, ◌++◌, map, length, Option, Some, None, IsPermutation}
 use Rattle.std.specs.List.{list_all}
 use Rattle.std.specs.List.Sorted.{IsSorted}
@@ -35,7 +35,7 @@ film_row it = record { language = it.language; category = it.category }
 abbrev pub cast_row : Cast → CheckedCast
 cast_row it = record { film = it.film; actor = it.actor }
 
--- the last moments of branches stand in a list of their own
+-- the last moments of branches are in a list of their own
 abbrev pub branch_row : Option Moment → Branch → CheckedBranch
 branch_row last it = record { token = it.token; city = it.city; manager = it.manager; last = last }
 
@@ -57,15 +57,15 @@ abbrev pub last_of : ℕ → Option Moment → List (Owned Moment)
 last_of b None = []
 last_of b (Some moment) = record { owner = b; it = moment } ∷ []
 
--- those of branches b, b + 1, ..
+-- the last moments of branches b, b + 1, ..
 abbrev pub lasts_from : ℕ → List CheckedBranch → List (Owned Moment)
 lasts_from b [] = []
 lasts_from b (row ∷ rows) = last_of b row.last ++ lasts_from (b + 1) rows
 
 -- ---- rows in order
 
--- The key of each row is above that of the row before it, so that no two are the same. Of shared rows but casts there is nothing to say, since their
--- numbers are their places.
+-- The key of each row is above that of the row before it, so that no two keys are the same. Of shared rows only casts are compared: the numbers of
+-- the others are their places.
 pub record AreOrdered (books : OrderedBooks) : Type 0 where
   pub office_keys : climbs books.office_keys.items ≡ true
   pub casts : climbs (map (λ row. row.film ∷ row.actor ∷ []) books.casts.items) ≡ true
@@ -94,9 +94,9 @@ are_consignments_ordered rows =
 abbrev pub is_ordered : OrderedBooks → Bool
 is_ordered rows = are_shared_ordered rows && are_rows_ordered (checked_rows rows) && are_others_ordered rows && are_consignments_ordered rows
 
--- ---- the books that have these rows
+-- ---- the books that have the rows
 
--- the consignments stand in the order of their places, of which nothing else is known
+-- the consignments are in the order of their places; nothing else is known of the places
 pub record AreConsignmentsOf (rows : OrderedBooks) (its : List Consignment) : Type 0 where
   pub by_key : List Consignment
   pub joined : join (map seen_header rows.headers.items) (map seen_placed rows.lines.items) ≡ Some by_key

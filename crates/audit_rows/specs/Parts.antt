@@ -21,7 +21,7 @@ use Rattle.audit_rows.specs.Seen.{shop_copy}
 use Rattle.audit_rows.specs.Shops.{is_among, open_keys, is_held_here}
 use Rattle.audit_rows.specs.Tables.{CheckedOf, is_in, checked_rows, lent_rows, all_tables}
 
--- what a branch has: its rows, and how many lots, kept commands and consignments that it sent
+-- one branch's rows, and the numbers of its lots, of its kept commands and of the consignments that it sent
 pub record PartRows : Type 0 where
   pub rows : (t : Table) → List (CheckedOf t)
   pub lots : ℕ
@@ -101,7 +101,7 @@ branch_rows books b = record {
   sent = length (filter (λ (row : CheckedHeader). row.source == b) books.headers.items);
 }
 
--- what a branch has in front
+-- the leading rows, which are the branch's
 abbrev pub front_rows : Rest → ℕ → PartRows
 front_rows rest b = record {
   rows = λ t. front_of (is_in b) (lent_rows rest.rows t);
@@ -110,14 +110,14 @@ front_rows rest b = record {
   sent = length (front_of (λ (row : CheckedHeader). row.source == b) rest.headers.now);
 }
 
--- the rows behind those of a branch
+-- the rows after the leading rows of branch b
 pub record AreBehind (rest more : Rest) (b : ℕ) : Type 0 where
   pub rows : (t : Table) → lent_rows more.rows t ≡ back_of (is_in b) (lent_rows rest.rows t)
   pub lots : more.lots.now ≡ back_of (λ (row : CheckedLot). row.branch == b) rest.lots.now
   pub kept : more.kept.now ≡ back_of (λ (row : CheckedKept). row.branch == b) rest.kept.now
   pub headers : more.headers.now ≡ back_of (λ (row : CheckedHeader). row.source == b) rest.headers.now
 
--- branch b and those behind it
+-- branch b and all later branches pass
 abbrev pub are_good_from : OrderedBooks → ℕ → List CheckedBranch → Bool
 are_good_from books b [] = true
 are_good_from books b (row ∷ rows) = is_good_part books b row.last (branch_rows books b) && are_good_from books (b + 1) rows

@@ -1,4 +1,4 @@
--- Tests of one branch's rows, each of one sentence of what sound books are.
+-- Tests of one branch's rows. Each test is one sentence of the definition of sound books.
 use Rattle.std.specs.Prelude.{ℕ, ◌&&◌, ◌||◌, nat_le, Bool, not, List, [], ◌∷◌, map, filter, is_none}
 use Rattle.std.specs.List.{list_any}
 use Rattle.shop_model.specs.Calendar.{moment_text}
@@ -11,7 +11,7 @@ use Rattle.audit_rows.specs.Lists.{Key}
 abbrev pub is_among : ℕ → ℕ → Bool
 is_among count n = nat_le 1 n && nat_le n count
 
--- copy, customer and moment, of which no two rentals have the same
+-- the key of a rental: copy, customer and moment; no two rentals have the same key
 unfoldable pub rental_key : Rental → Key
 rental_key r = r.copy ∷ r.customer ∷ moment_text r.rented
 

@@ -1,5 +1,5 @@
--- Of the tables whose rows have a branch and a number: what is checked of a row, and where a table's rows are. What holds of each of them is said by `Table`
--- everywhere else; a new table has its lines here.
+-- The tables whose rows have a branch and a number: what is checked of a row, and where a table's rows are. Elsewhere, statements about each such table are
+-- about any `Table`; a new table has its lines only here.
 use Rattle.std.specs.Prelude.{◌==◌, ℕ, Bool, List, [], ◌∷◌, map}
 use Rattle.std.specs.List.{AllByRecursion}
 use Rattle.shop_model.specs.Rows.{Row}
@@ -18,7 +18,7 @@ use Rattle.audit_rows.specs.States.{kept_state}
 
 -- ---- a row as it is checked
 
--- what is checked of it besides its branch and number
+-- the checked columns of a row, without its branch and number
 abbrev pub ColumnsOf : Table → Type 0
 ColumnsOf Customers = CheckedCustomer
 ColumnsOf CopyRows = CheckedCopy
@@ -61,11 +61,11 @@ lent_rows rows Rentals = rows.rentals.now
 lent_rows rows TermRows = rows.terms.now
 lent_rows rows Payments = rows.payments.now
 
--- the books with these rows in each table
+-- the books with the rows in each table
 abbrev pub with_all : ((t : Table) → RowsOf t) → Books → Books
 with_all its books = record books { customers = its Customers; copies = its CopyRows; rentals = its Rentals; terms = its TermRows; payments = its Payments }
 
--- a shop with these rows in each table
+-- a shop with the rows in each table
 abbrev pub shop_with : ((t : Table) → List (RowOf t)) → Shop → Shop
 shop_with its shop = record shop { customers = its Customers; copies = map unmarked (its CopyRows); rentals = its Rentals; terms = its TermRows; payments = its Payments }
 

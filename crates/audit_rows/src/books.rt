@@ -17,14 +17,14 @@ use shop_types::{CityNo, CopyState, FilmNo, Key, Mark, Moment, Payment, Rental, 
 
 // ---- what is checked of rows of branches
 
-/// Of a customer.
+/// The checked columns of a customer.
 #[derive(Clone, Copy, Drop)]
 pub struct CheckedCustomer {
     pub city: CityNo,
     pub created: Moment,
 }
 
-/// Of a copy.
+/// The checked columns of a copy.
 #[derive(Clone, Copy, Drop)]
 pub struct CheckedCopy {
     pub film: FilmNo,
@@ -32,14 +32,14 @@ pub struct CheckedCopy {
     pub mark: Mark,
 }
 
-/// Of the terms of a rental nothing: they are there, under the rental's number.
+/// The checked columns of a rental's terms: none. A row only shows that the terms are there, under the rental's number.
 #[derive(Clone, Copy, Drop)]
 pub struct CheckedTerms;
 
 // ---- all rows
 
-/// The rows of books: shared rows in the order of their numbers, which are their places, and all others in that of
-/// their keys. Of each row there are the columns that soundness asks about.
+/// The rows of books, with the columns that soundness asks about. Shared rows are in the order of their numbers, which
+/// are their places. All other rows are in the order of their keys.
 #[derive(Drop)]
 pub struct OrderedBooks {
     pub office_token: Token,
@@ -63,9 +63,9 @@ pub struct OrderedBooks {
     pub payments: Vec<CheckedRow<Payment>>,
     pub lots: Vec<CheckedLot>,
     pub kept: Vec<CheckedKept>,
-    /// Consignments by sender, addressee and number.
+    /// The consignments, without their lines, by sender, addressee and number.
     pub headers: Vec<CheckedHeader>,
-    /// Their lines by sender, addressee, number and line.
+    /// The lines of consignments, by sender, addressee, number and line.
     pub lines: Vec<CheckedLine>,
 }
 
@@ -82,7 +82,7 @@ pub struct NumberedRows<'a> {
 }
 
 impl OrderedBooks {
-    /// The rows of all branches.
+    /// Returns the rows of all branches.
     pub fn numbered(&self) -> NumberedRows<'_>
         ensures { OfEach (λ t. lent_rows result t ≡ checked_rows self.now t) }
     {
@@ -97,7 +97,7 @@ impl OrderedBooks {
 }
 
 impl<'a> NumberedRows<'a> {
-    /// Whether each table's rows stand in the order of their keys.
+    /// Returns whether the rows of each table are in the order of their keys.
     fn are_ordered(&self) -> bool
         ensures { result ≡ are_rows_ordered (lent_rows self.now) }
     {
@@ -108,7 +108,7 @@ impl<'a> NumberedRows<'a> {
             && climbs(self.payments)
     }
 
-    /// Whether each table's rows are numbered 1, 2, ..
+    /// Returns whether each table's rows are numbered 1, 2, ..
     pub fn are_counted(&self) -> bool
         ensures { result ≡ list_all (λ t. counts_from 1 (map (λ row. row.number) (lent_rows self.now t))) all_tables }
     {
@@ -119,7 +119,7 @@ impl<'a> NumberedRows<'a> {
             && are_counted(self.payments)
     }
 
-    /// Whether every row is of one of so many branches.
+    /// Returns whether every row is of one of so many branches.
     pub fn have_owners(&self, branches: usize) -> bool
         ensures { result
             ≡ list_all (λ t. list_all (λ row. is_among branches row.branch) (lent_rows self.now t)) all_tables }
@@ -131,7 +131,7 @@ impl<'a> NumberedRows<'a> {
             && have_owners(self.payments, branches)
     }
 
-    /// The rows in front that are the branch's, and all behind them.
+    /// Splits off the leading rows of the branch: returns them, and all rows after them.
     pub fn split(self, branch: u32) -> (NumberedRows<'a>, NumberedRows<'a>)
         ensures front { OfEach (λ t. lent_rows result.0 t ≡ front_of (is_in branch) (lent_rows self.entry t)) }
         ensures back { OfEach (λ t. lent_rows result.1 t ≡ back_of (is_in branch) (lent_rows self.entry t)) }
@@ -161,7 +161,7 @@ impl<'a> NumberedRows<'a> {
 
 // ---- order
 
-/// Whether the keys of casts, and of what head office keeps, climb.
+/// Returns whether the keys of head office's kept commands, and the keys of casts, climb.
 fn are_shared_ordered(books: &OrderedBooks) -> bool
     ensures { result ≡ are_shared_ordered books.now }
 {
@@ -170,7 +170,7 @@ fn are_shared_ordered(books: &OrderedBooks) -> bool
     climbs(keys) && climbs(casts)
 }
 
-/// Whether those of lots and kept commands do.
+/// Returns whether the keys of lots, and the keys of kept commands, climb.
 fn are_others_ordered(books: &OrderedBooks) -> bool
     ensures { result ≡ are_others_ordered books.now }
 {
@@ -179,7 +179,7 @@ fn are_others_ordered(books: &OrderedBooks) -> bool
     climbs(lots) && climbs(kept)
 }
 
-/// Whether those of consignments and their lines do.
+/// Returns whether the keys of consignments, and the keys of their lines, climb.
 fn are_consignments_ordered(books: &OrderedBooks) -> bool
     ensures { result ≡ are_consignments_ordered books.now }
 {
@@ -188,7 +188,7 @@ fn are_consignments_ordered(books: &OrderedBooks) -> bool
     climbs(headers) && climbs(lines)
 }
 
-/// Whether those of all rows do.
+/// Returns whether the keys of all rows climb, table by table.
 fn is_ordered(books: &OrderedBooks) -> bool
     ensures { result ≡ is_ordered books.now }
 {
@@ -198,7 +198,7 @@ fn is_ordered(books: &OrderedBooks) -> bool
         && are_consignments_ordered(books)
 }
 
-/// Whether the rows of each table stand in the order of their keys, of which no two are the same.
+/// Returns whether each table's rows are in the order of their keys, and no two of its rows have the same key.
 pub fn are_ordered(books: &OrderedBooks) -> bool
     ensures { IsTrue result ↔ AreOrdered books.now }
 {

@@ -5,7 +5,7 @@ ghost use Rattle.audit_rows.specs.Parts.{rows_of, front_rows, AreBehind};
 
 use crate::{CheckedHeader, CheckedKept, CheckedLot, NumberedRows, split_branch};
 
-/// What one branch has: its rows, and how many lots, kept commands and consignments that it sent.
+/// The rows of one branch, and the numbers of its lots, of its kept commands and of the consignments that it sent.
 #[derive(Clone, Copy)]
 pub struct Part<'a> {
     pub rows: NumberedRows<'a>,
@@ -14,7 +14,7 @@ pub struct Part<'a> {
     pub sent: usize,
 }
 
-/// The rows of all branches behind those that were taken.
+/// The rows of all branches after the branches that were taken.
 #[derive(Clone, Copy)]
 pub struct Rest<'a> {
     pub rows: NumberedRows<'a>,
@@ -23,7 +23,7 @@ pub struct Rest<'a> {
     pub headers: &'a [CheckedHeader],
 }
 
-/// What the branch has in front, and all behind it.
+/// Takes the branch's rows, which come first. Returns them, and all rows after them.
 pub fn take_branch<'a>(rest: Rest<'a>, branch: u32) -> (Part<'a>, Rest<'a>)
     ensures part { rows_of result.0 ≡ front_rows rest.entry branch }
     ensures more { AreBehind rest.entry result.1 branch }

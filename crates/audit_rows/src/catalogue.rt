@@ -54,7 +54,7 @@ fn staff_are_named(staff: &[CheckedStaff], branches: usize, cities: usize) -> bo
     staff.iter().all(|row| is_among(branches, row.branch.get()) && is_among(cities, row.city.get()))
 }
 
-/// Whether the branch's manager, where it has one, is of its staff.
+/// Returns whether the branch's manager, if there is one, is of the branch's staff.
 fn is_managed(staff: &[CheckedStaff], branch: u32, row: &CheckedBranch) -> bool
     ensures { result ≡ list_all (is_staff_row branch staff.now) (option_to_list row.now.manager) }
 {
@@ -64,7 +64,7 @@ fn is_managed(staff: &[CheckedStaff], branch: u32, row: &CheckedBranch) -> bool
     }
 }
 
-/// Whether each branch's manager, where it has one, is of its staff.
+/// Returns whether each branch's manager, if there is one, is of the branch's staff.
 fn are_managed(staff: &[CheckedStaff], branches: &[CheckedBranch]) -> bool
     requires { length branches.now ≤ 1_000_003 }
     ensures { result ≡ managers_from 1 staff.now branches.now }
@@ -79,7 +79,7 @@ fn are_managed(staff: &[CheckedStaff], branches: &[CheckedBranch]) -> bool
     true
 }
 
-/// Whether what shared rows name is there.
+/// Returns whether what shared rows name is there.
 fn are_named(books: &OrderedBooks) -> bool
     requires { length books.now.branches.items ≤ 1_000_003 }
     ensures { result ≡ is_named books.now }
@@ -101,7 +101,7 @@ fn are_named(books: &OrderedBooks) -> bool
 
 // ---- sizes
 
-/// Whether there are no more shared rows than head office's kept commands allow.
+/// Returns whether there are no more shared rows than head office's kept commands allow.
 fn are_few(books: &OrderedBooks) -> bool
     requires { length books.now.office_keys.items ≤ 1_000_000 }
     ensures { result ≡ is_shared_sized books.now }
@@ -149,7 +149,7 @@ fn name_keys<'a>(alloc: Global, names: &'a [T45]) -> Result<Vec<NameKey<'a>>, No
     Ok(keys)
 }
 
-/// Whether no two names are the same.
+/// Returns whether no two names are the same.
 fn names_differ(alloc: Global, names: &[T45]) -> Result<bool, NoMemory>
     ensures { IfOk result (λ is. is ≡ are_different bytes_eq names.now) }
 {
@@ -186,7 +186,7 @@ fn token_keys(alloc: Global, branches: &[CheckedBranch]) -> Result<Vec<TokenKey>
     Ok(keys)
 }
 
-/// Whether no two branches have one token.
+/// Returns whether no two branches have one token.
 fn tokens_differ(alloc: Global, branches: &[CheckedBranch]) -> Result<bool, NoMemory>
     ensures { IfOk result (λ is. is
         ≡ are_different (λ earlier later. bytes_eq earlier.token later.token) branches.now) }
@@ -195,7 +195,7 @@ fn tokens_differ(alloc: Global, branches: &[CheckedBranch]) -> Result<bool, NoMe
     Ok(are_distinct(&mut keys))
 }
 
-/// Whether no branch has head office's token.
+/// Returns whether no branch has head office's token.
 fn tokens_are_theirs(branches: &[CheckedBranch], office_token: &Token) -> bool
     ensures { result ≡ list_all (λ row. not (bytes_eq row.token office_token.now)) branches.now }
 {
@@ -204,7 +204,7 @@ fn tokens_are_theirs(branches: &[CheckedBranch], office_token: &Token) -> bool
         .all(|row| row.token.as_bytes() != office_token.as_bytes())
 }
 
-/// Whether names and tokens are different where they have to be.
+/// Returns whether the names and tokens that have to be different are different.
 fn are_single(alloc: Global, books: &OrderedBooks) -> Result<bool, NoMemory>
     ensures { IfOk result (λ is. is ≡ is_single books.now) }
 {
@@ -223,7 +223,7 @@ fn are_single(alloc: Global, books: &OrderedBooks) -> Result<bool, NoMemory>
     Ok(tokens_are_theirs(books.branches.as_slice(), &books.office_token))
 }
 
-/// Whether shared rows are sound.
+/// Returns whether shared rows are sound.
 pub fn is_good_catalogue(alloc: Global, books: &OrderedBooks) -> Result<bool, NoMemory>
     ensures { IfOk result (λ is. is ≡ is_good_catalogue books.now) }
 {

@@ -12,7 +12,7 @@ use crate::{CheckedHeader, CheckedLine, counts, is_among, split_group};
 use shop_types::{LineState, NoMemory};
 use std::alloc::Global;
 
-/// Whether the line is under way or not, as it has to be, and its film is one of so many.
+/// Returns whether the line is under way or not, as it has to be, and its film is one of so many.
 fn is_good_line(films: usize, received: bool, row: &CheckedLine) -> bool
     ensures { result ≡ is_good_line films received (seen_line row.now) }
 {
@@ -24,7 +24,7 @@ fn is_good_line(films: usize, received: bool, row: &CheckedLine) -> bool
     settled && is_among(films, row.film.get())
 }
 
-/// Whether each line is as it has to be.
+/// Returns whether each line is as it has to be.
 fn are_all_good(films: usize, received: bool, lines: &[CheckedLine]) -> bool
     ensures { result ≡ list_all (is_good_line films received) (map seen_line lines.now) }
 {
@@ -36,15 +36,15 @@ fn are_all_good(films: usize, received: bool, lines: &[CheckedLine]) -> bool
     true
 }
 
-/// Whether the lines are 1 to 100, and each is as it has to be.
+/// Returns whether the lines are 1 to 100, and each is as it has to be.
 fn are_good_lines(films: usize, received: bool, lines: &[CheckedLine]) -> bool
     ensures { result ≡ are_good_lines films received (map seen_line lines.now) }
 {
     0 < lines.len() && lines.len() <= 100 && are_all_good(films, received, lines)
 }
 
-/// Whether each consignment is received and no line is under way, or isn't and all are, whether it has 1 to 100
-/// lines, and whether their films are there.
+/// Returns whether each consignment has 1 to 100 lines, whose films are there. If the consignment is received, no line
+/// of the consignment may be under way. Otherwise all its lines must be under way.
 pub fn are_settled(films: usize, headers: &[CheckedHeader], lines: &[CheckedLine]) -> bool
     ensures { result ≡ are_settled films (map seen_header headers.now) (map seen_placed lines.now) }
 {
@@ -72,7 +72,7 @@ fn places_of(alloc: Global, headers: &[CheckedHeader]) -> Result<Vec<u64>, NoMem
     Ok(places)
 }
 
-/// Whether the places are 1, 2, .. in their order.
+/// Returns whether the places are 1, 2, .. in their order.
 pub fn places_count(alloc: Global, headers: &[CheckedHeader]) -> Result<bool, NoMemory>
     ensures { IfOk result (λ is. (places : List ℕ) → IsPermutation (map (λ row. row.place) headers.now) places
         → IsSorted nat_cmp places → is ≡ counts_from 1 places) }
@@ -82,7 +82,7 @@ pub fn places_count(alloc: Global, headers: &[CheckedHeader]) -> Result<bool, No
     Ok(counts(places.as_slice()))
 }
 
-/// Whether the consignment comes next.
+/// Returns whether the consignment comes next.
 fn follows(last: &CheckedHeader, row: &CheckedHeader) -> bool
     ensures { result ≡ follows (seen_header last.now) (seen_header row.now) }
 {
@@ -93,7 +93,7 @@ fn follows(last: &CheckedHeader, row: &CheckedHeader) -> bool
     }
 }
 
-/// Whether those of each sender and addressee are numbered 1, 2, .. in the order of their places.
+/// Returns whether each sender's consignments to each addressee are numbered 1, 2, .. in the order of their places.
 pub fn pairs_follow(headers: &[CheckedHeader]) -> bool
     ensures { result ≡ pairs_follow (map seen_header headers.now) }
 {

@@ -33,7 +33,7 @@ fn same_line_state(state: LineState, wanted: LineState) -> bool
     }
 }
 
-/// How many marks were made.
+/// Counts the marks that were made.
 pub fn copies_made(copies: &[CheckedRow<CheckedCopy>]) -> u64
     ensures counted { result ≡ rows_made any_mark (map seen_copy copies.now) }
     ensures fits { result ≤ length copies.now }
@@ -47,7 +47,7 @@ pub fn copies_made(copies: &[CheckedRow<CheckedCopy>]) -> u64
     made
 }
 
-/// How many copies are in that state.
+/// Counts the copies in the state.
 pub fn copies_under(state: CopyState, copies: &[CheckedRow<CheckedCopy>]) -> u64
     ensures counted { result ≡ rows_in (seen_state state) any_mark (map seen_copy copies.now) }
     ensures fits { result ≤ length copies.now }
@@ -61,7 +61,7 @@ pub fn copies_under(state: CopyState, copies: &[CheckedRow<CheckedCopy>]) -> u64
     found
 }
 
-/// How many lines are in that state.
+/// Counts the lines in the state.
 pub fn lines_under(state: LineState, lines: &[CheckedLine]) -> u64
     ensures counted { result ≡ lines_in (seen_line_state state) any_mark (map seen_line lines.now) }
     ensures fits { result ≤ length lines.now }

@@ -1,4 +1,4 @@
-//! Rows of a branch, and rows of one group, which stand together where rows are in order.
+//! Rows of one branch or of one group. If rows are in order, the rows of a branch or group are neighbours.
 
 ghost use Rattle.std.specs.Prelude.{◌≡◌, ◌==◌, ℕ, List};
 ghost use Rattle.std.specs.List.{list_all};
@@ -10,19 +10,19 @@ ghost use Rattle.audit_rows.specs.Shops.{is_among};
 pub trait Owned: Sized + Drop {
     ghost owner: { Self → ℕ };
 
-    /// Its branch.
+    /// Returns the row's branch.
     fn owner(&self) -> u32
         ensures { result ≡ owner self.now };
 }
 
-/// Whether the number is that of one of so many rows.
+/// Returns whether one of so many rows has the number.
 pub fn is_among(count: usize, number: u32) -> bool
     ensures { result ≡ is_among count number }
 {
     1 <= number && number as usize <= count
 }
 
-/// Whether every row is of one of so many branches.
+/// Returns whether every row is of one of so many branches.
 pub fn have_owners<T: Owned>(rows: &[T], branches: usize) -> bool
     ensures { result ≡ list_all (λ row. is_among branches (T.owner row)) rows.now }
 {
@@ -34,7 +34,7 @@ pub fn have_owners<T: Owned>(rows: &[T], branches: usize) -> bool
     true
 }
 
-/// The rows in front that are the branch's, and all behind them.
+/// Splits off the leading rows of the branch. Returns them, and all rows after them.
 pub fn split_branch<T: Owned>(rows: &[T], branch: u32) -> (&[T], &[T])
     ensures front { result.0.now ≡ front_of (λ row. T.owner row == branch) rows.now }
     ensures back { result.1.now ≡ back_of (λ row. T.owner row == branch) rows.now }
@@ -47,16 +47,16 @@ pub fn split_branch<T: Owned>(rows: &[T], branch: u32) -> (&[T], &[T])
     rows.split_at(rows.len())
 }
 
-/// A row of a group: the first columns of its key.
+/// A row of a group. The group is given by the first columns of the row's key.
 pub trait Grouped: Sized + Drop {
     ghost columns: { Self → List ℕ };
 
-    /// Whether it is of the group.
+    /// Returns whether the row is of the group.
     fn is_of(&self, group: &[u32]) -> bool
         ensures { result ≡ bytes_eq (columns self.now) group.now };
 }
 
-/// The rows in front that are of the group, and all behind them.
+/// Splits off the leading rows of the group. Returns them, and all rows after them.
 pub fn split_group<'a, T: Grouped>(rows: &'a [T], group: &[u32]) -> (&'a [T], &'a [T])
     ensures front { result.0.now ≡ front_of (λ row. bytes_eq (T.columns row) group.now) rows.now }
     ensures back { result.1.now ≡ back_of (λ row. bytes_eq (T.columns row) group.now) rows.now }

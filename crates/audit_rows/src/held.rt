@@ -22,7 +22,7 @@ fn is_here(row: &CheckedRow<CheckedCopy>) -> bool
     }
 }
 
-/// Whether the copy of that number, which is its place, is here.
+/// Returns whether the copy of that number, which is its place, is here.
 fn is_copy_here(copies: &[CheckedRow<CheckedCopy>], number: CopyNo) -> bool
     ensures { result ≡ list_any is_here (at number (map shop_copy copies.now)) }
 {
@@ -32,7 +32,7 @@ fn is_copy_here(copies: &[CheckedRow<CheckedCopy>], number: CopyNo) -> bool
     }
 }
 
-/// Whether every open rental is of a copy that is here.
+/// Returns whether every open rental is of a copy that is here.
 pub fn are_held_here(rentals: &[CheckedRow<Rental>], copies: &[CheckedRow<CheckedCopy>]) -> bool
     ensures { result ≡ list_all (λ row. is_held_here (map shop_copy copies.now) (seen_rental row.it)) rentals.now }
 {

@@ -16,7 +16,7 @@ impl Grouped for CheckedLine {
     }
 }
 
-/// Whether the rows of the two tables are those of consignments.
+/// Returns whether the rows of the two tables, in the order of their keys, can be joined into consignments.
 pub fn are_joined(headers: &[CheckedHeader], lines: &[CheckedLine]) -> bool
     ensures { result ≡ is_some (join (map seen_header headers.now) (map seen_placed lines.now)) }
 {

@@ -9,14 +9,14 @@ ghost use Rattle.audit_rows.specs.Canons.{IsCanonOf};
 ghost use Rattle.audit_rows.specs.Joins.{Header, Placed, header, placed, header_key, placed_key, join};
 ghost use Rattle.audit_rows.specs.Marked.{AreInCustody};
 
-/// Books that are sound are sound in the order of their keys, too.
+/// Sound books are sound in the order of their keys, too.
 #[tactic(auto, using(crate::proofs::Transfer::stays_sound))]
 pub fn sound_books_stay_sound()
     ensures { (c b : Books) → IsCanonOf c b → (rules : Rules) → IsSound rules b → IsSound rules c }
 {}
 
-/// What is joined has the rows of the two tables, one by one; and whatever consignments have them, in whatever order,
-/// are found.
+/// Joined consignments have the rows of the two tables, one by one. If any consignments have these rows, in whatever
+/// order, the join finds them.
 #[tactic(auto, using(crate::proofs::JoinLemmas::join_sound, crate::proofs::JoinLemmas::join_complete))]
 pub fn join_is_exact()
     ensures sound { (hs : List Header) (ps : List Placed) (its : List Consignment) → join hs ps ≡ Some its
@@ -27,7 +27,7 @@ pub fn join_is_exact()
         → (its : List Consignment) × IsPermutation others its × (join hs ps ≡ Some its) }
 {}
 
-/// Custody of books is that of their rows of copies and their lines.
+/// Books are in custody exactly if their rows of copies and their lines are.
 #[tactic(auto, using(crate::proofs::OfBooks::of_books))]
 pub fn custody_is_of_rows()
     ensures { (books : Books) → IsInCustody books ↔ AreInCustody books.copies (all_lines books) }

@@ -1,4 +1,4 @@
-//! Rows of books in the order of their keys, custody, and what books in that order tell of others.
+//! Checks rows of books: their order, their custody, and the soundness of the books that have the rows.
 #![tactic(auto)]
 
 pub mod books;

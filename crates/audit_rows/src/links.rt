@@ -13,7 +13,7 @@ use crate::branches::Part;
 use crate::{CheckedRow, CheckedStaff, OrderedBooks, is_among};
 use shop_types::{CustomerNo, Payment, Rental, RentalNo, StaffNo};
 
-/// Whether the staff of that number, which is its place, is of the branch.
+/// Returns whether the staff of that number, which is its place, is of the branch.
 pub fn is_staff_of(staff: &[CheckedStaff], branch: u32, number: StaffNo) -> bool
     ensures { result ≡ is_staff_row branch staff.now number }
 {
@@ -23,7 +23,7 @@ pub fn is_staff_of(staff: &[CheckedStaff], branch: u32, number: StaffNo) -> bool
     }
 }
 
-/// Whether the rental of that number, which is its place, is the customer's.
+/// Returns whether the rental of that number, which is its place, is the customer's.
 fn is_rental_of(rentals: &[CheckedRow<Rental>], number: RentalNo, customer: CustomerNo) -> bool
     ensures { result
         ≡ list_any (λ it. it.customer == customer) (at number (map (λ row. seen_rental row.it) rentals.now)) }
@@ -34,7 +34,7 @@ fn is_rental_of(rentals: &[CheckedRow<Rental>], number: RentalNo, customer: Cust
     }
 }
 
-/// Whether the payment is for a rental of its customer, or for none.
+/// Returns whether the payment is for a rental of its customer, or for none.
 fn is_for_own(rentals: &[CheckedRow<Rental>], row: &CheckedRow<Payment>) -> bool
     ensures { result ≡ pays_for (map (λ row. seen_rental row.it) rentals.now) (seen_payment row.now.it) }
 {
@@ -44,7 +44,7 @@ fn is_for_own(rentals: &[CheckedRow<Rental>], row: &CheckedRow<Payment>) -> bool
     }
 }
 
-/// Whether every customer lives in one of so many cities.
+/// Returns whether every customer lives in one of so many cities.
 fn customers_have_cities(customers: &[CheckedRow<CheckedCustomer>], cities: usize) -> bool
     ensures { result ≡ list_all (λ row. is_among cities row.it.city) customers.now }
 {
@@ -53,14 +53,14 @@ fn customers_have_cities(customers: &[CheckedRow<CheckedCustomer>], cities: usiz
         .all(|row| is_among(cities, row.it.city.get()))
 }
 
-/// Whether every copy is of one of so many films.
+/// Returns whether every copy is of one of so many films.
 fn copies_have_films(copies: &[CheckedRow<CheckedCopy>], films: usize) -> bool
     ensures { result ≡ list_all (λ row. is_among films row.it.film) copies.now }
 {
     copies.iter().all(|row| is_among(films, row.it.film.get()))
 }
 
-/// Whether every customer's city and every copy's film is there.
+/// Returns whether every customer's city and every copy's film is there.
 fn have_places(books: &OrderedBooks, part: &Part<'_>) -> bool
     ensures { result ≡ has_places books.now (rows_of part.now) }
 {
@@ -68,7 +68,7 @@ fn have_places(books: &OrderedBooks, part: &Part<'_>) -> bool
         && copies_have_films(part.rows.copies, books.films.len())
 }
 
-/// Whether every rental's copy and customer is there, and its staff is of the branch.
+/// Returns whether every rental's copy and customer is there, and its staff is of the branch.
 fn have_people(staff: &[CheckedStaff], branch: u32, part: &Part<'_>) -> bool
     ensures { result ≡ has_people branch staff.now (rows_of part.now) }
 {
@@ -80,8 +80,8 @@ fn have_people(staff: &[CheckedStaff], branch: u32, part: &Part<'_>) -> bool
     })
 }
 
-/// Whether every payment's customer is there, its staff is of the branch, and its rental, where it names one, is the
-/// customer's.
+/// Returns whether every payment's customer is there, its staff is of the branch, and its rental is the customer's, if
+/// it names one.
 fn have_payers(staff: &[CheckedStaff], branch: u32, part: &Part<'_>) -> bool
     ensures { result ≡ has_payers branch staff.now (rows_of part.now) }
 {
@@ -93,7 +93,7 @@ fn have_payers(staff: &[CheckedStaff], branch: u32, part: &Part<'_>) -> bool
     })
 }
 
-/// Whether all that the branch's rows name is there.
+/// Returns whether all that the branch's rows name is there.
 pub fn have_links(books: &OrderedBooks, branch: u32, part: &Part<'_>) -> bool
     ensures { result ≡ has_links books.now branch (rows_of part.now) }
 {

@@ -13,10 +13,10 @@ use std::cmp::Ordering;
 
 /// A row with a key.
 pub trait Keyed: Sized + Drop {
-    // its columns that make the key, as numbers; a text goes last, as its bytes
+    // the columns of the row that make its key, as numbers; a text comes last, as its bytes
     ghost key: { Self → List ℕ };
 
-    /// The order of the keys.
+    /// Compares the keys.
     fn compare(&self, other: &Self) -> Ordering
         ensures { result ≡ slice_cmp nat_cmp (key self.now) (key other.now) };
 }
@@ -25,7 +25,7 @@ pub trait Keyed: Sized + Drop {
 pub trait Numbered: Sized + Drop {
     ghost number: { Self → ℕ };
 
-    /// Its number.
+    /// Returns the row's number.
     fn number(&self) -> u32
         ensures { result ≡ number self.now };
 }
@@ -38,7 +38,7 @@ pub fn sort_rows<T: Keyed>(rows: &mut Vec<T>)
     rows.sort_unstable_by(|a, b| a.compare(b));
 }
 
-/// Whether each key is above the one before it.
+/// Returns whether each key is above the one before it.
 pub fn climbs<T: Keyed>(rows: &[T]) -> bool
     ensures { result ≡ climbs (map T.key rows.now) }
 {
@@ -55,7 +55,7 @@ pub fn climbs<T: Keyed>(rows: &[T]) -> bool
     true
 }
 
-/// Whether no two of the rows have the same key.
+/// Returns whether no two of the rows have the same key.
 pub fn are_distinct<T: Keyed>(rows: &mut Vec<T>) -> bool
     ensures permutation { IsPermutation rows.old.items rows.new.items }
     ensures distinct { result ≡ are_different (λ a b. bytes_eq (T.key a) (T.key b)) rows.old.items }
@@ -64,7 +64,7 @@ pub fn are_distinct<T: Keyed>(rows: &mut Vec<T>) -> bool
     climbs(rows.as_slice())
 }
 
-/// Whether one of the rows, which are in the order of their keys, has the key of this one.
+/// Returns whether one of the rows, which are in the order of their keys, has the key of this one.
 pub fn has_key<T: Keyed>(rows: &[T], wanted: &T) -> bool
     requires { IsSortedByKey T.key (slice_cmp nat_cmp) rows.now }
     ensures { result ≡ list_any (bytes_eq (T.key wanted.now)) (map T.key rows.now) }
@@ -72,7 +72,7 @@ pub fn has_key<T: Keyed>(rows: &[T], wanted: &T) -> bool
     rows.binary_search_by(|row| row.compare(wanted)).is_ok()
 }
 
-/// Whether each row's key is among those of the others, which are in their order.
+/// Returns whether each row's key is a key of `others`, which are in the order of their keys.
 pub fn are_among<T: Keyed>(rows: &[T], others: &[T]) -> bool
     requires { IsSortedByKey T.key (slice_cmp nat_cmp) others.now }
     ensures { result ≡ list_all (λ row. list_any (bytes_eq (T.key row)) (map T.key others.now)) rows.now }
@@ -85,14 +85,14 @@ pub fn are_among<T: Keyed>(rows: &[T], others: &[T]) -> bool
     true
 }
 
-/// Whether the two have the same key.
+/// Returns whether the two have the same key.
 fn is_same<T: Keyed>(a: &T, b: &T) -> bool
     ensures { result ≡ bytes_eq (T.key a.now) (T.key b.now) }
 {
     a.compare(b) == Ordering::Equal
 }
 
-/// Whether the two have the same keys, one after another.
+/// Returns whether the two have the same keys, one after another.
 fn same_keys<T: Keyed>(a: &[T], b: &[T]) -> bool
     ensures { result ≡ same_lists (map T.key a.now) (map T.key b.now) }
 {
@@ -109,7 +109,7 @@ fn same_keys<T: Keyed>(a: &[T], b: &[T]) -> bool
     rest.is_empty()
 }
 
-/// Whether the two have the same keys, each as often, in whatever order.
+/// Returns whether the two have the same keys, each as often, in whatever order.
 pub fn same_bag<T: Keyed>(a: &mut Vec<T>, b: &mut Vec<T>) -> bool
     ensures { IsTrue result ↔ SameCounts (map T.key a.old.items) (map T.key b.old.items) }
 {
@@ -118,7 +118,7 @@ pub fn same_bag<T: Keyed>(a: &mut Vec<T>, b: &mut Vec<T>) -> bool
     same_keys(a.as_slice(), b.as_slice())
 }
 
-/// Whether the rows are numbered 1, 2, ..
+/// Returns whether the rows are numbered 1, 2, ..
 pub fn are_counted<T: Numbered>(rows: &[T]) -> bool
     ensures { result ≡ counts_from 1 (map T.number rows.now) }
 {
@@ -132,7 +132,7 @@ pub fn are_counted<T: Numbered>(rows: &[T]) -> bool
     true
 }
 
-/// Whether the numbers are 1, 2, ..
+/// Returns whether the numbers are 1, 2, ..
 pub fn counts(numbers: &[u64]) -> bool
     ensures { result ≡ counts_from 1 numbers.now }
 {

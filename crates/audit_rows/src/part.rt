@@ -17,14 +17,14 @@ use std::alloc::Global;
 /// The most kept commands of a caller, and the most copies of a branch.
 const MOST: usize = 1_000_000;
 
-/// Whether each rental has its terms, and there are no others, where both are numbered 1, 2, ..
+/// If rentals and terms are both numbered 1, 2, .., returns whether each rental has its terms, and no others are there.
 fn are_termed(part: &Part<'_>) -> bool
     ensures { result ≡ is_termed (rows_of part.now) }
 {
     part.rows.terms.len() == part.rows.rentals.len()
 }
 
-/// Whether there are no more of anything than there may be.
+/// Returns whether there are no more of anything than there may be.
 fn are_few(part: &Part<'_>) -> bool
     ensures { result ≡ is_sized (rows_of part.now) }
 {
@@ -37,7 +37,7 @@ fn are_few(part: &Part<'_>) -> bool
         && part.sent <= part.kept
 }
 
-/// Whether moments rise with the numbers, and none is after the last one.
+/// Returns whether moments rise with the numbers, and none is after the last one.
 fn are_timely(row: &CheckedBranch, part: &Part<'_>) -> bool
     ensures { result ≡ is_timely row.now.last (rows_of part.now) }
 {
@@ -48,7 +48,7 @@ fn are_timely(row: &CheckedBranch, part: &Part<'_>) -> bool
         && payments_rise(part.rows.payments)
 }
 
-/// Whether numbers, sizes and moments are as they have to be, and what the rows name is there.
+/// Returns whether numbers, sizes and moments are as they have to be, and what the rows name is there.
 fn has_good_rows(books: &OrderedBooks, branch: u32, row: &CheckedBranch, part: &Part<'_>) -> bool
     ensures { result ≡ has_good_rows books.now branch row.now.last (rows_of part.now) }
 {
@@ -59,7 +59,7 @@ fn has_good_rows(books: &OrderedBooks, branch: u32, row: &CheckedBranch, part: &
         && have_links(books, branch, part)
 }
 
-/// Whether copies that are out are here, each once, and no two rentals are one.
+/// Returns whether copies that are out are here, each once, and no two rentals are one.
 fn are_held(alloc: Global, part: &Part<'_>) -> Result<bool, NoMemory>
     ensures { IfOk result (λ is. is ≡ is_held (rows_of part.now)) }
 {
@@ -72,7 +72,7 @@ fn are_held(alloc: Global, part: &Part<'_>) -> Result<bool, NoMemory>
     rentals_are_apart(alloc, part.rows.rentals)
 }
 
-/// Whether what the branch has is sound, as far as it alone can show it.
+/// Returns whether what the branch has is sound, as far as it alone can show it.
 pub fn is_good(
     alloc: Global,
     books: &OrderedBooks,

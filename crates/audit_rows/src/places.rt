@@ -52,14 +52,14 @@ impl Keyed for MarkedFilm {
     }
 }
 
-/// Whether the copy's mark was made by its own import.
+/// Returns whether the copy's mark was made by its own import.
 pub(crate) fn is_origin(row: &CheckedRow<CheckedCopy>) -> bool
     ensures { result ≡ is_origin (seen_copy row.now) }
 {
     row.it.mark.branch.get() == row.branch.get() && row.it.mark.copy.get() == row.number
 }
 
-/// The marks that were made.
+/// Collects the marks that were made.
 fn marks_made(alloc: Global, copies: &[CheckedRow<CheckedCopy>]) -> Result<Vec<MarkRow>, NoMemory>
     ensures { IfOk result (λ v. map (λ row. mark_key (seen_mark row.mark)) v.items
         ≡ made_keys (map seen_copy copies.now)) }
@@ -75,7 +75,7 @@ fn marks_made(alloc: Global, copies: &[CheckedRow<CheckedCopy>]) -> Result<Vec<M
     Ok(marks)
 }
 
-/// Whether a copy in this state is a place of its mark.
+/// Returns whether a copy in this state is a place of its mark.
 fn is_copy_placed(state: CopyState) -> bool
     ensures { result ≡ is_copy_placed (seen_state state) }
 {
@@ -86,7 +86,7 @@ fn is_copy_placed(state: CopyState) -> bool
     }
 }
 
-/// Whether a line in this state is a place of its mark.
+/// Returns whether a line in this state is a place of its mark.
 fn is_line_placed(state: LineState) -> bool
     ensures { result ≡ is_line_placed (seen_line_state state) }
 {
@@ -97,7 +97,7 @@ fn is_line_placed(state: LineState) -> bool
     }
 }
 
-/// The marks of the copies that are a place of theirs, each with its film.
+/// Collects the marks of the copies that are a place of their marks, each with the copy's film.
 fn rows_placed(
     alloc: Global,
     copies: &[CheckedRow<CheckedCopy>],
@@ -120,7 +120,7 @@ fn rows_placed(
     Ok(placed)
 }
 
-/// Adds the marks of the lines that are a place of theirs, each with its film.
+/// Adds the marks of the lines that are a place of their marks, each with the line's film.
 fn add_lines_placed(placed: &mut Vec<MarkedFilm>, lines: &[CheckedLine]) -> Result<(), NoMemory>
     ensures { OnOk result (map (λ row. film_key row.film (seen_mark row.mark)) placed.new.items
         ≡ map (λ row. film_key row.film (seen_mark row.mark)) placed.old.items ++ lines_placed
@@ -140,7 +140,7 @@ fn add_lines_placed(placed: &mut Vec<MarkedFilm>, lines: &[CheckedLine]) -> Resu
     Ok(())
 }
 
-/// The marks alone.
+/// Returns the marks without their films.
 fn marks_of(alloc: Global, placed: &[MarkedFilm]) -> Result<Vec<MarkRow>, NoMemory>
     ensures { IfOk result (λ v. map (λ row. mark_key (seen_mark row.mark)) v.items
         ≡ map (λ row. mark_key (seen_mark row.mark)) placed.now) }
@@ -154,7 +154,7 @@ fn marks_of(alloc: Global, placed: &[MarkedFilm]) -> Result<Vec<MarkRow>, NoMemo
     Ok(marks)
 }
 
-/// Whether the mark of each copy is among these, with its film.
+/// Returns whether `placed` has the mark of each copy, with the copy's film.
 fn copies_among(placed: &[MarkedFilm], copies: &[CheckedRow<CheckedCopy>]) -> bool
     requires { IsSortedByKey (λ row. film_key row.film (seen_mark row.mark)) (slice_cmp nat_cmp) placed.now }
     ensures { result
@@ -173,7 +173,7 @@ fn copies_among(placed: &[MarkedFilm], copies: &[CheckedRow<CheckedCopy>]) -> bo
     true
 }
 
-/// Whether the mark of each line is among these, with its film.
+/// Returns whether `placed` has the mark of each line, with the line's film.
 fn lines_among(placed: &[MarkedFilm], lines: &[CheckedLine]) -> bool
     requires { IsSortedByKey (λ row. film_key row.film (seen_mark row.mark)) (slice_cmp nat_cmp) placed.now }
     ensures { result
@@ -192,7 +192,7 @@ fn lines_among(placed: &[MarkedFilm], lines: &[CheckedLine]) -> bool
     true
 }
 
-/// Whether each place is that of a mark that was made, and no mark has two.
+/// Returns whether each place belongs to a mark that was made, and no mark has two places.
 fn have_one_place(
     alloc: Global,
     copies: &[CheckedRow<CheckedCopy>],
@@ -208,7 +208,7 @@ fn have_one_place(
     Ok(are_among(marks.as_slice(), made.as_slice()) && are_distinct(&mut marks))
 }
 
-/// Whether each mark of a copy or a line is made, has exactly one place, and goes with one film.
+/// Returns whether each mark of a copy or a line is made, has exactly one place, and belongs to one film.
 pub fn are_in_custody(
     alloc: Global,
     copies: &[CheckedRow<CheckedCopy>],

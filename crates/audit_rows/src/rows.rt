@@ -51,7 +51,7 @@ pub struct CheckedStaff {
 
 // ---- rows of a branch
 
-/// A row of a branch, with its number there, and the columns that are checked besides.
+/// A row of a branch, with its number in the branch, and its other checked columns.
 #[derive(Clone, Copy, Drop)]
 pub struct CheckedRow<T> {
     pub branch: BranchNo,
@@ -85,7 +85,7 @@ pub struct CheckedHeader {
     pub received: bool,
 }
 
-/// A line of a consignment, with the consignment's key and its number there.
+/// A line of a consignment, with the consignment's key and the line's number in the consignment.
 #[derive(Clone, Copy, Drop)]
 pub struct CheckedLine {
     pub source: BranchNo,

@@ -20,7 +20,7 @@ use std::cmp::Ordering;
 
 // ---- moments
 
-/// Whether the moment isn't after the last one, which is there.
+/// Returns whether the moment isn't after the last one, which is there.
 fn is_within(last: Option<Moment>, moment: Moment) -> bool
     ensures { result ≡ is_within last moment }
 {
@@ -30,7 +30,7 @@ fn is_within(last: Option<Moment>, moment: Moment) -> bool
     }
 }
 
-/// Whether a return, where there is one, isn't before the rental and not after the last moment.
+/// Returns whether a return, if there is one, isn't before the rental or after the last moment.
 fn is_returned_by(last: Option<Moment>, rented: Moment, returned: Option<Moment>) -> bool
     ensures { result ≡ returned_by last rented returned }
 {
@@ -40,14 +40,14 @@ fn is_returned_by(last: Option<Moment>, rented: Moment, returned: Option<Moment>
     }
 }
 
-/// Whether every customer was added by the last moment.
+/// Returns whether every customer was added by the last moment.
 pub fn are_created_by(last: Option<Moment>, customers: &[CheckedRow<CheckedCustomer>]) -> bool
     ensures { result ≡ list_all (λ row. is_within last row.it.created) customers.now }
 {
     customers.iter().all(|row| is_within(last, row.it.created))
 }
 
-/// Whether every rental is in order, and by the last moment.
+/// Returns whether every rental is in order, and by the last moment.
 pub fn are_rented_by(last: Option<Moment>, rentals: &[CheckedRow<Rental>]) -> bool
     ensures { result ≡ list_all (λ row. rental_by last (seen_rental row.it)) rentals.now }
 {
@@ -56,14 +56,14 @@ pub fn are_rented_by(last: Option<Moment>, rentals: &[CheckedRow<Rental>]) -> bo
     })
 }
 
-/// Whether every payment was made by the last moment.
+/// Returns whether every payment was made by the last moment.
 pub fn are_paid_by(last: Option<Moment>, payments: &[CheckedRow<Payment>]) -> bool
     ensures { result ≡ list_all (λ row. is_within last row.it.paid) payments.now }
 {
     payments.iter().all(|row| is_within(last, row.it.paid))
 }
 
-/// Whether no rental begins before the one before it.
+/// Returns whether no rental begins before the one before it.
 pub fn rentals_rise(rentals: &[CheckedRow<Rental>]) -> bool
     ensures { result ≡ rises_from 0 (map (λ row. seconds_of row.it.rented) rentals.now) }
 {
@@ -78,7 +78,7 @@ pub fn rentals_rise(rentals: &[CheckedRow<Rental>]) -> bool
     true
 }
 
-/// Whether no payment is made before the one before it.
+/// Returns whether no payment is made before the one before it.
 pub fn payments_rise(payments: &[CheckedRow<Payment>]) -> bool
     ensures { result ≡ rises_from 0 (map (λ row. seconds_of row.it.paid) payments.now) }
 {
@@ -141,7 +141,7 @@ fn rental_keys(alloc: Global, rentals: &[CheckedRow<Rental>]) -> Result<Vec<Rent
     Ok(keys)
 }
 
-/// Whether no two rentals share moment, copy and customer.
+/// Returns whether no two rentals share moment, copy and customer.
 pub fn rentals_are_apart(alloc: Global, rentals: &[CheckedRow<Rental>]) -> Result<bool, NoMemory>
     ensures { IfOk result (λ is. is ≡ are_apart (map (λ row. seen_rental row.it) rentals.now)) }
 {
@@ -179,7 +179,7 @@ fn open_copies(alloc: Global, rentals: &[CheckedRow<Rental>]) -> Result<Vec<Open
     Ok(keys)
 }
 
-/// Whether no copy has two open rentals.
+/// Returns whether no copy has two open rentals.
 pub fn are_held_once(alloc: Global, rentals: &[CheckedRow<Rental>]) -> Result<bool, NoMemory>
     ensures { IfOk result (λ is. is
         ≡ are_different bytes_eq (open_keys (map (λ row. seen_rental row.it) rentals.now))) }

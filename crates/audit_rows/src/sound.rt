@@ -25,7 +25,7 @@ use std::alloc::Global;
 
 // ---- branch columns
 
-/// Whether every consignment is to one of so many branches.
+/// Returns whether every consignment is to one of so many branches.
 fn have_addressees(headers: &[CheckedHeader], branches: usize) -> bool
     ensures { result ≡ list_all (λ row. is_among branches row.addressee) headers.now }
 {
@@ -34,7 +34,7 @@ fn have_addressees(headers: &[CheckedHeader], branches: usize) -> bool
         .all(|row| is_among(branches, row.addressee.get()))
 }
 
-/// Whether the branches of lots and kept commands are there.
+/// Returns whether the branches of lots and kept commands are there.
 fn are_others_owned(books: &OrderedBooks) -> bool
     ensures { result ≡ are_others_owned books.now }
 {
@@ -44,7 +44,7 @@ fn are_others_owned(books: &OrderedBooks) -> bool
     have_owners(lots, branches) && have_owners(kept, branches)
 }
 
-/// Whether the senders and addressees of consignments are there.
+/// Returns whether the senders and addressees of consignments are there.
 fn are_consignments_owned(books: &OrderedBooks) -> bool
     ensures { result ≡ are_consignments_owned books.now }
 {
@@ -53,7 +53,7 @@ fn are_consignments_owned(books: &OrderedBooks) -> bool
     have_owners(headers, branches) && have_addressees(headers, branches)
 }
 
-/// Whether every branch that a row names is there.
+/// Returns whether every branch that a row names is there.
 fn are_owned(books: &OrderedBooks) -> bool
     ensures { result ≡ is_owned books.now }
 {
@@ -64,7 +64,7 @@ fn are_owned(books: &OrderedBooks) -> bool
 
 // ---- one branch after another
 
-/// All rows of branches.
+/// Returns all rows of branches.
 fn whole(books: &OrderedBooks) -> Rest<'_>
     ensures rows { OfEach (λ t. lent_rows result.rows t ≡ checked_rows books.now t) }
     ensures lots { result.lots.now ≡ books.now.lots.items }
@@ -79,7 +79,7 @@ fn whole(books: &OrderedBooks) -> Rest<'_>
     }
 }
 
-/// Whether what each branch has is sound.
+/// Returns whether what each branch has is sound.
 fn are_parts_good(alloc: Global, books: &OrderedBooks) -> Result<bool, NoMemory>
     requires ordered { AreOrdered books.now }
     requires owned { is_owned books.now ≡ true }
@@ -101,7 +101,7 @@ fn are_parts_good(alloc: Global, books: &OrderedBooks) -> Result<bool, NoMemory>
 
 // ---- consignments, and custody
 
-/// Whether consignments are sound.
+/// Returns whether consignments are sound.
 fn are_consignments_good(alloc: Global, books: &OrderedBooks) -> Result<bool, NoMemory>
     ensures { IfOk result (λ is. (its : List Consignment) → AreConsignmentsOf books.now its
         → is ≡ are_good_consignments books.now its) }
@@ -114,7 +114,7 @@ fn are_consignments_good(alloc: Global, books: &OrderedBooks) -> Result<bool, No
     }
 }
 
-/// Whether each mark is made, in one place, and with one film.
+/// Returns whether each mark is made, in one place, and with one film.
 fn have_custody(alloc: Global, books: &OrderedBooks) -> Result<bool, NoMemory>
     ensures { IfOk result (λ is. IsTrue is
         ↔ AreInCustody (map seen_copy books.now.copies.items) (map seen_line books.now.lines.items)) }
@@ -126,7 +126,7 @@ fn have_custody(alloc: Global, books: &OrderedBooks) -> Result<bool, NoMemory>
 
 // ---- all of it
 
-/// Whether the rows pass each check.
+/// Returns whether the rows pass each check.
 fn are_checked(alloc: Global, books: &OrderedBooks) -> Result<bool, NoMemory>
     requires { AreOrdered books.now }
     ensures { IfOk result (λ is. (its : List Consignment) → AreConsignmentsOf books.now its
@@ -147,7 +147,7 @@ fn are_checked(alloc: Global, books: &OrderedBooks) -> Result<bool, NoMemory>
     are_parts_good(alloc, books)
 }
 
-/// Whether books that have these rows are sound.
+/// Returns whether books that have the rows are sound.
 pub fn is_sound(alloc: Global, books: &OrderedBooks) -> Result<bool, NoMemory>
     requires { AreOrdered books.now }
     ensures { IfOk result (λ is. (rules : Rules) (whole : Books) → HaveOrderedRows books.now whole

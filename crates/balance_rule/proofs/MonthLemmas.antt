@@ -1,4 +1,4 @@
--- The first and the last day of a month, as jiff has them, are those of the written calendar.
+-- The first and the last day of a month are the same in jiff and in the written calendar.
 use Rattle.shop_types.proofs.Common.{◌≡◌, ◌∙◌, ℕ, ℤ, pos, ◌≤◌, arith, Moment, days_in_month, month_days, days_from_civil-day_of}
 use Rattle.jiff_core.proofs.CalendarLemmas.{days_in_month_bounds}
 use Rattle.jiff_core.specs.Calendar.{days_from_civil, days_in_month as jiff_days_in_month}
@@ -38,7 +38,7 @@ date_is d year month day is low high y mp dp =
     let same : days_from_civil d.year d.month d.day ≡ days_from_civil (pos year) month day = λ i. days_from_civil (y i) (m i) (n i) in
     same ∙ day_number_is year month day is low high
 
--- the days of a month whose first and last date these are
+-- the days of a month whose first and last dates are `first` and `last`
 pub month_days_are : (year month : ℕ) (first last : Date) → IsMonth year month
     → first.year ≡ pos year → pos first.month ≡ pos month → pos first.day ≡ pos 1 → IsYmd first.year (pos first.month) (pos (month_length first)) last
     → ◌≡◌ {A = ℤ × ℤ} (days_from_civil first.year first.month first.day, days_from_civil last.year last.month last.day) (seen_days (month_days year month))

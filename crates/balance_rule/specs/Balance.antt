@@ -1,4 +1,4 @@
--- What is owed by the rows that are handed in, and which rows those of a customer are.
+-- Defines what is owed for the given rows, and which rows are a customer's.
 use Rattle.std.specs.Prelude.{◌≡◌, ℕ, ℤ, pos, ◌+◌, ◌*◌, ◌-ℤ◌, ◌==◌, nat_lt, if◌then◌else◌, Some, List, map, filter, sum_by}
 use Rattle.shop_model.specs.Calendar.{Moment, is_by}
 use Rattle.shop_model.specs.Values.{Rental, Terms, Payment, Rule, ByCode, ByComment}
@@ -17,7 +17,7 @@ code_fee_of terms = terms.rate + 100 * late_days terms.rented terms.returned ter
 abbrev pub days_past_of : Moment → RentalTerms → ℕ
 days_past_of at terms = late_days terms.rented (Some (end_at at terms.returned)) terms.period
 
--- by the comment: the rate, 100 cents for each day past, and the replacement cost once where these are more than twice the period
+-- by the comment: the rate, 100 cents for each day past, and the replacement cost once if the days past are more than twice the period
 abbrev pub comment_fee_of : Moment → RentalTerms → ℕ
 comment_fee_of at terms = terms.rate + 100 * days_past_of at terms + (if nat_lt (2 * terms.period) (days_past_of at terms) then terms.replacement else 0)
 

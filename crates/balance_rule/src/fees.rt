@@ -10,15 +10,15 @@ ghost use Rattle.balance_rule.specs.Balance.{days_past_of, code_fee_of, comment_
 use crate::rows::{Paid, RentalTerms};
 use shop_types::{Cents, Moment, Rule};
 
-/// Whether the first moment is not after the second.
+/// Returns whether the first moment is not after the second.
 fn is_by(moment: Moment, at: Moment) -> bool
     ensures { result ≡ is_by moment at }
 {
     moment.seconds() <= at.seconds()
 }
 
-/// The days by which a rental was returned after its period of days, by the numbers of the days and not by hours.
-/// None for an open rental.
+/// Returns the days by which a rental was returned after its period of days, by the numbers of the days and not by
+/// hours. Returns none for an open rental.
 pub fn late_days(rented: Moment, returned: Option<Moment>, period: u8) -> u32
     ensures value { result ≡ late_days rented returned period }
     ensures bound { result ≤ 2_932_896 }
@@ -32,14 +32,14 @@ pub fn late_days(rented: Moment, returned: Option<Moment>, period: u8) -> u32
     }
 }
 
-/// Whether the period of a rental ended on a day before that of the moment: overdue, where the rental is open.
+/// Returns whether the period of a rental ended on a day before that of the moment: overdue, where the rental is open.
 pub fn is_overdue(rented: Moment, period: u8, at: Moment) -> bool
     ensures { result ≡ nat_lt (day_of rented + period) (day_of at) }
 {
     rented.day() as u32 + u32::from(period) < at.day() as u32
 }
 
-/// The days by which a rental is past its period at a moment, which is its end where it wasn't returned by then.
+/// Returns the days by which a rental is past its period at a moment, which is its end if it wasn't returned by then.
 fn days_past(rental: &RentalTerms, at: Moment) -> u32
     ensures value { result ≡ days_past_of at rental.now }
     ensures bound { result ≤ 2_932_896 }
@@ -51,7 +51,7 @@ fn days_past(rental: &RentalTerms, at: Moment) -> u32
     late_days(rental.rented, Some(end), rental.period)
 }
 
-/// What a rental costs by the manual's code, in cents: its rate, and a dollar for each late day.
+/// Returns what a rental costs by the manual's code, in cents: its rate, and a dollar for each late day.
 fn code_fee(rental: &RentalTerms) -> u32
     ensures value { result ≡ code_fee_of rental.now }
     ensures bound { result ≤ 293_299_599 }
@@ -59,8 +59,8 @@ fn code_fee(rental: &RentalTerms) -> u32
     u32::from(rental.rate.get()) + 100 * late_days(rental.rented, rental.returned, rental.period)
 }
 
-/// What it costs by the comment: its rate, a dollar for each day past its period, and its replacement cost once where
-/// these are more than twice its period.
+/// Returns what a rental costs by the comment: its rate, a dollar for each day past its period, and its replacement
+/// cost once if the days past are more than twice its period.
 fn comment_fee(rental: &RentalTerms, at: Moment) -> u32
     ensures value { result ≡ comment_fee_of at rental.now }
     ensures bound { result ≤ 293_399_598 }
@@ -75,7 +75,7 @@ fn comment_fee(rental: &RentalTerms, at: Moment) -> u32
     }
 }
 
-/// What a rental costs by the rule, as it is seen at a moment.
+/// Returns what a rental costs by the rule, as it is seen at a moment.
 fn fee(rental: &RentalTerms, at: Moment, rule: Rule) -> u32
     ensures value { result ≡ fee_of (seen_rule rule) at rental.now }
     ensures bound { result ≤ 293_399_598 }
@@ -86,7 +86,7 @@ fn fee(rental: &RentalTerms, at: Moment, rule: Rule) -> u32
     }
 }
 
-/// The cents that the rentals up to a moment cost.
+/// Returns the cents that the rentals up to a moment cost.
 fn fees(rentals: &[RentalTerms], at: Moment, rule: Rule) -> u64
     requires { length rentals.now ≤ 1_000_000 }
     ensures value { result ≡ fees_by (seen_rule rule) at rentals.now }
@@ -101,7 +101,7 @@ fn fees(rentals: &[RentalTerms], at: Moment, rule: Rule) -> u64
     total
 }
 
-/// The cents of the payments up to a moment.
+/// Returns the cents of the payments up to a moment.
 fn paid(payments: &[Paid], at: Moment) -> u64
     requires { length payments.now ≤ 1_000_000 }
     ensures value { result ≡ paid_by at payments.now }
@@ -116,8 +116,8 @@ fn paid(payments: &[Paid], at: Moment) -> u64
     total
 }
 
-/// The manual's `get_customer_balance` by either rule: what the rentals up to a moment cost, less the payments up to
-/// it. It is below zero where more was paid.
+/// Returns the manual's `get_customer_balance` by either rule: what the rentals up to a moment cost, less the payments
+/// up to it. It is below zero if more was paid.
 pub fn balance(rentals: &[RentalTerms], payments: &[Paid], at: Moment, rule: Rule) -> Cents
     requires rentals { length rentals.now ≤ 1_000_000 }
     requires payments { length payments.now ≤ 1_000_000 }

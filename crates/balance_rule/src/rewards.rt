@@ -10,7 +10,7 @@ use crate::rows::Paid;
 use jiff::civil::Date;
 use shop_types::Moment;
 
-/// The numbers of the first and the last day of a month.
+/// Returns the numbers of the first and the last day of a month.
 fn month_days(year: u16, month: u8) -> (i32, i32)
     requires year_low { 1970 ≤ year }
     requires year_high { year ≤ 9999 }
@@ -26,9 +26,9 @@ fn month_days(year: u16, month: u8) -> (i32, i32)
     )
 }
 
-/// The numbers of the first and the last day of the month before the moment's, where 1970-01-01 is 0. Nothing in
-/// January 1970, before which there are no days. The manual takes the month before today; that it goes by a moment is
-/// our own.
+/// Returns the numbers of the first and the last day of the month before the moment's, where 1970-01-01 is 0. Returns
+/// none in January 1970, before which there are no days. The manual uses the month before today. Our own rule uses the
+/// month before the moment's.
 pub fn last_month(at: Moment) -> Option<(i32, i32)>
     ensures { result ≡ option_map seen_days (month_before at) }
 {
@@ -42,7 +42,7 @@ pub fn last_month(at: Moment) -> Option<(i32, i32)>
     }
 }
 
-/// Whether a payment is of a day from the first to the last.
+/// Returns whether a payment is of a day from the first to the last.
 pub fn is_on(payment: &Paid, month: (i32, i32)) -> bool
     ensures { result ≡ is_on month payment.now }
 {
@@ -50,7 +50,7 @@ pub fn is_on(payment: &Paid, month: (i32, i32)) -> bool
     month.0 <= day && day <= month.1
 }
 
-/// How many payments are of a day of the month.
+/// Returns how many payments are of a day of the month.
 fn count_on(payments: &[Paid], month: (i32, i32)) -> u32
     requires { length payments.now ≤ 1_000_000 }
     ensures { result ≡ length (filter (is_on month) payments.now) }
@@ -64,7 +64,7 @@ fn count_on(payments: &[Paid], month: (i32, i32)) -> u32
     count
 }
 
-/// The cents of the payments on days of the month.
+/// Returns the cents of the payments on days of the month.
 fn cents_on(payments: &[Paid], month: (i32, i32)) -> u64
     requires { length payments.now ≤ 1_000_000 }
     ensures { result ≡ sum_by amount_of (filter (is_on month) payments.now) }
@@ -78,8 +78,8 @@ fn cents_on(payments: &[Paid], month: (i32, i32)) -> u64
     total
 }
 
-/// Whether the payments on the days of a month, from its first to its last, are more than `purchases` and are of more
-/// than `cents` cents. That both have to be passed, and not reached, is our own.
+/// Returns whether the payments on the days of a month, from its first to its last, are more than `purchases` and are
+/// of more than `cents` cents. That both have to be passed, and not reached, is our own.
 pub fn rewarded(payments: &[Paid], month: (i32, i32), purchases: u32, cents: u32) -> bool
     requires { length payments.now ≤ 1_000_000 }
     ensures sum { result ≡ passes month purchases cents payments.now }

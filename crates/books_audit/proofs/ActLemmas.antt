@@ -1,4 +1,4 @@
--- The parts of each act are those of its form, both ways.
+-- The parts of each act match its form, in both directions.
 use Rattle.shop_schema.proofs.Common.{◌↔◌, ◌≤◌, ℕ, List, map, length, Option, Some, None, refl, sym, subst, arith, leb-true, le-leb, IfSome, Act, AddCustomer, SetActive, Rent, TakeBack, Pay, Import, Dispatch, Receive, Scrap, act_form, IsNumber, IsNumberList, IsAct, AreNumbers, AreBytes}
 use Rattle.shop_schema.specs.Forms.{IsStockFile}
 use Rattle.books_audit.specs.declared.parts.Part.{Part}

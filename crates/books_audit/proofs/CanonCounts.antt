@@ -1,4 +1,4 @@
--- The tables of counts say the same of rows in order, of the books that have these rows, and of all others for which the tables stand.
+-- The tables of counts are the same for rows in order, for the books that have the rows, and for all other books for which the tables stand.
 use Rattle.shop_schema.proofs.Common.{◌≡◌, ◌==◌, ℕ, List, [], ◌∷◌, map, filter, length, sym, ap, subst, ◌∙◌, Bool, IsPermutation, flat_map, flat_map_same_on, IsPermutation-map, IsPermutation-sym, IsPermutation-trans, length_permutation, IsPermutation-filter, Row, Owned, is_of, numbered, Branch, Customer, Rental, Terms, Payment, Kept, Books, BookCopy, Customers, CopyRows, Rentals, TermRows, Payments, counter_columns, out_columns, pair_columns, Count, branch_counts, counts_of, is_open, out_of}
 use Rattle.audit_rows.specs.Canons.{IsCanonOf, office_key, row_key}
 use Rattle.audit_rows.specs.Ordered.{AreOrdered, HaveOrderedRows}

@@ -22,7 +22,7 @@ use Rattle.audit_rows.proofs.OrderedLemmas.{copy_again}
 use Rattle.books_audit.specs.Audited.{StandFor, Stand, lines_of, CountsCustody, IsCustodyAudit, AuditsRows}
 use Rattle.books_audit.proofs.FullLists.{fulls, seen_all, ones}
 
--- ---- lines are told by what is kept of them
+-- ---- what is kept of a line determines the line
 
 pub placed_again : (p : Placed) → seen_placed (placed_row p) ≡ p
 placed_again p = λ i. record p { line = record p.line { state = line_state_again p.line.state i } }
@@ -40,7 +40,7 @@ counts_moved audit cs ds ls ms a b k = record {
 }
 
 module _ (copy_rows line_rows : List sql.Row) where
-  -- where rows can't be read they stand for nothing
+  -- if rows can't be read, they stand for nothing
   pub nothing_stands : ¬ Stand copy_rows line_rows → IsCustodyAudit copy_rows line_rows nothing
   nothing_stands empty = record {
     sound = (λ h. absurd (true≢false (sym h)), λ it. absurd (empty (it.0, it.1, it.2)));

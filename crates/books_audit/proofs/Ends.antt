@@ -80,7 +80,7 @@ each_step bytes count rest left piece more it (n, within, is) e = record {
     go {s} (m ∷ ns, k, a, f) t =
         (ns, (omega (arith, k)), a.1, sym (number_ends m n (flat_map number_form ns ++ s) more (sym f ∙ e ∙ ap (λ (x : List ℕ). x ++ more) is)).1)
 
--- where no number is in front, none of the whole is there
+-- if the rest doesn't begin with a number, the bytes don't begin with the form of so many numbers
 pub each_fails : (bytes : List ℕ) (count : ℕ) (rest : List ℕ) (left : ℕ) → EachLeft bytes count rest (suc left)
     → ((piece more : List ℕ) → IsPartForm (part.Number 1 4_294_967_295) piece → rest ≢ piece ++ more) → (ms s : List ℕ) → length ms ≡ count → AreNumbers ms → bytes ≢ flat_map number_form ms ++ s
 each_fails bytes count rest left it none ms s k a f = go (it.complete ms s k a f)

@@ -1,4 +1,4 @@
--- Tables that were read, and whose rows are in order, stand for books that have these rows.
+-- Tables that were read, and whose rows are in order, stand for books that have the rows.
 use Rattle.shop_schema.proofs.Common.{◌≡◌, ◌==◌, ◌&&◌, ◌<◌, ◌^◌, ℕ, List, [], ◌∷◌, map, length, None, Option, refl, sym, ap, subst, ◌∙◌, IsPermutation, AllByRecursion, all_of, flat_map, bytes_eq, IsPermutation-map, IsPermutation-trans, IsPermutation-sym, map-id, map-map, IsPermutation-flat_map, Moment, Owned, owned_by, Text, Cast, Branch, Rule, Kept, OfficeKept, Books, Consignment, head, Catalogue, chain_columns, named_columns, city_columns, actor_columns, film_columns, cast_columns, staff_columns, rule_columns, lot_columns, consignment_columns, line_rows, IsName, IsToken, IsCity, IsActor, IsFilm, IsCast, IsStaff, IsRow, IsRowOf, IsLot, IsConsignment, IsLast, RowsOf, rows_of, AreRowValues}
 use Rattle.shop_model.specs.Books.{Table, opening}
 use Rattle.audit_rows.specs.Lists.{climbs}
@@ -165,7 +165,7 @@ module _ (tables : TableRows) (rows : OrderedBooks) (read : AreReadInOrder table
   fitting : AllByRecursion IsConsignment by_key
   fitting = consignments_fit by_key (subst (AllByRecursion IsHeader) header_list of.headers.fit) (subst (AllByRecursion IsPlaced) line_list of.lines.fit)
 
-  -- ---- it stands
+  -- ---- the tables stand for the books
 
   have_all : HaveRowsOf tables canonical
   unfolding canonical

@@ -1,4 +1,4 @@
--- Lists of what was kept of a table's rows, in another order, are kept of values whose columns are the table's, and the rows of values are the table's.
+-- Lists of what was kept of a table's rows. In any order of the rows, each element is kept of a value, and the values' columns are the table's rows.
 use Rattle.shop_schema.proofs.Common.{◌≡◌, ◌≤◌, ◌+◌, ℕ, List, [], ◌∷◌, map, length, refl, sym, ap, subst, ◌∙◌, arith, IsPermutation, AllByRecursion, all_map, all_weaker, IsPermutation-map, IsPermutation-refl, IsPermutation-trans, IsPermutation-sym, map-map, IsCounted, numbered_from, numbered, IsShared, AreShared}
 use Rattle.sqlite_value.specs.Order as sql
 use Rattle.audit_rows.proofs.JoinLemmas.{unmapped_bag}
@@ -8,7 +8,7 @@ use Rattle.books_audit.specs.Listed.{AreRows, IsListed, FullOf}
 use Rattle.books_audit.proofs.Ranges.{ranged}
 use Rattle.books_audit.specs.ReadLists.{RowsRead}
 
--- the values of which so much is kept, and whose columns are the table's rows
+-- values whose columns are the table's rows; `xs` is what is kept of the values
 pub record Fulls {X F : Type 0} (columns : F → sql.Row) (Fits : F → Type 0) (small : F → X) (xs : List X) (rows : List sql.Row) : Type 0 where
   pub its : List F
   pub has : IsPermutation rows (map columns its)
@@ -38,7 +38,7 @@ module _ {X F : Type 0} (columns : F → sql.Row) (Fits : F → Type 0) (small :
   pub full_rows : {rows : List sql.Row} {kept : List X} → RowsRead (FullOf columns Fits small) rows kept → Fulls columns Fits small kept rows
   full_rows {rows} {kept} r = fulls r.found kept rows r.are_rows r.same
 
--- where what is kept tells the value, the values are those that it tells
+-- if what is kept determines the value, the values can be recovered from it
 pub seen_all : {X F : Type 0} (seen : X → F) (small : F → X) → ((it : F) → seen (small it) ≡ it) → (its : List F) {xs : List X} → map small its ≡ xs → its ≡ map seen xs
 seen_all seen small again its keeps = sym (map-undone seen small again its) ∙ ap (map seen) keeps
 
@@ -60,7 +60,7 @@ module _ {A : Type 0} where
   pub shared_fit : (P : A → Type 0) (its : List (ℕ × A)) → AllByRecursion (IsShared P) its → AllByRecursion P (map (λ (it : ℕ × A). it.1) its)
   shared_fit P its h = all_map P (λ it. it.1) its (all_weaker (IsShared P) (λ it. P it.1) (λ it fits. fits.1) its h)
 
-  -- numbers that count are those of places
+  -- if the numbers count from 1, each number is its row's place
   pub shared_rows : (columns : ℕ × A → sql.Row) (rows : List sql.Row) (its : List (ℕ × A)) → IsCounted 1 (map (λ (it : ℕ × A). it.0) its) → IsPermutation rows (map columns its)
       → IsPermutation rows (map columns (numbered (map (λ (it : ℕ × A). it.1) its)))
   shared_rows columns rows its c p = subst (λ l. IsPermutation rows (map columns l)) (sym (counted_from 1 its c)) p

@@ -13,7 +13,7 @@ use Rattle.books_audit.proofs.Ranges.{in_range, ranged}
 abbrev pub kept_kinds : List Kind
 kept_kinds = kind.Below (2 ^ 32) ∷ kind.Key ∷ kind.Bytes ∷ kind.Words ∷ []
 
--- cells, of which the bytes are the form of a command of the caller, are those of a kept command
+-- if the bytes in the cells are the form of a command of the caller, the cells are a kept command's
 pub kept_full : (v : Values kept_kinds) → FitEach kept_kinds v → HasForm v.0 v.1.1.0 → FullOf any_columns AnyFits caller_row (record { caller = v.0; key = v.1.0 }) (columns_of kept_kinds v)
 kept_full v fits form = go v.0 v.1.0 v.1.1.0 v.1.1.1.0 fits form
   where

@@ -1,4 +1,4 @@
--- The table of kept commands stands for head office's and for the branches'.
+-- The table of kept commands stands for head office's commands and for the branches' commands.
 use Rattle.shop_schema.proofs.Common.{◌≡◌, ◌≢◌, ◌++◌, ℕ, List, [], ◌∷◌, map, refl, sym, ap, subst, ◌∙◌, arith, IsPermutation, AllByRecursion, IsPermutation-trans, IsPermutation-append_comm, Owned, Kept, OfficeKept, kept_columns, office_kept_columns, kept_rows, IsNumber, IsKept, IsOfficeKept}
 use Rattle.sqlite_value.specs.Order as sql
 use Rattle.audit_rows.specs.Lists.{Key}
@@ -11,7 +11,7 @@ use Rattle.books_audit.specs.Keys.{office_caller, branch_caller}
 use Rattle.books_audit.specs.ReadLists.{RowsRead}
 use Rattle.books_audit.proofs.FullLists.{full_rows}
 
--- ---- head office's stand in front
+-- ---- head office's commands come first
 
 pub record SplitKept (keys : List Key) (others : List CheckedKept) (its : List AnyKept) : Type 0 where
   pub office : List OfficeKept

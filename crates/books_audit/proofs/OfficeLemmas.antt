@@ -1,4 +1,4 @@
--- The parts of each act of head office are those of its form, both ways.
+-- The parts of each act of head office match its form, in both directions.
 use Rattle.shop_schema.proofs.Common.{◌≡◌, ◌↔◌, ◌≤◌, ℕ, List, [], ◌∷◌, ◌++◌, map, length, Option, None, Bool, true, false, refl, sym, ap, subst, arith, append-nil, Text, Person, ByCode, ByComment, OfficeAct, AddCountry, AddCity, AddLanguage, AddCategory, AddActor, AddFilm, PriceFilm, WithdrawFilm, AddCast, AddBranch, AddStaff, StaffLeaves, SetManager, ChooseRule, joined, number_form, text_form, numbers_form, option_form, flag_form, person_form, branch_form, office_form, IsOfficeAct}
 use Rattle.books_audit.specs.declared.parts.Part.{Part}
 use Rattle.books_audit.specs.declared.office.TheConstants.{OFFICE_ACTS}
@@ -9,7 +9,7 @@ use Rattle.books_audit.proofs.PartForms.{OfAll, ◌also◌, told, of_one}
 abbrev pub office_acts : List (List Part)
 office_acts = map (λ parts. parts.now) OFFICE_ACTS
 
--- ---- forms that are told as parts otherwise: a name alone, staff behind a number, and no manager
+-- ---- forms whose lists of parts are built otherwise: a name alone, staff after a number, and no manager
 
 named : (n : ℕ) (name : Text) → n ∷ (text_form name ++ []) ≡ n ∷ text_form name
 named n name = ap (λ (bytes : List ℕ). n ∷ bytes) (append-nil (text_form name))

@@ -24,7 +24,7 @@ module _ (tables : TableRows) (c : Books) (stands : StandsForBooks tables c) (or
       let canon = one_canon tables c b stands.without_counts t.without_counts order in
       counts_moved audit b.copies c.copies (all_lines b) (all_lines c) (canon.rows CopyRows) (IsPermutation-flat_map (λ (it : Consignment). it.lines) b.consignments c.consignments canon.consignments) k
 
-  -- where canonical books stand, an audit says what holds of them
+  -- if the tables stand for canonical books, an audit says what holds of the books
   pub audit_by : (audit : Audit) → ((rules : Rules) → IsTrue audit.sound ↔ IsSound (widest rules) c) → Counts audit c → IsAuditOf tables audit
   audit_by audit is k = record {
     sound = λ rules. (

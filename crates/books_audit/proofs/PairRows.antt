@@ -1,4 +1,4 @@
--- Consignments in the order of their keys, counted one after another: those of a pair of branches stand together.
+-- Consignments in the order of their keys, counted one after another: consignments of the same pair of branches are neighbours.
 use Rattle.shop_schema.proofs.Common.{◌≡◌, ◌∙◌, ◌+◌, ◌<◌, ◌==◌, ◌&&◌, ℕ, List, [], ◌∷◌, ◌++◌, map, length, drop, get_or, drop-cons, add-one, suc, true, false, refl, sym, ap, subst, arith, AllByRecursion, all-append, and_parts, same_if, same_test, nat_tests, append-nil, map_push, Pair, is_pair, count_pair}
 use Rattle.audit_rows.specs.Lists.{Key, is_below, climbs_above}
 use Rattle.audit_rows.specs.declared.rows.CheckedHeader.{CheckedHeader}
@@ -55,7 +55,7 @@ key row = row.source ∷ row.addressee ∷ row.number ∷ []
 abbrev so_many : CheckedHeader → ℕ → Pair
 so_many row n = record { source = row.source; addressee = row.addressee; last = n }
 
--- what holds behind it
+-- what holds after a consignment
 pub record Follows (ps : List Pair) (row : CheckedHeader) (n : ℕ) (rest : List CheckedHeader) (all : List Pair) : Type 0 where
   pub same : pairs_among (ps ++ so_many row n ∷ []) rest ≡ all
   pub below : Below row.source row.addressee ps

@@ -1,4 +1,4 @@
--- What a list of parts is told of: its forms, one part after another, and the first byte that tells it.
+-- How to prove something of all forms of a list of parts: one part after another, and by the first byte, which says which list it is.
 use Rattle.shop_schema.proofs.Common.{◌≡◌, ◌↔◌, ◌+◌, ℕ, zero, suc, List, [], ◌∷◌, ◌++◌, length, map, Bor, Option, Some, None, option_map, refl, sym, ap, subst, ◌∙◌, arith}
 use Rattle.std.proofs.lemmas.Option.{slice_get-map}
 use Rattle.std.specs.Prelude.{slice_get, unwrap_or}
@@ -8,7 +8,7 @@ use Rattle.books_audit.proofs.Ends.{as_held, as_part}
 
 -- ---- parts, one after another
 
--- it holds of the forms of all that such parts may hold
+-- P holds of the forms of all values that the parts may have
 abbrev pub OfParts : List Part → (List ℕ → Type 0) → Type 0
 OfParts [] P = P []
 OfParts (part ∷ parts) P = (held : Held part) → MayHold part held → OfParts parts (λ rest. P (held_form part held ++ rest))
@@ -23,16 +23,16 @@ by_form : (parts : List Part) (P : List ℕ → Type 0) → ((bytes : List ℕ) 
 by_form [] P all = all [] refl
 by_form (part ∷ parts) P all = λ held may. by_form parts (λ rest. P (held_form part held ++ rest)) (λ rest form. all (held_form part held ++ rest) (held_form part held, rest, as_part part (held_form part held) (held, may, refl), form, refl))
 
--- ---- one of several lists of parts, which the first byte tells
+-- ---- one of several lists of parts, given by the first byte
 
 abbrev parts_at : List (List Part) → ℕ → List Part
 parts_at forms place = unwrap_or (slice_get forms place) []
 
--- what the parts at that place may hold is such a form
+-- the forms of the values that the parts at the place may have are such forms
 pub told : (forms : List (List Part)) (place : ℕ) → slice_get forms place ≡ Some (parts_at forms place) → OfParts (parts_at forms place) (λ rest. IsOneOf forms ((place + 1) ∷ rest))
 told forms place there = by_form (parts_at forms place) (λ rest. IsOneOf forms ((place + 1) ∷ rest)) (λ rest form. (place, parts_at forms place, rest, there, form, refl))
 
--- it holds of all such forms, those from that number on
+-- P holds of the forms of all lists of parts, which are numbered from n
 abbrev pub OfAll : (List ℕ → Type 0) → ℕ → List (List Part) → Type 0
 OfAll P n [] = Unit {0}
 OfAll P n (parts ∷ forms) = OfParts parts (λ rest. P (n ∷ rest)) × OfAll P (n + 1) forms
@@ -51,7 +51,7 @@ infixr 3 ◌also◌
 pub ◌also◌ : {A B : Type 0} → A → B → A × B
 a also b = (a, b)
 
--- so it holds of each
+-- so P holds of each form
 pub of_one : (P : List ℕ → Type 0) (forms : List (List Part)) → OfAll P 1 forms → (bytes : List ℕ) → IsOneOf forms bytes → P bytes
 of_one P forms all bytes (place, parts, rest, there, form, e) =
     let same : 1 + place ≡ place + 1 = omega arith in

@@ -1,4 +1,4 @@
--- The tables at their places: the texts that read them select all columns of each, and what their rows are by name, and one after another.
+-- The tables at their places: each table's text selects all its columns, and each table's rows can be found by name and one after another.
 use Rattle.shop_schema.proofs.Common.{ℕ, ◌+◌, zero, suc, List, [], ◌∷◌, map, drop, refl, IsPermutation, Books, Customers, CopyRows, Rentals, TermRows, Payments, rows_of, counts_of, AreTermed, shop_schema, chain_table, copy_table, consignment_line_table}
 use Rattle.sqlite_value.specs.Order as sql
 use Rattle.sqlite_tied.specs.Compute.{everything}
@@ -55,7 +55,7 @@ others =
 
 -- ---- their rows
 
--- those of one table, among these from a place on
+-- the rows of the table with number n in a list of tables that begins at a place
 abbrev IsAt : TableRows → ℕ → ℕ → List (List sql.Row) → Type 0
 IsAt tables n place [] = Unit {0}
 IsAt tables zero place (rows ∷ lists) = IsPermutation (rows_in tables place) rows

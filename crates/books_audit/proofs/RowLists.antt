@@ -9,7 +9,7 @@ module _ {X : Type 0} (Is : X → Row → Type 0) where
   again [] x xs = λ i. x ∷ xs
   again (k ∷ kept) x xs = λ i. k ∷ again kept x xs i
 
-  -- what was kept so far, with whatever is kept of the rest, is kept of all
+  -- what was kept so far, followed by what is kept of the rest, is kept of all rows
   abbrev pub Continues : List X → List Row → List Row → Type 0
   Continues kept rest rows = (xs : List X) → AreRows Is xs rest → AreRows Is (kept ++ xs) rows
 

@@ -13,12 +13,12 @@ pub one_shared : {A : Type 0} (P : A → Type 0) {columns : ℕ × A → sql.Row
     → IsPermutation rows (map columns (numbered xs)) → IsPermutation rows (map columns (numbered ys)) → xs ≡ ys
 one_shared P {columns} t {rows} {xs} {ys} f g p q = one_numbered xs ys (same_rows columns (IsShared P) (same_row t) rows (numbered ys) (numbered xs) (each_shared P ys g) (each_shared P xs f) q p)
 
--- any other stands for one bag
+-- any other table stands for one bag
 pub one_bag : {A : Type 0} {columns : A → sql.Row} {IsOne : A → Type 0} → TableOf columns IsOne → {rows : List sql.Row} {xs ys : List A} → AllByRecursion IsOne xs → AllByRecursion IsOne ys
     → IsPermutation rows (map columns xs) → IsPermutation rows (map columns ys) → IsPermutation xs ys
 one_bag {columns = columns} {IsOne = IsOne} t {rows} {xs} {ys} f g p q = same_rows columns IsOne (same_row t) rows xs ys f g p q
 
--- and one with one row for one value
+-- and a table with one row stands for one value
 pub one_value : {A : Type 0} {columns : A → sql.Row} {IsOne : A → Type 0} → TableOf columns IsOne → {rows : List sql.Row} {x y : A} → IsOne x → IsOne y
     → IsPermutation rows (columns x ∷ []) → IsPermutation rows (columns y ∷ []) → x ≡ y
 one_value {columns = columns} t {x = x} {y = y} f g p q = same_row t x y f g (first (columns x) (columns y) (short_bag _ _ (IsPermutation-trans _ _ _ (IsPermutation-sym _ _ p) q) (omega arith)))

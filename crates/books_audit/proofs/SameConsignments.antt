@@ -56,7 +56,7 @@ module _ (tables : TableRows) (c b : Books) (s : HaveBooks tables c) (t : HaveBo
       same_rows placed_columns IsPlaced (same_row audited.lines) (rows_in tables LINES) (flat_map placed b.consignments) (flat_map placed c.consignments) (lines_fit b.consignments t.values.consignments)
       (lines_fit c.consignments s.values.consignments) (placed_rows tables b t) (placed_rows tables c s)
 
-  -- where those of the one stand in the order of their keys, they are those of the other
+  -- if the consignments of c can be put in the order of their keys, the consignments of b are the same
   pub consignments : (its : List Consignment) → IsPermutation c.consignments its → climbs (map header_key (map header its)) ≡ true → climbs (map placed_key (flat_map placed its)) ≡ true → IsPermutation b.consignments c.consignments
   consignments its p up down =
       let found = join_complete b.consignments (map header its) (flat_map placed its) (IsPermutation-trans _ _ _ headers (IsPermutation-map header _ _ p))

@@ -31,7 +31,7 @@ module _ {A S : Type 0} (columns : ℕ × A → sql.Row) (P : A → Type 0) (see
         keeps = are;
       }
 
--- ---- branches, whose last moments stand in a list of their own
+-- ---- branches, whose last moments are in a list of their own
 
 abbrev Told : Type 0
 Told = Branch × Option Moment

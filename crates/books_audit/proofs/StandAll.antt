@@ -1,4 +1,4 @@
--- All tables, where they stand for books, can be read.
+-- If tables stand for books, all tables can be read.
 use Rattle.shop_schema.proofs.Common.{◌∙◌, ◌==◌, ◌&&◌, ◌<◌, ◌^◌, [], ◌∷◌, map, IsCounted, numbered, refl, sym, subst, all_of, length_permutation, bytes_eq, Owned, Text, Cast, Books, rows_of, chain_columns, rule_columns, IsToken, IsName, IsCity, IsActor, IsFilm, IsStaff}
 use Rattle.shop_schema.proofs.Lasts.{numbered_counted}
 use Rattle.shop_schema.proofs.ShopTables as table

@@ -1,4 +1,4 @@
--- The table of kept commands, where it stands for books, can be read.
+-- If the table of kept commands stands for books, it can be read.
 use Rattle.shop_schema.proofs.Common.{◌≡◌, ◌∙◌, List, [], ◌∷◌, ◌++◌, map, true, refl, sym, ap, IsPermutation, AllByRecursion, bytes_eq, IsPermutation-sym, IsPermutation-trans, Owned, are_different, Kept, OfficeKept, Books, kept_rows, IsNumber, IsKept, IsOfficeKept}
 use Rattle.books_audit.specs.Listed.{AreRows, IsListed}
 use Rattle.books_audit.specs.Kept.{OfBranch, OfOffice, caller_row, IsCallerRow}
@@ -24,7 +24,7 @@ all_ones [] [] h k = tt
 all_ones [] (it ∷ office) h k = ((caller_row (OfOffice it), record { it = OfOffice it; has = refl; fits = k.0; keeps = refl }), all_ones [] office h k.1)
 all_ones (row ∷ kept) office h k = ((caller_row (OfBranch row), record { it = OfBranch row; has = refl; fits = h.0; keeps = refl }), all_ones kept office h.1 k)
 
--- ---- no two have one key
+-- ---- no two rows have one key
 
 module _ (tables : TableRows) (b : Books) (t : HaveBooks tables b) where
   ones : AllByRecursion (IsListed IsCallerRow) (rows_in tables KEPT)

@@ -1,4 +1,4 @@
--- The tables of consignments, where they stand for books, can be read in the order of their keys and joined.
+-- If the tables of consignments stand for books, they can be read in the order of their keys and joined.
 use Rattle.shop_schema.proofs.Common.{◌≡◌, ◌∙◌, ◌+◌, ◌<◌, ◌==◌, ◌&&◌, ◌||◌, ℕ, List, [], ◌∷◌, ◌++◌, map, not, Bool, true, false, refl, sym, ap, arith, IsPermutation, AllByRecursion, flat_map, list_any, bytes_eq, nat_tests, IsPermutation-map, IsPermutation-sym, IsPermutation-trans, map-map, numbered_from, are_different, Books, Line, Consignment}
 use Rattle.std.proofs.lemmas.List.Folds.{list_any-append}
 use Rattle.books_audit.specs.Listed.{AreRows}

@@ -1,4 +1,4 @@
--- Each rental has its terms in rows in order exactly where it has them in the books that have these rows.
+-- Each rental has its terms in rows in order exactly if it has them in the books that have the rows.
 use Rattle.shop_schema.proofs.Common.{◌≡◌, ◌&&◌, ◌==◌, List, [], ◌∷◌, map, Bool, true, false, refl, sym, ap, subst, subst₂, ◌∙◌, arith, true≢false, IsPermutation, bytes_eq, IsPermutation-refl, length_permutation, map-map, Books, TermRows, Rentals, rows_of, AreTermed}
 use Rattle.audit_rows.specs.Canons.{row_key}
 use Rattle.audit_rows.specs.Lists.{Key, is_below, climbs, climbs_above, same_lists}

@@ -1,4 +1,4 @@
--- A query of a whole table tells its rows.
+-- A query of a whole table returns the table's rows.
 use Rattle.shop_schema.proofs.Common.{◌≡◌, ◌+◌, ℕ, zero, suc, length, get_or, arith, ◌++◌, append-nil, append_assoc, List, [], ◌∷◌, refl, map, cond, true, ap, sym, subst, ◌∙◌, IsPermutation, flat_map, IsPermutation-map, IsPermutation-sym, column, Trees, Output, output, overlay, State, columns_of, columns_from, eval_all, Table, shown_same, plain_query, answers, shop_schema, IsShop, cols}
 use Rattle.sqlite_value.specs.Order.{Row}
 use Rattle.sqlite.specs.State.{Shown}
@@ -32,7 +32,7 @@ module _ (t : Table) (text : List ℕ) (means : SelectsWhole t text) where
 
 -- ---- one text after another
 
--- the tables that are left, and what their rows make with those that were read
+-- the tables that are still to be read, and what their rows make together with the rows that were read
 pub record SoFar (trees : Trees) (left : List (List ℕ)) (all : List (List Row)) (ts : List Table) : Type 0 where
   pub us : List Table
   pub select : SelectEach us left
@@ -62,7 +62,7 @@ all_read trees all ts so = go so.us so.select so.have
 
 -- ---- the rows of each table, at its place
 
--- where these lists are those from a place on
+-- if the lists are the tables' rows from a place on
 in_places : (trees : Trees) (tables : TableRows) (place : ℕ) (ts : List Table) (lists : List (List Row)) → ((n : ℕ) → rows_in tables (place + n) ≡ get_or lists n []) → HaveRows ts trees lists
     → HaveEach tables place (map (λ t. map (columns_of (length t.columns)) (trees t.tree)) ts)
 in_places trees tables place [] lists are h = tt

@@ -1,4 +1,4 @@
--- The tables that only an audit reads so, each as one value.
+-- The tables that only an audit reads in this way, each as one value.
 use Rattle.std.specs.Prelude.{[], ◌∷◌, refl}
 use Rattle.shop_schema.specs.Kinds as kind
 use Rattle.shop_schema.specs.TableOf.{TableOf}

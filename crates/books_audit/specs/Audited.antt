@@ -1,4 +1,4 @@
--- What an audit of custody says of rows, whatever they are.
+-- What an audit of custody says of any rows.
 use Rattle.std.specs.Prelude.{◌≡◌, ◌↔◌, ◌+◌, List, map, IsTrue, IsPermutation}
 use Rattle.std.specs.List.{AllByRecursion}
 use Rattle.sqlite_value.specs.Order as sql
@@ -12,7 +12,7 @@ use Rattle.audit_rows.specs.Marked.{AreInCustody, any_mark}
 use Rattle.books_audit.specs.Columns.{placed_columns, IsPlaced}
 use Rattle.shop_types.specs.declared.audit.Audit.{Audit}
 
--- the rows are those of these copies and of these lines, in any order
+-- the rows stand for these copies and lines, in any order
 pub record StandFor (copy_rows line_rows : List sql.Row) (copies : List (Row BookCopy)) (lines : List Placed) : Type 0 where
   pub copies_are : IsPermutation copy_rows (map copy_columns copies)
   pub copy_values : AllByRecursion (IsRow IsCopy) copies
@@ -38,13 +38,13 @@ pub record CountsNothing (audit : Audit) : Type 0 where
 abbrev pub Stand : List sql.Row → List sql.Row → Type 0
 Stand copy_rows line_rows = (copies : List (Row BookCopy)) × (lines : List Placed) × StandFor copy_rows line_rows copies lines
 
--- Where some row is no copy's or no line's, nothing is sound and nothing is counted.
+-- The audit of rows. If some row is no copy's or no line's, nothing is sound and nothing is counted.
 pub record IsCustodyAudit (copy_rows line_rows : List sql.Row) (audit : Audit) : Type 0 where
   pub sound : IsTrue audit.sound ↔ ((copies : List (Row BookCopy)) × (lines : List Placed) × StandFor copy_rows line_rows copies lines × AreInCustody copies (lines_of lines))
   pub counts : (copies : List (Row BookCopy)) (lines : List Placed) → StandFor copy_rows line_rows copies lines → CountsCustody audit copies (lines_of lines)
   pub nothing : ¬ Stand copy_rows line_rows → CountsNothing audit
 
--- the same of copies and lines that are known
+-- the same for copies and lines that are known
 pub record AuditsRows (audit : Audit) (copies : List (Row BookCopy)) (lines : List Line) : Type 0 where
   pub sound : IsTrue audit.sound ↔ AreInCustody copies lines
   pub counts : CountsCustody audit copies lines

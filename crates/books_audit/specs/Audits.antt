@@ -1,4 +1,4 @@
--- What an audit says of rows, whatever they are.
+-- What an audit says of any rows.
 use Rattle.std.specs.Prelude.{List, ◌≡◌, ◌↔◌, ◌==◌, ◌&&◌, Bool, true, [], ◌∷◌, map, flat_map, IsTrue, IsPermutation}
 use Rattle.std.specs.Str.{bytes_eq}
 use Rattle.shop_model.specs.Rows.{Row, Owned, numbered}
@@ -28,7 +28,7 @@ use Rattle.books_audit.specs.declared.tables.TheConstants.{CHAIN, COUNTRIES, LAN
 
 -- ---- standing for books
 
--- Each table but those of counts has the rows of the books, in any order.
+-- Each table, except the tables of counts, has the rows of the books, in any order.
 pub record HaveRowsOf (tables : TableRows) (books : Books) : Type 0 where
   pub chain : IsPermutation (rows_in tables CHAIN) (chain_columns books.catalogue.office_token ∷ [])
   pub countries : IsPermutation (rows_in tables COUNTRIES) (map named_columns (numbered books.catalogue.countries))
@@ -47,14 +47,14 @@ pub record HaveRowsOf (tables : TableRows) (books : Books) : Type 0 where
   pub kept : IsPermutation (rows_in tables KEPT) (kept_rows books.kept books.catalogue.kept)
   pub rule : IsPermutation (rows_in tables RULE) (rule_columns books.catalogue.rule ∷ [])
 
--- the tables of counts say what the books have, and each rental has its terms
+-- the tables of counts have the counts of the books, and each rental has its terms
 pub record HaveCountsOf (tables : TableRows) (books : Books) : Type 0 where
   pub counters : IsPermutation (rows_in tables COUNTERS) (map counter_columns (counts_of books).counters)
   pub outs : IsPermutation (rows_in tables OUTS) (map out_columns (counts_of books).outs)
   pub pairs : IsPermutation (rows_in tables PAIRS) (map pair_columns (counts_of books).pairs)
   pub terms : AreTermed books
 
--- the primary keys of the tables: of those whose rows have numbers from their places there is nothing to say
+-- the primary keys of the tables; tables whose numbers are the places of their rows need no condition
 abbrev pub same_row : {A : Type 0} → Row A → Row A → Bool
 same_row a b = a.branch == b.branch && a.number == b.number
 
@@ -66,7 +66,7 @@ pub record HaveKeys (books : Books) : Type 0 where
   pub kept : are_different (λ (a b : Owned Kept). a.owner == b.owner && bytes_eq a.it.command.key b.it.command.key) books.kept ≡ true
   pub office_kept : are_different (λ (a b : OfficeKept). bytes_eq a.command.key b.command.key) books.catalogue.kept ≡ true
 
--- what standing for books is but for the counts
+-- the tables stand for the books, apart from the counts
 pub record HaveBooks (tables : TableRows) (books : Books) : Type 0 where
   pub rows : HaveRowsOf tables books
   pub values : AreValues books
@@ -85,7 +85,7 @@ Counts audit books = CountsCustody audit books.copies (all_lines books)
 abbrev pub AreSound : Rules → TableRows → Type 0
 AreSound rules tables = (books : Books) × StandsForBooks tables books × IsSound (widest rules) books
 
--- of the rules the sizes alone are read, so that it says the same whatever they are
+-- only the sizes in the rules are used, so the audit is the same for all rules
 pub record IsAuditOf (tables : TableRows) (audit : Audit) : Type 0 where
   pub sound : (rules : Rules) → IsTrue audit.sound ↔ AreSound rules tables
   pub counts : (books : Books) → StandsForBooks tables books → Counts audit books

@@ -1,4 +1,4 @@
--- The tables of branches' numbered rows: where each stands, its columns, and what is kept of its rows.
+-- The tables of branches' numbered rows: each table's place, its columns, and what is kept of its rows.
 use Rattle.std.specs.Prelude.{ℕ}
 use Rattle.sqlite_value.specs.Order as sql
 use Rattle.shop_model.specs.Rows.{Row}
@@ -31,6 +31,6 @@ table_of Rentals = table.rentals
 table_of TermRows = table.terms
 table_of Payments = table.payments
 
--- this is kept of the row
+-- the value is kept of the row
 abbrev pub IsKeptRow : (t : Table) → CheckedOf t → sql.Row → Type 0
 IsKeptRow t = FullOf (row_columns t) (IsRow (IsRowOf t)) (checked_row t)

@@ -1,4 +1,5 @@
--- The columns of rows that only an audit reads so: branches with their last moments, consignments without their lines, and lines with the keys of their consignments.
+-- The columns of rows that only an audit reads in this way: branches with their last moments, consignments without their lines, and lines with their
+-- consignments' keys.
 use Rattle.std.specs.Prelude.{ℕ, [], ◌∷◌, Option, IfSome}
 use Rattle.sqlite.specs.declared.types.Value.TheVariants.{Text}
 use Rattle.sqlite.specs.Values.{or_null}

@@ -54,7 +54,7 @@ abbrev pub IsForm : List Part → List ℕ → Type 0
 IsForm [] bytes = bytes ≡ []
 IsForm (p ∷ ps) bytes = (piece : List ℕ) × (rest : List ℕ) × IsPartForm p piece × IsForm ps rest × (bytes ≡ piece ++ rest)
 
--- the first byte tells which of these lists of parts it is, counting from 1, and the bytes behind it are their form
+-- the first byte is the place of a list of parts, counted from 1, and the bytes after it are a form of that list
 abbrev pub IsOneOf : List (List Part) → List ℕ → Type 0
 IsOneOf forms bytes = (place : ℕ) × (parts : List Part) × (rest : List ℕ) × (slice_get forms place ≡ Some parts) × IsForm parts rest × (bytes ≡ (place + 1) ∷ rest)
 

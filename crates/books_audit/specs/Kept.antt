@@ -1,4 +1,4 @@
--- Kept commands, each with its caller: what is kept of their rows.
+-- Kept commands, each with its caller, and what is kept of their rows.
 use Rattle.std.specs.Prelude.{◌≡◌, ◌≢◌, ℕ, List}
 use Rattle.shop_model.specs.Rows.{Owned}
 use Rattle.shop_model.specs.Shop.{Kept, OfficeKept}
@@ -27,7 +27,7 @@ caller_row (OfOffice it) = record { caller = 0; key = it.command.key }
 abbrev pub IsCallerRow : CallerRow → sql.Row → Type 0
 IsCallerRow = FullOf any_columns AnyFits caller_row
 
--- the bytes are the form of a command of head office where the caller is 0, and else of a branch
+-- if the caller is 0, the bytes are the form of a command of head office; otherwise they are the form of a branch's command
 pub record HasForm (caller : ℕ) (form : List ℕ) : Type 0 where
   pub office : caller ≡ 0 → IsOfficeForm form
   pub branch : caller ≢ 0 → IsCommandForm form

@@ -1,4 +1,4 @@
--- What the tables of counts have to say of rows in order, and what an audit says of such rows.
+-- What rows the tables of counts must have for rows in order, and what an audit says of such rows.
 use Rattle.std.specs.Prelude.{◌≡◌, ◌↔◌, IsTrue, ◌==◌, ◌&&◌, ℕ, Bool, true, false, List, [], ◌∷◌, map, filter, flat_map, fold, length, is_none, IsPermutation}
 use Rattle.shop_model.specs.Rows.{numbered}
 use Rattle.shop_schema.specs.RowValues.{counter_columns, out_columns, pair_columns}
@@ -19,7 +19,7 @@ use Rattle.books_audit.specs.Tables.{rows_in}
 use Rattle.books_audit.specs.declared.tables.TableRows.{TableRows}
 use Rattle.books_audit.specs.declared.tables.TheConstants.{COUNTERS, OUTS, PAIRS}
 
--- ---- counts of rows in order, as those of books
+-- ---- the counts of rows in order, which are the counts of books
 
 abbrev pub how_many : {X : Type 0} → (X → ℕ) → ℕ → List X → ℕ
 how_many branch b xs = length (filter (λ x. branch x == b) xs)
@@ -56,14 +56,14 @@ are_termed [] (rental ∷ rentals) = false
 are_termed (it ∷ terms) [] = false
 are_termed (it ∷ terms) (rental ∷ rentals) = it.branch == rental.branch && it.number == rental.number && are_termed terms rentals
 
--- the tables of counts say of these rows what they have, and each rental has its terms
+-- the tables of counts have the counts of the rows, and each rental has its terms
 pub record HaveCounts (tables : TableRows) (rows : OrderedBooks) : Type 0 where
   pub counters : IsPermutation (rows_in tables COUNTERS) (map counter_columns (counters_in rows))
   pub outs : IsPermutation (rows_in tables OUTS) (map out_columns (outs_in rows))
   pub pairs : IsPermutation (rows_in tables PAIRS) (map pair_columns (pairs_in rows))
   pub terms : are_termed rows.terms.items rows.rentals.items ≡ true
 
--- the audit says of these rows what holds of the books that have them
+-- the audit says of the rows what holds of the books that have them
 pub record AuditsOrdered (rows : OrderedBooks) (audit : Audit) : Type 0 where
   pub sound : (rules : Rules) (whole : Books) → HaveOrderedRows rows whole → IsTrue audit.sound ↔ IsSound (widest rules) whole
   pub counts : CountsCustody audit (map seen_copy rows.copies.items) (map seen_line rows.lines.items)

@@ -1,4 +1,4 @@
--- What reading all tables but those of counts makes sure of, and what it needs.
+-- What is true once all tables except the tables of counts were read, and what their reading requires.
 use Rattle.std.specs.Prelude.{◌≡◌, List, [], ◌∷◌, map, length, Some, true}
 use Rattle.shop_model.specs.Books.{Consignment}
 use Rattle.audit_rows.specs.Lists.{climbs}
@@ -17,7 +17,7 @@ use Rattle.books_audit.specs.Tables.{rows_in}
 use Rattle.books_audit.specs.declared.tables.TableRows.{TableRows}
 use Rattle.books_audit.specs.declared.tables.TheConstants.{CHAIN, COUNTRIES, LANGUAGES, CATEGORIES, CITIES, ACTORS, FILMS, CASTS, BRANCHES, STAFF, LOTS, CONSIGNMENTS, LINES, RULE}
 
--- the rows of the two tables of consignments are those of consignments
+-- the rows of the two tables of consignments can be joined into consignments
 abbrev pub AreJoined : List CheckedHeader → List CheckedLine → Type 0
 AreJoined headers lines = (by_key : List Consignment) × (join (map seen_header headers) (map seen_placed lines) ≡ Some by_key)
 

@@ -1,4 +1,4 @@
--- What is read of a table's rows in order, and what the table has to be for that: what every table that stands for books is.
+-- What is read of a table's rows in order, and what the table must be for that. Every table that stands for books is so.
 use Rattle.std.specs.Prelude.{◌≡◌, ◌<◌, ◌^◌, ℕ, List, map, length, true, IsPermutation}
 use Rattle.std.specs.List.{AllByRecursion}
 use Rattle.std.specs.List.Sorted.{IsSortedByKey}
@@ -21,7 +21,7 @@ pub record IsSingle {X : Type 0} (Is : X → sql.Row → Type 0) (table : List s
   pub ones : AllByRecursion (IsListed Is) table
   pub one : length table ≡ 1
 
--- what was kept of a table's rows, in the order of their keys, of which no two are the same
+-- what was kept of a table's rows, in the order of their keys; no two keys are the same
 pub record KeyedRead {X : Type 0} (Is : X → sql.Row → Type 0) (key : X → Key) (table : List sql.Row) (kept : List X) : Type 0 where
   pub rows : RowsRead Is table kept
   pub climb : climbs (map key kept) ≡ true
@@ -37,7 +37,7 @@ pub record AreInPlaces {X : Type 0} (Is : X → sql.Row → Type 0) (number : X 
   pub few : length table < 2 ^ 32
   pub counted : (found sorted : List X) → AreRows Is found table → IsPermutation found sorted → IsSortedByKey number nat_cmp sorted → IsCounted 1 (map number sorted)
 
--- what was read of rows that are numbered 1, 2, .., in the order of their numbers, and what was kept of it
+-- what was read of rows that are numbered 1, 2, .., in the order of their numbers, without the numbers
 pub record PlacesRead {X S : Type 0} (Is : X → sql.Row → Type 0) (number : X → ℕ) (keep : X → S) (table : List sql.Row) (kept : List S) : Type 0 where
   pub found : List X
   pub are_rows : AreRows Is found table

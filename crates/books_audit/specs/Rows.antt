@@ -1,4 +1,4 @@
--- What is kept of the rows of each table but those of branches' numbered rows.
+-- What is kept of the rows of each table, except the branches' numbered rows.
 use Rattle.std.specs.Prelude.{ℕ, Bool, true, false, Option}
 use Rattle.shop_model.specs.Calendar.{Moment}
 use Rattle.shop_model.specs.Values.{Text, Branch, Rule, ByCode, ByComment}
@@ -45,7 +45,7 @@ IsRuleRow = FullOf rule_columns AnyRule rule_row
 abbrev pub IsCastRow : CheckedCast → sql.Row → Type 0
 IsCastRow = FullOf cast_columns IsCast cast_row
 
--- ---- those with a number
+-- ---- shared rows with a number
 
 abbrev pub shared_row : {A X : Type 0} → (A → X) → ℕ × A → SharedRow X
 shared_row small it = record { number = it.0; it = small it.1 }
@@ -60,7 +60,7 @@ IsNamedRow = IsSharedRow named_columns IsName (λ name. name)
 abbrev pub IsCityRow : SharedRow CheckedCity → sql.Row → Type 0
 IsCityRow = IsSharedRow city_columns IsCity city_row
 
--- of an actor nothing is kept but the number
+-- only the number of an actor is kept
 abbrev pub IsActorRow : SharedRow (Unit {0}) → sql.Row → Type 0
 IsActorRow = IsSharedRow actor_columns IsActor (λ it. tt)
 

@@ -13,7 +13,7 @@ use Rattle.books_audit.specs.Listed.{FullOf}
 use Rattle.books_audit.specs.AuditTables as audited
 use Rattle.books_audit.specs.Rows.{placed_row}
 
--- cells are those of one value
+-- the cells are the columns of one value
 pub full_row : {A X : Type 0} {columns : A → sql.Row} {IsOne : A → Type 0} (t : TableOf columns IsOne) (small : A → X) {x : X} (v : Values t.kinds) → FitEach t.kinds v → small (t.from v) ≡ x
     → FullOf columns IsOne small x (columns_of t.kinds v)
 full_row t small v fits keeps = record { it = t.from v; has = t.told v; fits = t.ones v fits; keeps = keeps }

@@ -1,4 +1,4 @@
--- The rows of tables, by the places of these, and what texts that read whole tables tell.
+-- The rows of tables, by each table's place, and what texts that read whole tables return.
 use Rattle.std.specs.Prelude.{ℕ, List, [], ◌∷◌, length, map, IsPermutation, ◌+◌, get_or}
 use Rattle.sqlite_trees.specs.Tree.{Trees}
 use Rattle.sqlite.specs.Table.{Table}
@@ -9,7 +9,7 @@ use Rattle.sql_rows.specs.Terms.{cols}
 use Rattle.books_audit.specs.declared.tables.TableRows.{TableRows}
 use Rattle.sqlite_value.specs.Order as sql
 
--- those of the table at the place; one that isn't there has none
+-- the rows of the table at the place; if there is no table at the place, there are none
 abbrev pub rows_in : TableRows → ℕ → List sql.Row
 rows_in tables place = get_or (map (λ rows. rows.items) tables.all.items) place []
 

@@ -24,7 +24,7 @@ IsTriple x r = triple_columns x ≡ r
 abbrev pub OneTriple : sql.Row → Type 0
 OneTriple r = (x : Triple) × IsTriple x r
 
--- in the place of each branch's number stands how many rows it has
+-- at each branch's number, the list has the count of the branch's rows
 pub record AreMany {X : Type 0} (branch : X → ℕ) (xs : List X) (places : ℕ) (counts : List ℕ) : Type 0 where
   pub many : length counts ≡ places
   pub each : (b : ℕ) → b < places → get_or counts b 0 ≡ how_many branch b xs

@@ -20,7 +20,7 @@ const FILE: Part = Part::Bytes(65_536);
 /// The number of a row, or none.
 const NUMBER_OR_NONE: Part = Part::Optional(1, 4_294_967_295);
 
-/// The parts of each act, behind the byte that tells it, which counts from 1.
+/// The parts of each act's form, after its first byte. The first byte is the act's place in this list, counted from 1.
 const ACTS: [&[Part]; 9] = [
     &[
         NAME,
@@ -40,14 +40,14 @@ const ACTS: [&[Part]; 9] = [
     &[NUMBER],
 ];
 
-/// Whether the bytes are the form of an act.
+/// Returns whether the bytes are the form of an act.
 fn is_act(bytes: &[u8]) -> bool
     ensures { IsTrue result ↔ IsActForm bytes.now }
 {
     is_one_of(&ACTS, bytes)
 }
 
-/// Whether the bytes are the form of a branch's command.
+/// Returns whether the bytes are the form of a branch's command.
 pub(crate) fn is_command(bytes: &[u8]) -> bool
     ensures { IsTrue result ↔ IsCommandForm bytes.now }
 {

@@ -17,11 +17,12 @@ use sql_rows::StoreFault;
 use sqlite::{Alter, Transaction};
 use std::alloc::Global;
 
-/// Whether the tables stand for sound books, by the widest limits that a chain can have, and how many copies those
-/// books have where. Tables that stand for no books aren't sound and count nothing: where a row is none of its
-/// table's, a number of a shared row or of a line is missing, a key is there twice, a line is of no consignment, a
-/// rental has no terms or terms have no rental, or a table of counts says anything but what the books have. It takes
-/// time n log n in the rows.
+/// Checks whether the tables stand for sound books, by the widest limits that a chain can have, and counts their
+/// copies by where the copies are. If the tables stand for no books, they aren't sound, and all counts are 0. They
+/// stand for no books if a row isn't one of its table's, or a shared row's or a line's number is missing. A key that
+/// is there twice, a line without a consignment, a rental without terms, and terms without a rental have the same
+/// effect. So has a table of counts that differs from the counts of the books. The time is n log n in the number of
+/// rows.
 #[tactic(auto, using(crate::proofs::InOrder::are_ordered))]
 pub fn check_books(alloc: Global, tables: &TableRows) -> Result<Audit, NoMemory>
     ensures { IfOk result (IsAuditOf tables.now) }
@@ -37,8 +38,8 @@ pub fn check_books(alloc: Global, tables: &TableRows) -> Result<Audit, NoMemory>
     audit_ordered(alloc, &rows)
 }
 
-/// The audit of a shop's tables, whatever they hold, which reads each once and changes none, also where the
-/// transaction has written.
+/// Audits a shop's tables, whatever they hold. It reads each table once and changes none, even if the transaction has
+/// written.
 pub fn audit_books<S: Alter>(
     alloc: Global,
     tx: &mut Transaction<'_, S>,

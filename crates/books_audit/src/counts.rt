@@ -1,4 +1,4 @@
-//! What the tables of counts, and that of terms, have to say of rows in order.
+//! Checks the tables of counts, and the table of terms, against rows in order.
 
 ghost use Rattle.std.specs.Prelude.{◌≡◌, ◌↔◌, ◌+◌, ◌≤◌, ◌==◌, ◌&&◌, [], ◌∷◌, ◌++◌, IsTrue, true, map, length, get_or, IsPermutation, IfOk, OnOk};
 ghost use Rattle.sql_rows.specs.Rows.{number_value};
@@ -30,7 +30,7 @@ pub(crate) struct Triple {
     pub(crate) third: u64,
 }
 
-/// Whether the value is a number from 0 on.
+/// Returns whether the value is a number from 0 on.
 fn is_number(value: ValueRef<'_>) -> bool
     ensures { IsTrue result ↔ IsWhole (owned value.entry) }
 {
@@ -43,7 +43,7 @@ fn is_number(value: ValueRef<'_>) -> bool
     }
 }
 
-/// Whether the column is there and has such a number.
+/// Returns whether the column is there and has such a number.
 fn is_number_at(row: &Row, at: usize) -> bool
     ensures { IsTrue result ↔ ((at + 1 ≤ length row.now) × IsWhole (column row.now at)) }
 {
@@ -53,7 +53,7 @@ fn is_number_at(row: &Row, at: usize) -> bool
     }
 }
 
-/// The number in the column.
+/// Reads the number in the column.
 fn number_in(row: &Row, at: usize) -> Result<u64, StoreFault>
     ensures { IfOk result (λ n. column row.now at ≡ number_value n) }
 {
@@ -63,7 +63,7 @@ fn number_in(row: &Row, at: usize) -> Result<u64, StoreFault>
     }
 }
 
-/// Whether the row has three numbers.
+/// Returns whether the row has three numbers.
 fn is_triple(row: &Row) -> bool
     ensures { IsTrue result ↔ OneTriple row.now }
 {
@@ -104,7 +104,7 @@ impl Keyed for Triple {
     }
 }
 
-/// Whether the table has these rows and no others, in whatever order.
+/// Returns whether the table has exactly these rows, in any order.
 fn has_rows(alloc: Global, rows: &[Row], wanted: Vec<Triple>) -> Result<bool, NoMemory>
     ensures { IfOk result (λ is. IsTrue is ↔ IsPermutation rows.now (map triple_columns wanted.items)) }
 {
@@ -115,7 +115,7 @@ fn has_rows(alloc: Global, rows: &[Row], wanted: Vec<Triple>) -> Result<bool, No
     Ok(same_bag(&mut found, &mut wanted))
 }
 
-/// A row for each open rental.
+/// Makes a row for each open rental.
 fn outs(alloc: Global, rentals: &[CheckedRow<Rental>]) -> Result<Vec<Triple>, NoMemory>
     ensures { IfOk result (λ all. map triple_columns all.items ≡ map out_columns (outs_among rentals.now)) }
 {
@@ -135,7 +135,7 @@ fn outs(alloc: Global, rentals: &[CheckedRow<Rental>]) -> Result<Vec<Triple>, No
     Ok(all)
 }
 
-/// The row of so many consignments from the one branch to the other.
+/// Makes the row of a pair of branches, with the count of its consignments.
 fn pair_of(header: &CheckedHeader, count: u64) -> Triple
     ensures { seen_pair result ≡ record { source = header.now.source; addressee = header.now.addressee; last = count } }
 {
@@ -146,14 +146,15 @@ fn pair_of(header: &CheckedHeader, count: u64) -> Triple
     }
 }
 
-/// Whether the second is of the same pair of branches.
+/// Returns whether both consignments are of the same pair of branches.
 fn is_same_pair(first: &CheckedHeader, second: &CheckedHeader) -> bool
     ensures { result ≡ (second.now.source == first.now.source && second.now.addressee == first.now.addressee) }
 {
     second.source.get() == first.source.get() && second.addressee.get() == first.addressee.get()
 }
 
-/// A row for each pair of branches that has a consignment. In the order of keys those of a pair stand together.
+/// Makes a row for each pair of branches that has a consignment. In the order of keys, a pair's consignments are
+/// neighbours.
 fn pairs(alloc: Global, headers: &[CheckedHeader]) -> Result<Vec<Triple>, NoMemory>
     requires { climbs (map (λ (row : CheckedHeader). row.source ∷ row.addressee ∷ row.number ∷ []) headers.now) ≡ true }
     ensures { IfOk result (λ all. map seen_pair all.items ≡ pairs_among [] headers.now) }
@@ -182,7 +183,7 @@ fn pairs(alloc: Global, headers: &[CheckedHeader]) -> Result<Vec<Triple>, NoMemo
     Ok(all)
 }
 
-/// How many of the rows each branch has, in the place of its number, where the places are counted from 0.
+/// Counts each branch's rows. The count of branch n is at index n.
 fn count_each<T: Owned>(alloc: Global, rows: &[T], places: usize) -> Result<Vec<u64>, NoMemory>
     ensures { IfOk result (λ counts. AreMany T.owner rows.now places counts.items) }
 {
@@ -195,7 +196,7 @@ fn count_each<T: Owned>(alloc: Global, rows: &[T], places: usize) -> Result<Vec<
     Ok(counts)
 }
 
-/// How many rows of each kind the branches have.
+/// The numbers of rows of each kind, by branch.
 #[derive(Drop)]
 pub(crate) struct Tallies {
     pub(crate) customers: Vec<u64>,
@@ -260,7 +261,7 @@ fn add_branch(
     add(all, caller, 4, tallies.kept[branch])
 }
 
-/// One row of head office's, and five of each branch.
+/// Makes the rows of the table of counts: one row for head office, and five rows for each branch.
 fn counters(alloc: Global, rows: &OrderedBooks) -> Result<Vec<Triple>, NoMemory>
     ensures { IfOk result (λ all. map triple_columns all.items ≡ map counter_columns (counters_in rows.now)) }
 {
@@ -273,15 +274,15 @@ fn counters(alloc: Global, rows: &OrderedBooks) -> Result<Vec<Triple>, NoMemory>
     Ok(all)
 }
 
-/// Whether the terms are those of the rental.
+/// Returns whether the terms belong to the rental.
 fn is_of(terms: &CheckedRow<CheckedTerms>, rental: &CheckedRow<Rental>) -> bool
     ensures { result ≡ (terms.now.branch == rental.now.branch && terms.now.number == rental.now.number) }
 {
     terms.branch.get() == rental.branch.get() && terms.number == rental.number
 }
 
-/// Whether each rental has one row of terms, under its branch and number, and there are no others. Both are in the
-/// order of their keys.
+/// Returns whether each rental has one row of terms, under its branch and number, and there are no other rows of terms.
+/// Both lists are in the order of their keys.
 fn are_termed(terms: &[CheckedRow<CheckedTerms>], rentals: &[CheckedRow<Rental>]) -> bool
     ensures { result ≡ are_termed terms.now rentals.now }
 {
@@ -298,7 +299,7 @@ fn are_termed(terms: &[CheckedRow<CheckedTerms>], rentals: &[CheckedRow<Rental>]
     rest.is_empty()
 }
 
-/// Whether the tables of counts say what the rows have, and each rental has its terms.
+/// Returns whether the tables of counts have the counts of the rows, and each rental has its terms.
 pub(crate) fn have_counts(
     alloc: Global,
     tables: &TableRows,

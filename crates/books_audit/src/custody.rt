@@ -16,7 +16,7 @@ use sql_rows::StoreFault;
 use sqlite::{Alter, Row, Transaction};
 use std::alloc::Global;
 
-/// Nothing is sound, and nothing counts.
+/// The audit of rows that can't be read: not sound, and nothing counted.
 pub(crate) const NOTHING: Audit = Audit {
     sound: false,
     made: 0,
@@ -25,7 +25,7 @@ pub(crate) const NOTHING: Audit = Audit {
     gone: 0,
 };
 
-/// How many copies are where, beside whether all is sound.
+/// Counts copies by where they are. The caller says whether all is sound.
 pub(crate) fn counted(
     sound: bool,
     copies: &[CheckedRow<CheckedCopy>],
@@ -43,7 +43,7 @@ pub(crate) fn counted(
     }
 }
 
-/// The audit of copies and lines that could be read.
+/// Audits copies and lines that could be read.
 fn audit_rows(
     alloc: Global,
     copies: &[CheckedRow<CheckedCopy>],
@@ -55,7 +55,7 @@ fn audit_rows(
     Ok(counted(sound, copies, lines))
 }
 
-/// The audit of custody over the rows of the two tables, as they were read.
+/// Audits custody by the rows of the two tables, as they were read.
 pub fn check_custody(alloc: Global, copies: &[Row], lines: &[Row]) -> Result<Audit, NoMemory>
     ensures { IfOk result (IsCustodyAudit copies.now lines.now) }
 {
@@ -68,8 +68,8 @@ pub fn check_custody(alloc: Global, copies: &[Row], lines: &[Row]) -> Result<Aud
     audit_rows(alloc, copies.as_slice(), lines.as_slice())
 }
 
-/// Whether each mark of a copy or a line is made, has one place and goes with one film, and how many there are,
-/// whatever the two tables hold. All tables stay as they are.
+/// Audits custody, whatever the two tables hold: whether each mark of a copy or a line is made, has one place and
+/// belongs to one film, and how many marks there are. All tables stay as they are.
 pub fn audit_custody<S: Alter>(
     alloc: Global,
     tx: &mut Transaction<'_, S>,

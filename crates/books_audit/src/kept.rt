@@ -21,7 +21,7 @@ pub(crate) struct Keys {
     pub(crate) kept: Vec<CheckedKept>,
 }
 
-/// The keys of caller 0, which is head office, and those of the others.
+/// Splits the keys into head office's, which is caller 0, and the branches'.
 fn split_callers(alloc: Global, rows: Vec<CallerRow>) -> Result<Keys, NoMemory>
     ensures same { IfOk result (λ keys. IsPermutation rows.items
         (map office_caller keys.office.items ++ map branch_caller keys.kept.items)) }
@@ -47,7 +47,8 @@ fn split_callers(alloc: Global, rows: Vec<CallerRow>) -> Result<Keys, NoMemory>
     Ok(Keys { office, kept })
 }
 
-/// The keys of each, in their order. There are no books where a row is no kept command's or one caller has a key twice.
+/// Reads the kept keys, in their order. If a row isn't a kept command's, or one caller has a key twice, there are no
+/// books.
 pub(crate) fn read_kept(alloc: Global, tables: &TableRows) -> Result<Keys, Unread>
     ensures read { IfOk result (λ keys. KeptAreRead tables.now keys.office.items keys.kept.items) }
     ensures none { IfErr result (λ e. e ≡ Unread.NoBooks → ¬ KeptCanBeRead tables.now) }

@@ -19,7 +19,7 @@ pub struct CallerRow {
     pub key: Key,
 }
 
-/// Whether the bytes are the form of a command of the caller.
+/// Returns whether the bytes are the form of a command of the caller.
 fn has_form(caller: u32, form: &[u8]) -> bool
     ensures { IsTrue result ↔ HasForm caller form.now }
 {

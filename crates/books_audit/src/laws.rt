@@ -6,9 +6,9 @@ ghost use Rattle.books_audit.specs.declared.tables.TableRows.{TableRows};
 ghost use Rattle.books_audit.specs.Audits.{IsAuditOf};
 ghost use Rattle.books_audit.specs.Shops.{HaveTables, IsAuditOfShop};
 
-/// Where rows are those of a shop's tables, their audit is that of the books for which the tables stand: it says
-/// sound exactly where the tables stand for sound books, and counts what these have. And rows of the same tables in
-/// another order have the same audit.
+/// If rows are a shop's tables', their audit is right for the books for which the tables stand. The audit is sound
+/// exactly if the tables stand for sound books, and it counts the books' copies. The same rows in another order have
+/// the same audit.
 pub fn audit_is_of_shop()
     ensures shop { (trees : Trees) (tables : TableRows) → HaveTables trees tables → (audit : Audit)
         → IsAuditOf tables audit → IsAuditOfShop trees audit }

@@ -1,4 +1,5 @@
-//! The audit: whether the tables of a shop, whatever they hold, stand for sound books, and how many copies are where.
+//! The audit: checks whether a shop's tables, whatever they hold, stand for sound books, and counts copies by where
+//! they are.
 #![tactic(auto)]
 
 mod acts;

@@ -11,19 +11,20 @@ use sql_rows::StoreFault;
 use sqlite::Row;
 use std::alloc::Global;
 
-/// What is kept of a row of some table.
+/// A value that is kept of a row of some table.
 pub trait Listed: Sized + Drop {
-    // this is kept of the row, which is one of the table's
+    // the value is kept of the row, which is one of the table's
     ghost is_row: { Self → SqlRow → Type 0 };
 
-    /// What is kept of the row, or nothing where it is none of the table's. But for memory, that doesn't fail.
+    /// Reads what is kept of the row, or returns nothing if the row isn't one of the table's. It fails only if it runs
+    /// out of memory.
     fn read(row: &Row) -> Result<Option<Self>, StoreFault>
         ensures found { IfOk result (λ o. IfSome o (λ x. is_row x row.now)) }
         ensures none { IfOk result (λ o. IfNone o (¬ IsListed is_row row.now)) };
 }
 
-/// What is kept of each of the rows, in their order, or nothing where one of them is no row of the table. What can't
-/// be read wants memory.
+/// Reads what is kept of each row, in their order, or returns nothing if a row isn't one of the table's. A row that
+/// fails to be read means out of memory.
 pub fn read_rows<T: Listed>(alloc: Global, rows: &[Row]) -> Result<Option<Vec<T>>, NoMemory>
     ensures found { IfOk result (λ o. IfSome o (λ all. AreRows T.Listed.is_row all.items rows.now)) }
     ensures none { IfOk result (λ o. IfNone o (¬ AllByRecursion (IsListed T.Listed.is_row) rows.now)) }
@@ -43,14 +44,14 @@ pub fn read_rows<T: Listed>(alloc: Global, rows: &[Row]) -> Result<Option<Vec<T>
     Ok(Some(all))
 }
 
-/// What is kept of a table's row is made of its cells, and each row of such cells is one of the table's.
+/// A value that is made of the cells of a table's row. Each row with such cells is one of the table's.
 pub trait Kept: Sized + Drop {
     type Cells: Cells;
 
-    // this is kept of the row, which is one of the table's
+    // the value is kept of the row, which is one of the table's
     ghost kept: { Self → SqlRow → Type 0 };
 
-    // what is kept of these cells
+    // what is kept of the cells
     ghost keeps: { Self.Cells → Self };
 
     fn keep(cells: Self::Cells) -> Self

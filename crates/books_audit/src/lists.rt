@@ -14,7 +14,7 @@ use audit_rows::{Keyed, climbs, sort_rows};
 use shop_types::NoMemory;
 use std::alloc::Global;
 
-/// Why tables weren't read: there is no memory, or they stand for no books.
+/// Why tables weren't read: memory ran out, or the tables stand for no books.
 #[derive(Clone, Copy, Drop)]
 pub(crate) enum Unread {
     Memory,
@@ -31,8 +31,8 @@ impl From<NoMemory> for Unread {
     }
 }
 
-/// What is kept of the one row of the table at the place. There are no books where it has none or others, or it is
-/// none of the table's.
+/// Reads the only row of the table at the place. There are no books if the table has no row or several rows, or its row
+/// isn't one of the table's.
 pub(crate) fn read_one<T: Listed>(
     alloc: Global,
     tables: &TableRows,
@@ -53,8 +53,8 @@ pub(crate) fn read_one<T: Listed>(
     Ok(one)
 }
 
-/// What is kept of the rows of the table at the place, in the order of their keys. There are no books where a row is
-/// none of the table's or two have one key.
+/// Reads the rows of the table at the place, in the order of their keys. There are no books if a row isn't one of the
+/// table's, or two rows have the same key.
 pub(crate) fn read_keyed<T: Listed + Keyed>(
     alloc: Global,
     tables: &TableRows,
@@ -74,13 +74,13 @@ pub(crate) fn read_keyed<T: Listed + Keyed>(
     Ok(all)
 }
 
-/// What is kept of a shared row has its number, which is its place.
+/// A value that is kept of a shared row, with the row's number, which is its place.
 pub(crate) trait Shared: Sized + Drop {
     type Kept: Drop;
 
     ghost place: { Self → ℕ };
 
-    // what stands in its place
+    // what is kept of the row, without its number
     ghost keep: { Self → Self.Kept };
 
     fn place(&self) -> u32
@@ -114,7 +114,7 @@ fn sort_places<T: Shared>(rows: &mut Vec<T>)
     rows.sort_unstable_by(|a, b| a.place().cmp(&b.place()));
 }
 
-/// Whether the rows are numbered 1, 2, ..
+/// Returns whether the rows are numbered 1, 2, ..
 fn are_placed<T: Shared>(rows: &[T]) -> bool
     ensures { result ≡ counts_from 1 (map T.Shared.place rows.now) }
 {
@@ -128,7 +128,7 @@ fn are_placed<T: Shared>(rows: &[T]) -> bool
     true
 }
 
-/// What stands in the places of the rows.
+/// Returns what is kept of the rows, without their numbers.
 fn keep_all<T: Shared>(alloc: Global, rows: Vec<T>) -> Result<Vec<T::Kept>, NoMemory>
     ensures { IfOk result (λ all. map T.Shared.keep rows.items ≡ all.items) }
 {
@@ -141,8 +141,8 @@ fn keep_all<T: Shared>(alloc: Global, rows: Vec<T>) -> Result<Vec<T::Kept>, NoMe
     Ok(all)
 }
 
-/// What stands in the places of the rows of the table at the place. There are no books where a row is none of the
-/// table's or they aren't numbered 1, 2, ..
+/// Reads the shared rows of the table at the place, in the order of their numbers. There are no books if a row isn't
+/// one of the table's, or the rows aren't numbered 1, 2, ..
 pub(crate) fn read_shared<T: Listed + Shared>(
     alloc: Global,
     tables: &TableRows,

@@ -42,7 +42,8 @@ const STAFF: [Part; 7] = [
     NUMBER,
 ];
 
-/// The parts of each act of head office, behind the byte that tells it, which counts from 1.
+/// The parts of the form of each act of head office, after its first byte. The first byte is the act's place in this
+/// list, counted from 1.
 const OFFICE_ACTS: [&[Part]; 14] = [
     &[NAME],
     &[NAME, NUMBER],
@@ -60,7 +61,7 @@ const OFFICE_ACTS: [&[Part]; 14] = [
     &[Part::Flag],
 ];
 
-/// Whether the bytes are the form of a command of head office.
+/// Returns whether the bytes are the form of a command of head office.
 pub(crate) fn is_office_command(bytes: &[u8]) -> bool
     ensures { IsTrue result ↔ IsOfficeForm bytes.now }
 {

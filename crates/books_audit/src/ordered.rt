@@ -9,7 +9,7 @@ use audit_rows::{OrderedBooks, is_sound};
 use shop_types::{Audit, NoMemory};
 use std::alloc::Global;
 
-/// What an audit says of books that have these rows.
+/// Audits books by their rows in order.
 pub(crate) fn audit_ordered(alloc: Global, rows: &OrderedBooks) -> Result<Audit, NoMemory>
     requires { AreOrdered rows.now }
     ensures { IfOk result (AuditsOrdered rows.now) }

@@ -1,5 +1,4 @@
-//! A form is judged part after part, each of which shows where it ends, so that no value is made and no memory is
-//! taken.
+//! Checks a form part after part. Each part shows where it ends, so the check makes no value and takes no memory.
 
 ghost use Rattle.std.specs.Prelude.{◌≡◌, ◌≢◌, ◌↔◌, ◌++◌, IsTrue, ℕ, List, IfSome, IfNone, length, map};
 ghost use Rattle.shop_schema.specs.Forms.{number_form, text_form, AreNumbers, AreBytes};
@@ -11,9 +10,9 @@ use shop_types::{Moment, Token};
 /// A part of a stored form.
 #[derive(Clone, Copy)]
 pub(crate) enum Part {
-    /// A number from the one to the other.
+    /// A number within the two bounds.
     Number(u32, u32),
-    /// A text of so many bytes, from the one to the other, with no control byte.
+    /// A text without control bytes, whose length in bytes is within the two bounds.
     Text(usize, usize),
     /// A key, or the name of a lot.
     Key,
@@ -23,7 +22,7 @@ pub(crate) enum Part {
     Rating,
     /// A film's special features.
     Features,
-    /// So many bytes at most.
+    /// At most so many bytes.
     Bytes(usize),
     /// A truth value.
     Flag,
@@ -31,15 +30,15 @@ pub(crate) enum Part {
     Unset,
     /// A moment.
     Moment,
-    /// So many numbers of rows at most.
+    /// At most so many numbers of rows.
     Numbers(u32),
-    /// A number from the one to the other, or none.
+    /// A number within the two bounds, or none.
     Optional(u32, u32),
 }
 
 // ---- numbers and texts
 
-/// The number at the front, and what follows it.
+/// Splits off the number at the start of the bytes. Returns the number and the rest.
 fn number_at(bytes: &[u8]) -> Option<(u32, &[u8])>
     ensures found { IfSome result (λ x. bytes.now ≡ number_form x.0 ++ x.1.now) }
     ensures none { IfNone result ((n : ℕ) (rest : List ℕ) → bytes.now ≢ number_form n ++ rest) }
@@ -54,7 +53,7 @@ fn number_at(bytes: &[u8]) -> Option<(u32, &[u8])>
     }
 }
 
-/// The text at the front, and what follows it.
+/// Splits off the text at the start of the bytes. Returns the text and the rest.
 fn text_at(bytes: &[u8]) -> Option<(&[u8], &[u8])>
     ensures found { IfSome result (λ x. bytes.now ≡ text_form x.0.now ++ x.1.now) }
     ensures none { IfNone result ((t : List ℕ) (rest : List ℕ) → bytes.now ≢ text_form t ++ rest) }
@@ -69,7 +68,7 @@ fn text_at(bytes: &[u8]) -> Option<(&[u8], &[u8])>
 
 // ---- parts
 
-/// What follows the number at the front, where it is within these bounds.
+/// Skips a number at the start of the bytes, if it is within the bounds. Returns the rest.
 fn skip_number(low: u32, high: u32, bytes: &[u8]) -> Option<&[u8]>
     ensures found { IfSome result (λ rest. (piece : List ℕ) × IsPartForm (Part.Number low high) piece
         × (bytes.now ≡ piece ++ rest.now)) }
@@ -84,7 +83,7 @@ fn skip_number(low: u32, high: u32, bytes: &[u8]) -> Option<&[u8]>
     }
 }
 
-/// What follows the text at the front, where it is of so many bytes.
+/// Skips a text at the start of the bytes, if its length is within the bounds. Returns the rest.
 fn skip_text(low: usize, high: usize, bytes: &[u8]) -> Option<&[u8]>
     ensures found { IfSome result (λ rest. (piece : List ℕ) × IsPartForm (Part.Text low high) piece
         × (bytes.now ≡ piece ++ rest.now)) }
@@ -101,7 +100,7 @@ fn skip_text(low: usize, high: usize, bytes: &[u8]) -> Option<&[u8]>
     Some(rest)
 }
 
-/// What follows the key at the front.
+/// Skips a key at the start of the bytes. Returns the rest.
 fn skip_key(bytes: &[u8]) -> Option<&[u8]>
     ensures found { IfSome result (λ rest. (piece : List ℕ) × IsPartForm Part.Key piece
         × (bytes.now ≡ piece ++ rest.now)) }
@@ -111,7 +110,7 @@ fn skip_key(bytes: &[u8]) -> Option<&[u8]>
     if is_key(text) { Some(rest) } else { None }
 }
 
-/// What follows the token at the front.
+/// Skips a token at the start of the bytes. Returns the rest.
 fn skip_token(bytes: &[u8]) -> Option<&[u8]>
     ensures found { IfSome result (λ rest. (piece : List ℕ) × IsPartForm Part.Token piece
         × (bytes.now ≡ piece ++ rest.now)) }
@@ -125,7 +124,7 @@ fn skip_token(bytes: &[u8]) -> Option<&[u8]>
     }
 }
 
-/// What follows the rating at the front.
+/// Skips a rating at the start of the bytes. Returns the rest.
 fn skip_rating(bytes: &[u8]) -> Option<&[u8]>
     ensures found { IfSome result (λ rest. (piece : List ℕ) × IsPartForm Part.Rating piece
         × (bytes.now ≡ piece ++ rest.now)) }
@@ -135,7 +134,7 @@ fn skip_rating(bytes: &[u8]) -> Option<&[u8]>
     if is_rating(text) { Some(rest) } else { None }
 }
 
-/// What follows the special features at the front.
+/// Skips special features at the start of the bytes. Returns the rest.
 fn skip_features(bytes: &[u8]) -> Option<&[u8]>
     ensures found { IfSome result (λ rest. (piece : List ℕ) × IsPartForm Part.Features piece
         × (bytes.now ≡ piece ++ rest.now)) }
@@ -145,12 +144,12 @@ fn skip_features(bytes: &[u8]) -> Option<&[u8]>
     if are_features(text) { Some(rest) } else { None }
 }
 
-/// A byte is below 256, and no more is said.
+/// Shows that each byte is below 256. The function has nothing to do.
 fn bytes_values(bytes: &[u8])
     ensures { AreBytes bytes.now }
 {}
 
-/// What follows the bytes at the front, where there are so many at most.
+/// Skips the form of at most so many bytes. Returns the rest.
 fn skip_bytes(most: usize, bytes: &[u8]) -> Option<&[u8]>
     ensures found { IfSome result (λ rest. (piece : List ℕ) × IsPartForm (Part.Bytes most) piece
         × (bytes.now ≡ piece ++ rest.now)) }
@@ -162,7 +161,7 @@ fn skip_bytes(most: usize, bytes: &[u8]) -> Option<&[u8]>
     if text.len() <= most { Some(rest) } else { None }
 }
 
-/// What follows the truth value at the front.
+/// Skips a truth value at the start of the bytes. Returns the rest.
 fn skip_flag(bytes: &[u8]) -> Option<&[u8]>
     ensures found { IfSome result (λ rest. (piece : List ℕ) × IsPartForm Part.Flag piece
         × (bytes.now ≡ piece ++ rest.now)) }
@@ -172,7 +171,7 @@ fn skip_flag(bytes: &[u8]) -> Option<&[u8]>
     if *first <= 1 { Some(rest) } else { None }
 }
 
-/// What follows the truth value at the front, where it is false.
+/// Skips a truth value at the start of the bytes, if it is false. Returns the rest.
 fn skip_unset(bytes: &[u8]) -> Option<&[u8]>
     ensures found { IfSome result (λ rest. (piece : List ℕ) × IsPartForm Part.Unset piece
         × (bytes.now ≡ piece ++ rest.now)) }
@@ -182,7 +181,7 @@ fn skip_unset(bytes: &[u8]) -> Option<&[u8]>
     if *first == 0 { Some(rest) } else { None }
 }
 
-/// What follows the moment at the front.
+/// Skips a moment at the start of the bytes. Returns the rest.
 fn skip_moment(bytes: &[u8]) -> Option<&[u8]>
     ensures found { IfSome result (λ rest. (piece : List ℕ) × IsPartForm Part.Moment piece
         × (bytes.now ≡ piece ++ rest.now)) }
@@ -201,7 +200,7 @@ fn skip_moment(bytes: &[u8]) -> Option<&[u8]>
     }
 }
 
-/// What follows so many numbers of rows.
+/// Skips so many numbers of rows. Returns the rest.
 fn skip_each(count: u32, bytes: &[u8]) -> Option<&[u8]>
     ensures found { IfSome result (λ rest. (ns : List ℕ) × (length ns ≡ count) × AreNumbers ns
         × (bytes.now ≡ form_of_each ns ++ rest.now)) }
@@ -215,7 +214,7 @@ fn skip_each(count: u32, bytes: &[u8]) -> Option<&[u8]>
     Some(rest)
 }
 
-/// What follows the numbers of rows at the front, where there are so many at most.
+/// Skips the form of at most so many numbers of rows. Returns the rest.
 fn skip_numbers(most: u32, bytes: &[u8]) -> Option<&[u8]>
     ensures found { IfSome result (λ rest. (piece : List ℕ) × IsPartForm (Part.Numbers most) piece
         × (bytes.now ≡ piece ++ rest.now)) }
@@ -230,7 +229,7 @@ fn skip_numbers(most: u32, bytes: &[u8]) -> Option<&[u8]>
     Some(rest)
 }
 
-/// What follows the number at the front, where there is one and it is within these bounds, or where there is none.
+/// Skips the form of an optional number, which is within the bounds if it is there. Returns the rest.
 fn skip_optional(low: u32, high: u32, bytes: &[u8]) -> Option<&[u8]>
     ensures found { IfSome result (λ rest. (piece : List ℕ) × IsPartForm (Part.Optional low high) piece
         × (bytes.now ≡ piece ++ rest.now)) }
@@ -245,7 +244,7 @@ fn skip_optional(low: u32, high: u32, bytes: &[u8]) -> Option<&[u8]>
     }
 }
 
-/// What follows the part at the front.
+/// Skips a part at the start of the bytes. Returns the rest.
 pub(crate) fn skip(part: Part, bytes: &[u8]) -> Option<&[u8]>
     ensures found { IfSome result (λ rest. (piece : List ℕ) × IsPartForm part piece × (bytes.now ≡ piece ++ rest.now)) }
     ensures none { IfNone result ((piece rest : List ℕ) → IsPartForm part piece → bytes.now ≢ piece ++ rest) }
@@ -266,7 +265,7 @@ pub(crate) fn skip(part: Part, bytes: &[u8]) -> Option<&[u8]>
     }
 }
 
-/// Whether the bytes are the forms of such parts, one after another.
+/// Returns whether the bytes are the forms of such parts, one after another.
 fn is_form(parts: &[Part], bytes: &[u8]) -> bool
     ensures { IsTrue result ↔ IsForm parts.now bytes.now }
 {
@@ -280,7 +279,8 @@ fn is_form(parts: &[Part], bytes: &[u8]) -> bool
     rest.is_empty()
 }
 
-/// Whether the first byte tells one of these lists of parts, counting from 1, and the bytes behind it are their form.
+/// Returns whether the bytes are a form of one of the lists of parts. The first byte is the list's place, counted from
+/// 1, and the bytes after it are the parts.
 pub(crate) fn is_one_of(forms: &[&[Part]], bytes: &[u8]) -> bool
     ensures { IsTrue result ↔ IsOneOf (map (λ parts. parts.now) forms.now) bytes.now }
 {

@@ -14,8 +14,8 @@ use audit_rows::{CheckedBranch, CheckedCity, CheckedFilm, CheckedStaff, OrderedB
 use shop_types::T45;
 use std::alloc::Global;
 
-/// The rows of all tables but those of counts, in order. There are no books where a row is none of its table's,
-/// numbers have gaps or keys are there twice.
+/// Reads the rows of all tables, except the tables of counts, in order. There are no books if a row isn't one of its
+/// table's, numbers have gaps, or a table has a key twice.
 pub(crate) fn read_ordered(alloc: Global, tables: &TableRows) -> Result<OrderedBooks, Unread>
     ensures read { IfOk result (AreReadInOrder tables.now) }
     ensures none { IfErr result (λ e. e ≡ Unread.NoBooks → ¬ CanBeRead tables.now) }

@@ -21,7 +21,7 @@ pub struct ChainRow {
     pub office_token: Token,
 }
 
-/// The row of the table `chain_rule`: whether balances go by the manual's comment.
+/// The row of the table `chain_rule`: whether balances follow the manual's comment.
 #[derive(Clone, Copy, Drop)]
 pub struct RuleRow {
     pub by_comment: bool,

@@ -67,7 +67,7 @@ pub(crate) const COPIES_TEXT: &str = "SELECT * FROM copy";
 
 pub(crate) const LINES_TEXT: &str = "SELECT * FROM consignment_line";
 
-/// Those of the tables behind the first.
+/// The texts that read the tables after the first one.
 const OTHER_TEXTS: [&str; 22] = [
     "SELECT * FROM country",
     "SELECT * FROM language",
@@ -98,12 +98,12 @@ const OTHER_TEXTS: [&str; 22] = [
 /// The rows of the tables as they were read, in whatever order.
 #[derive(Drop)]
 pub struct TableRows {
-    /// Those of each table, at its place.
+    /// The rows of each table, at the table's place.
     pub all: Vec<Vec<Row>>,
 }
 
 impl TableRows {
-    /// Those of the table at the place. One that isn't there has none.
+    /// Returns the rows of the table at the place. If there is no table at the place, there are none.
     pub(crate) fn of(&self, place: usize) -> &[Row]
         ensures { result.now ≡ rows_in self.now place }
     {
@@ -114,7 +114,7 @@ impl TableRows {
     }
 }
 
-/// The rows of the table that the text selects.
+/// Reads the rows of the table that the text selects.
 pub(crate) fn read_whole<S: Alter>(
     tx: &mut Transaction<'_, S>,
     text: &str,
@@ -126,7 +126,7 @@ pub(crate) fn read_whole<S: Alter>(
     query(tx, text, &[])
 }
 
-/// The rows of each of the tables that the texts select.
+/// Reads the rows of each table that the texts select.
 fn read_each<S: Alter>(
     alloc: Global,
     tx: &mut Transaction<'_, S>,
@@ -144,7 +144,7 @@ fn read_each<S: Alter>(
     Ok(all)
 }
 
-/// The rows of all tables, which stay as they are.
+/// Reads the rows of all tables, and changes no table.
 pub(crate) fn read_tables<S: Alter>(
     alloc: Global,
     tx: &mut Transaction<'_, S>,

@@ -20,14 +20,14 @@ fn all_printed(bytes: &[u8]) -> bool
     bytes.iter().all(|b| is_printed_byte(*b))
 }
 
-/// Whether the bytes are so many, from the one to the other, without control bytes.
+/// Returns whether the number of bytes is within the bounds, and there is no control byte.
 pub(crate) fn is_text(low: usize, high: usize, bytes: &[u8]) -> bool
     ensures { result ≡ is_text low high bytes.now }
 {
     low <= bytes.len() && bytes.len() <= high && all_printed(bytes)
 }
 
-/// Whether the bytes are a text.
+/// Returns whether the bytes are a text.
 pub(crate) fn is_utf8(bytes: &[u8]) -> bool
     ensures { IsTrue result ↔ IsUtf8 bytes.now }
 {
@@ -49,14 +49,14 @@ fn all_of_key(bytes: &[u8]) -> bool
     bytes.iter().all(|b| is_byte_of_key(*b))
 }
 
-/// Whether the bytes are a key, or the name of a lot.
+/// Returns whether the bytes are a key, or the name of a lot.
 pub(crate) fn is_key(bytes: &[u8]) -> bool
     ensures { result ≡ is_key bytes.now }
 {
     1 <= bytes.len() && bytes.len() <= 40 && all_of_key(bytes)
 }
 
-/// Whether the text is a rating.
+/// Returns whether the text is a rating.
 pub(crate) fn is_rating(text: &[u8]) -> bool
     ensures { IsTrue result ↔ IsRating text.now }
 {
@@ -67,7 +67,7 @@ pub(crate) fn is_rating(text: &[u8]) -> bool
         || text == b"NC-17".as_slice()
 }
 
-/// Whether the text is a list of special features.
+/// Returns whether the text is a list of special features.
 pub(crate) fn are_features(text: &[u8]) -> bool
     ensures { IsTrue result ↔ IsFeatures text.now }
 {

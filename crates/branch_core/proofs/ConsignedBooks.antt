@@ -24,7 +24,7 @@ lines_at b (x ∷ xs) books numbers =
     ∙ (λ i. one i ++ lines_at b xs books numbers i)
     ∙ sym (map-append (λ (row : Row BookCopy). under_way row.it) (filter (is_row b x) books.copies) (rows_at b xs books.copies))
 
--- the books with a consignment of these lines
+-- the books after a consignment of the given lines is sent
 abbrev sending : ℕ → ℕ → List ℕ → List Line → Books → Books
 sending b to xs lines books = record books {
   copies = set_rows b xs (put_state Sent) books.copies;
@@ -78,7 +78,7 @@ receiving b source number makes missing books = record books {
   consignments = update_where (is_consignment source b number) (checked missing) books.consignments;
 }
 
--- numbers are told of any list that is as long
+-- lists of the same length are given the same numbers
 same_numbers : {A B : Type 0} (n : ℕ) (xs : List A) (ys : List B) → length xs ≡ length ys → numbers_from n xs ≡ numbers_from n ys
 same_numbers n [] [] is = refl
 same_numbers n [] (y ∷ ys) is = absurd (let no = is in cc)

@@ -1,8 +1,8 @@
--- Copies that are listed, none twice and none unknown, and lines of which some are missing.
+-- Lemmas about listed copies, none of them twice and none unknown, and about lines that are partly missing.
 use Rattle.shop_types.proofs.Common.{take, drop, take_all, length-drop, lt-ltb, ◌≡◌, refl, sym, ap, ◌∙◌, inl, inr, ℕ, suc, ◌+◌, ◌-◌, ◌≤◌, ◌<◌, Bool, true, false, not, List, [], ◌∷◌, map, filter, length, arith, list_any, nat_tests, cases_Bool, length-map, lacks, mem, arrived, numbered_from, numbered, are_lines}
 use Rattle.std.specs.Prelude.{◌==◌, ◌||◌, nat_lt}
 
--- ---- copies that stand twice
+-- ---- copies that are listed twice
 
 pub any_mem : (n : ℕ) (ns : List ℕ) → mem n ns ≡ list_any (λ (m : ℕ). m == n) ns
 any_mem n [] = refl
@@ -35,7 +35,7 @@ lacks_by n (x ∷ rows) low = elim (cases_Bool (n == 1)) [
 abbrev comes : {A : Type 0} → List ℕ → ℕ × A → Bool
 comes missing it = not (mem it.0 missing)
 
--- those of the lines from that number on
+-- the lines from that number on that aren't missing
 abbrev pub arrived_from : {A : Type 0} → List ℕ → ℕ → List A → List A
 arrived_from {A} missing n xs = map (λ (it : ℕ × A). it.1) (filter (comes missing) (numbered_from n xs))
 
@@ -46,12 +46,12 @@ below_lines : (low high n : ℕ) (missing : List ℕ) → are_lines low high mis
 below_lines low high n [] h less = refl
 below_lines low high n (m ∷ ms) h less = grind (arith, nat_tests, below_lines m high n ms)
 
--- behind the first missing one, the others alone count
+-- after the first missing number, only the other missing numbers matter
 skip_first : {A : Type 0} (m : ℕ) (ms : List ℕ) (k : ℕ) (xs : List A) → m < k → filter (comes (m ∷ ms)) (numbered_from k xs) ≡ filter (comes ms) (numbered_from k xs)
 skip_first m ms k [] less = refl
 skip_first m ms k (x ∷ xs) less = let more = skip_first m ms (k + 1) xs (omega (arith, less)) in grind (arith, nat_tests, more)
 
--- of lines k + 1 to high those that come and those that are missing are all
+-- the lines k + 1 to high are the lines that come and the lines that are missing
 counted : {A : Type 0} (k high : ℕ) (missing : List ℕ) (xs : List A) → high ≡ k + length xs → are_lines k high missing ≡ true → length (filter (comes missing) (numbered_from (k + 1) xs)) + length missing ≡ length xs
 counted k high [] [] is h = refl
 counted k high (m ∷ ms) [] is h = absurd (grind (arith, nat_tests))

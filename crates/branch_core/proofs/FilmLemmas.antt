@@ -4,7 +4,7 @@ use Rattle.std.specs.Prelude.{◌==◌, ◌&&◌}
 use Rattle.branch_core.specs.declared.film_copies.FilmCopy.{FilmCopy}
 use Rattle.branch_core.specs.Agreed.{seen_film_copy, AreOfFilm, is_listed}
 
--- the numbers of those that are listed
+-- the numbers of the listed copies
 abbrev pub numbers_in : Bool → List (ℕ × Bool × Bool) → List ℕ
 numbers_in is_in seen = map (λ (it : ℕ × Bool × Bool). it.0) (filter (is_listed is_in) seen)
 

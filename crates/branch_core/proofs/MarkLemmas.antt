@@ -9,7 +9,7 @@ use Rattle.branch_core.specs.Marked.{copy_parts, line_parts, parts_at, listed_at
 
 -- ---- copies that are listed
 
--- where all of them were read
+-- if all of the copies were read
 pub listed_agrees : (b : ℕ) (xs : List ℕ) (books : Books) (it : ListedFound) (parts : List (ℕ × Mark)) → ◌≡◌ {A = Bool × Bool × Bool × List (ℕ × Mark)} (it.has_unknown, it.has_away, it.has_out, parts) (listed_at b xs books)
     → ListedAgrees (shop_of b books) xs it
 listed_agrees b xs books it parts is = record {

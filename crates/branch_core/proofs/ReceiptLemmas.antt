@@ -1,4 +1,4 @@
--- What the one consignment that was found tells of its lines.
+-- Lemmas about the lines of the one consignment that was found.
 use Rattle.shop_types.proofs.Common.{length-map}
 use Rattle.shop_model.proofs.FoundLemmas.{at_one}
 use Rattle.branch_core.proofs.ConsignmentLemmas.{all_counted}

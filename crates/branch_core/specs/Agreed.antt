@@ -1,4 +1,4 @@
--- When what was found is what a catalogue and a shop have of the rows that a command names.
+-- Says when the rows that were found for a command agree with a catalogue and a shop.
 use Rattle.std.specs.Prelude.{◌≡◌, ℕ, ◌==◌, ◌&&◌, ◌≤◌, Bool, false, Option, is_some, not, List, [], ◌∷◌, map, filter, length, option_map, IfSome, Result, Ok, Err, IfOk, Some, None}
 use Rattle.std.specs.List.{All, list_any}
 use Rattle.std.specs.Str.{bytes_eq}
@@ -37,7 +37,7 @@ abbrev pub seen_stock : Result (List StockFound) BadCsv → Stock
 seen_stock (Ok rows) = Copies (films_of rows)
 seen_stock (Err fault) = BadLine fault.line
 
--- a row has a copy at least, and its film is as the catalogue has it
+-- a row has at least one copy, and says of its film what the catalogue says
 pub record RowAgrees (catalogue : Catalogue) (row : StockFound) : Type 0 where
   pub some : 1 ≤ row.copies
   pub there : row.is_there ≡ not (lacks catalogue.films row.film)
@@ -52,11 +52,11 @@ active_at c shop = head (map (λ (it : Customer). it.active) (at c shop.customer
 abbrev pub seen_copy : CopyFound → Bool × Bool × Bool
 seen_copy copy = (copy.is_here, copy.is_withdrawn, copy.is_out)
 
--- whether the copy is here, whether its film is withdrawn, and whether a customer has it
+-- whether the copy is here, whether its film is withdrawn, and whether the copy is out
 abbrev pub copy_at : Catalogue → Shop → ℕ → Option (Bool × Bool × Bool)
 copy_at catalogue shop x = head (map (λ (it : Copy). (is_here it, is_film_withdrawn catalogue it.film, not (in_stock x shop.rentals))) (at x shop.copies))
 
--- the terms of a copy that was found are those of its film as it stands
+-- the terms of a copy that was found are the terms that its film has now
 abbrev pub HasTermsNow : Catalogue → Shop → ℕ → Option CopyFound → Type 0
 HasTermsNow catalogue shop x found = IfSome found (λ copy. terms_now catalogue shop x ≡ seen_terms copy.terms ∷ [])
 
@@ -64,7 +64,7 @@ HasTermsNow catalogue shop x found = IfSome found (λ copy. terms_now catalogue 
 abbrev pub has_rental : Moment → ℕ → ℕ → Shop → Bool
 has_rental moment c x shop = list_any (λ (it : model.Rental). same_moment it.rented moment && it.copy == x && it.customer == c) shop.rentals
 
--- whose rental it is, of which copy, and whether that is back
+-- the customer of a rental, its copy, and whether the copy is back
 abbrev pub seen_rental : RentalFound → ℕ × ℕ × Bool
 seen_rental rental = (rental.customer, rental.copy, rental.is_returned)
 
@@ -73,13 +73,13 @@ rental_at shop r = head (map (λ (it : model.Rental). (it.customer, it.copy, is_
 
 -- ---- consignments
 
--- Of listed copies a test is known only where no earlier one holds, so that not every copy of a long list need be read.
+-- The result of a test of listed copies is known only if no earlier test holds. So not every copy of a long list has to be read.
 pub record ListedAgrees (shop : Shop) (xs : List ℕ) (it : ListedFound) : Type 0 where
   pub unknown : it.has_unknown ≡ list_any (lacks shop.copies) xs
   pub away : it.has_unknown ≡ false → it.has_away ≡ list_any (is_away shop.copies) xs
   pub out : it.has_unknown ≡ false → it.has_away ≡ false → it.has_out ≡ list_any (λ x. not (in_stock x shop.rentals)) xs
 
--- whether it is received, and the films of its lines
+-- whether a consignment is received, and the films of its lines
 abbrev pub seen_arrival : ArrivalFound → Bool × List ℕ
 seen_arrival it = (it.is_received, map (λ (line : ParcelLine). line.film) it.lines)
 
@@ -111,7 +111,7 @@ pub record ReceiveAgrees (shop : Shop) (source number : ℕ) (it : RowsFound) : 
 abbrev pub nothing : Named
 nothing = record { city = None; customer = None; copy = None; rental = None }
 
--- the single rows that an act names, where it names no others
+-- the single rows that an act names, if it names no other rows
 abbrev pub named : Act → Named
 named (model.AddCustomer who) = record nothing { city = Some who.person.city }
 named (model.SetActive c active) = record nothing { customer = Some c }
@@ -126,7 +126,7 @@ pub record NamedAgree (catalogue : Catalogue) (shop : Shop) (names : Named) (it 
   pub copy : IfSome names.copy (λ x. option_map seen_copy it.copy ≡ copy_at catalogue shop x)
   pub rental : IfSome names.rental (λ r. option_map seen_rental it.rental ≡ rental_at shop r)
 
--- what was found of the kinds of rows that an act names is what the catalogue and the shop have
+-- what was found of the kinds of rows that an act names agrees with the catalogue and the shop
 abbrev pub ActAgrees : Rules → Catalogue → Shop → Moment → Act → RowsFound → Type 0
 ActAgrees rules catalogue shop moment (model.Rent c x) it = RentAgrees catalogue shop moment c x it
 ActAgrees rules catalogue shop moment (model.Import lot file) it = ImportAgrees rules catalogue shop lot file it
@@ -136,7 +136,7 @@ ActAgrees rules catalogue shop moment act it = NamedAgree catalogue shop (named 
 
 -- ---- all that was found
 
--- all that was found is what the catalogue and the shop have
+-- all that was found agrees with the catalogue and the shop
 pub record Agrees (rules : Rules) (catalogue : Catalogue) (shop : Shop) (command : Command) (found : Found) : Type 0 where
   pub kept : option_map seen_kept found.kept ≡ head (map (kept_for command) (filter (λ (k : Kept). bytes_eq k.command.key command.key) shop.kept))
   pub keys : found.keys ≡ length shop.kept

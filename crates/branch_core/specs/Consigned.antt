@@ -1,4 +1,4 @@
--- What a dispatch and a receipt make of the books of all branches, and what is replied of them.
+-- Defines the books of all branches after a dispatch and after a receipt, and the replies to both.
 use Rattle.std.specs.Prelude.{ℕ, ◌+◌, false, List, [], ◌∷◌, ◌++◌, length, map, codes, decimal}
 use Rattle.shop_model.specs.Json.{numbers_text, object}
 use Rattle.shop_model.specs.Rows.{Row, arrived, put_all, set_rows, update_where}
@@ -17,7 +17,8 @@ made_from b n (make ∷ makes) = record { branch = b; number = n; it = make n } 
 abbrev pub sent_line : ParcelLine → Line
 sent_line line = record { film = line.film; mark = seen_mark line.mark; state = UnderWay }
 
--- the books with the copies sent, as a consignment of these lines that has the next number of those to the addressee, and the next place of all
+-- The books after the copies are sent as a consignment of the given lines. It has the next number of the branch's consignments to the addressee, and the next
+-- place in the chain.
 abbrev pub with_dispatch : ℕ → ℕ → List ℕ → List ParcelLine → Books → Books
 with_dispatch b to xs lines books = record books {
   copies = set_rows b xs (put_state Sent) books.copies;
@@ -38,13 +39,13 @@ dispatch_text consignment to = object ((codes "consignment", decimal consignment
 abbrev pub come_copy : ParcelLine → ℕ → BookCopy
 come_copy line number = record { film = line.film; state = Here; mark = seen_mark line.mark }
 
--- the books with the consignment received: of its lines those of these places are missing, and the others are copies with the branch's next numbers
+-- The books with the consignment received. The lines at these places are missing. The other lines are copies with the branch's next numbers.
 abbrev pub with_receipt : ℕ → ℕ → ℕ → List ParcelLine → List ℕ → Books → Books
 with_receipt b source number lines missing books = record books {
   copies = put_all b (map come_copy (arrived missing lines)) books.copies;
   consignments = update_where (is_consignment source b number) (checked missing) books.consignments;
 }
 
--- the numbers of new copies, one for each film, from the first on
+-- the reply to a receipt: the numbers of the new copies, one for each film, from the first number on
 abbrev pub receipt_text : ℕ → List ℕ → Text
 receipt_text first films = object ((codes "copies", numbers_text (numbers_from first films)) ∷ [])

@@ -10,7 +10,7 @@ use Rattle.shop_types.specs.Verdicts.{verdict_by}
 use Rattle.branch_core.specs.declared.found.RowsFound.{RowsFound}
 use Rattle.branch_core.specs.Agreed.{ActAgrees}
 
--- it is the branch's first refusal of the act, or none is, whatever catalogue and shop have what was found
+-- The result is the branch's first refusal of the act, or there is none. This holds for any catalogue and shop that agree with what was found.
 pub record IsRefusal (b : ℕ) (act : Act) (rows : RowsFound) (result : Option Refusal) : Type 0 where
   pub is : (rules : Rules) (catalogue : Catalogue) (shop : Shop) (moment : Moment) → ActAgrees rules catalogue shop moment act rows
       → verdict_by result ≡ Some (first (act_refusals rules b catalogue shop moment act))

@@ -1,4 +1,4 @@
-//! Which rows a command names by what it does, and its first refusal, where its key is new, by what was found of them.
+//! Lists which rows a command names, and finds its first refusal by what was found of them if its key is new.
 #![tactic(auto, using(shop_model::proofs::FoundLemmas::at_one))]
 
 ghost use Rattle.std.specs.Prelude.{◌≡◌, ℕ, true, Some};
@@ -12,7 +12,7 @@ use crate::stock::stock_refusal;
 use crate::{Named, RowsFound};
 use shop_types::{Act, BranchNo, CustomerNo, Refusal, RentalNo};
 
-/// The single rows that an act names. Some acts name others, and what is found of these is told otherwise.
+/// Returns the single rows that an act names. Some acts name other rows, which are found in other ways.
 #[tactic(auto)]
 pub fn named(act: &Act) -> Named
     ensures { result ≡ named (seen_act act.now) }
@@ -50,7 +50,7 @@ pub fn named(act: &Act) -> Named
     }
 }
 
-/// The first refusal that goes by what the command does. Each arm is the refusal of its own act.
+/// Returns the first refusal that depends on what the command does. Each arm is the refusal of its own act.
 #[tactic(auto)]
 pub fn act_refusal(branch: BranchNo, act: &Act, rows: &RowsFound) -> Option<Refusal>
     ensures { IsRefusal branch (seen_act act.now) rows.now result }
@@ -72,7 +72,7 @@ pub fn act_refusal(branch: BranchNo, act: &Act, rows: &RowsFound) -> Option<Refu
     }
 }
 
-/// Of a new customer in a city that may not be there.
+/// Returns the refusal of a new customer, if the city isn't there.
 fn city_refusal(rows: &RowsFound) -> Option<Refusal>
     ensures { (b : ℕ) (it : model.NewCustomer) → IsRefusal b (model.AddCustomer it) rows.now result }
 {
@@ -83,7 +83,7 @@ fn city_refusal(rows: &RowsFound) -> Option<Refusal>
     }
 }
 
-/// Of setting whether a customer may rent.
+/// Returns the first refusal of a change of whether a customer may rent.
 fn active_refusal(active: bool, rows: &RowsFound) -> Option<Refusal>
     ensures { (b c : ℕ) → IsRefusal b (model.SetActive c active) rows.now result }
 {
@@ -99,7 +99,7 @@ fn active_refusal(active: bool, rows: &RowsFound) -> Option<Refusal>
     }
 }
 
-/// Of a rental of a copy to a customer.
+/// Returns the first refusal of a rental of a copy to a customer.
 fn rent_refusal(rows: &RowsFound) -> Option<Refusal>
     ensures { (b c x : ℕ) → IsRefusal b (model.Rent c x) rows.now result }
 {
@@ -110,7 +110,7 @@ fn rent_refusal(rows: &RowsFound) -> Option<Refusal>
     }
 }
 
-/// The same of a customer who may rent.
+/// Returns the first refusal of a rental to a customer who may rent.
 fn copy_refusal(rows: &RowsFound) -> Option<Refusal>
     ensures { (b c x : ℕ) → rows.now.customer ≡ Some true → IsRefusal b (model.Rent c x) rows.now result }
 {
@@ -130,7 +130,7 @@ fn copy_refusal(rows: &RowsFound) -> Option<Refusal>
     }
 }
 
-/// Of taking a rental's copy back.
+/// Returns the first refusal of a return of a rental's copy.
 fn return_refusal(rows: &RowsFound) -> Option<Refusal>
     ensures { (b r : ℕ) → IsRefusal b (model.TakeBack r) rows.now result }
 {
@@ -146,7 +146,7 @@ fn return_refusal(rows: &RowsFound) -> Option<Refusal>
     }
 }
 
-/// Of the customer's payment, of the rental where one is named.
+/// Returns the first refusal of a customer's payment, which may name a rental.
 fn payment_refusal(
     customer: CustomerNo,
     named: Option<RentalNo>,
@@ -172,7 +172,7 @@ fn payment_refusal(
     }
 }
 
-/// Of scrapping a copy.
+/// Returns the first refusal of scrapping a copy.
 fn scrap_refusal(rows: &RowsFound) -> Option<Refusal>
     ensures { (b x : ℕ) → IsRefusal b (model.Scrap x) rows.now result }
 {

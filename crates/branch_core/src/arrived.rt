@@ -1,4 +1,4 @@
-//! Which lines of a consignment arrived.
+//! Lists the lines of a consignment that arrived.
 
 ghost use Rattle.std.specs.Prelude.{◌≡◌, ◌≤◌, ◌==◌, length, IfOk};
 ghost use Rattle.std.specs.List.{list_any};
@@ -13,7 +13,7 @@ fn has_line(missing: &[LineNo], line: u32) -> bool
     missing.iter().any(|it| it.get() == line)
 }
 
-/// Whether the line of that place, the first of which is 1, is one of the missing ones.
+/// Returns whether the line at that place is missing. Places count from 1.
 #[tactic(auto, using(crate::proofs::ConsignmentLemmas::any_mem))]
 fn is_missing(missing: &[LineNo], line: u32) -> bool
     ensures { result ≡ mem line missing.now }
@@ -21,7 +21,7 @@ fn is_missing(missing: &[LineNo], line: u32) -> bool
     has_line(missing, line)
 }
 
-/// The lines that aren't missing, in their order.
+/// Returns the lines that aren't missing, in their order.
 pub fn arrived_lines(
     alloc: Global,
     lines: &ParcelLines,

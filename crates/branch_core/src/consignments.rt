@@ -1,5 +1,5 @@
-//! The first refusal of a command that sends copies to another branch, or receives what one sent, by what was found
-//! of the copies or of the consignment.
+//! Finds the first refusal of a dispatch to another branch, or of a receipt of a consignment. It depends on what was
+//! found of the copies or of the consignment.
 
 ghost use Rattle.std.specs.Prelude.{◌≡◌, ◌≤◌, ℕ, ◌==◌, ◌||◌, nat_lt, Some, length, option_map};
 ghost use Rattle.std.specs.List.{list_any};
@@ -13,7 +13,7 @@ ghost use Rattle.branch_core.specs.Decided.{IsRefusal};
 use crate::{ArrivalFound, RowsFound};
 use shop_types::{BranchNo, CopyNo, LineNo, Refusal};
 
-/// Of sending the copies to that branch.
+/// Returns the first refusal of a dispatch of the copies to that branch.
 pub fn dispatch_refusal(
     branch: BranchNo,
     to: BranchNo,
@@ -40,14 +40,15 @@ pub fn dispatch_refusal(
     }
 }
 
-/// Whether there is no copy, or are more than 100, or is one twice: of more than 100 no two are compared.
+/// Returns whether there is no copy, or more than 100, or a copy twice. If there are more than 100, no two are
+/// compared.
 fn are_bad(copies: &[CopyNo]) -> bool
     ensures { result ≡ (is_empty copies.now || nat_lt 100 (length copies.now) || has_double copies.now) }
 {
     copies.is_empty() || 100 < copies.len() || has_double(copies)
 }
 
-/// Whether a copy stands twice.
+/// Returns whether a copy is listed twice.
 fn has_double(copies: &[CopyNo]) -> bool
     ensures { result ≡ has_double copies.now }
 {
@@ -67,8 +68,8 @@ fn has_number(copies: &[CopyNo], number: CopyNo) -> bool
     copies.iter().any(|copy| *copy == number)
 }
 
-/// Whether one of the numbers is none that a branch with so many copies gave. Its copies are numbered without a gap,
-/// so none need be read for it.
+/// Returns whether a branch with so many copies never gave one of the numbers. Its copies are numbered without a gap,
+/// so no copy has to be read.
 pub fn has_unknown_copy(copies: &[CopyNo], count: u32) -> bool
     ensures { (shop : Shop) → count ≡ length shop.copies → result ≡ list_any (lacks shop.copies) copies.now }
 {
@@ -80,7 +81,7 @@ pub fn has_unknown_copy(copies: &[CopyNo], count: u32) -> bool
     false
 }
 
-/// Of receiving the consignment without the missing lines.
+/// Returns the first refusal of a receipt of the consignment without the missing lines.
 #[tactic(auto, using(crate::proofs::ReceiptLemmas::one_arrival))]
 pub fn receive_refusal(missing: &[LineNo], rows: &RowsFound) -> Option<Refusal>
     ensures { (b source number : ℕ) → IsRefusal b (model.Receive source number missing.now) rows.now result }
@@ -99,7 +100,7 @@ pub fn receive_refusal(missing: &[LineNo], rows: &RowsFound) -> Option<Refusal>
     }
 }
 
-/// Whether the numbers rise and each is that of one of so many lines. It stops at the first that isn't.
+/// Returns whether the numbers rise, and each is the number of one of so many lines. It stops at the first that isn't.
 fn are_lines(numbers: &[LineNo], lines: usize) -> bool
     ensures { result ≡ are_lines 0 lines numbers.now }
 {
@@ -114,7 +115,8 @@ fn are_lines(numbers: &[LineNo], lines: usize) -> bool
     true
 }
 
-/// How many copies come with the consignment: none where there is none, it is received, or the missing lines are bad.
+/// Returns how many copies come with the consignment. None come if there is no consignment, if it is received, or if
+/// the missing lines are bad.
 #[tactic(auto, using(crate::proofs::ReceiptLemmas::one_arrival))]
 pub fn new_from(found: &Option<ArrivalFound>, missing: &[LineNo]) -> u32
     ensures value { (shop : Shop) (source number : ℕ)
@@ -128,7 +130,7 @@ pub fn new_from(found: &Option<ArrivalFound>, missing: &[LineNo]) -> u32
     }
 }
 
-/// The same of one that is there.
+/// Returns how many copies come with a consignment that is there.
 #[tactic(auto, using(crate::proofs::ReceiptLemmas::one_arrival))]
 fn coming(it: &ArrivalFound, missing: &[LineNo]) -> u32
     ensures value { (shop : Shop) (source number : ℕ)

@@ -1,4 +1,4 @@
-//! The decision on a command of a branch.
+//! Decides on a command of a branch.
 
 ghost use Rattle.std.specs.Prelude.{◌≡◌, ℕ, ◌+◌, ◌&&◌, nat_lt, Some, List, length, map, option_map};
 ghost use Rattle.std.specs.List.{list_any};
@@ -19,7 +19,7 @@ use crate::consignments::new_from;
 use crate::{Found, RowsFound, stock};
 use shop_types::{Act, BranchNo, Change, Command, Limits, Moment, Refusal, StaffFound};
 
-/// Whether a branch's command is accepted, or the first refusal that holds of it. It takes no memory.
+/// Accepts a branch's command, repeats its kept reply, or fails with the first refusal that holds. Takes no memory.
 pub fn decide<'a>(
     branch: BranchNo,
     command: &Command,
@@ -45,7 +45,7 @@ pub fn decide<'a>(
     }
 }
 
-/// The first refusal of a command whose key isn't kept.
+/// Returns the first refusal of a command whose key isn't kept.
 fn first_refusal(
     branch: BranchNo,
     command: &Command,
@@ -67,7 +67,7 @@ fn first_refusal(
     }
 }
 
-/// Whether the branch has as many kept rows as it may, or would have more copies.
+/// Returns whether the branch has as many kept rows as it may, or would have more copies than it may.
 fn is_full(act: &Act, found: &Found<'_>, limits: Limits) -> bool
     ensures { (rules : model.Rules) (catalogue : Catalogue) (shop : Shop) (command : model.Command)
         → command.act ≡ seen_act act.now → rules.commands ≡ limits.commands → rules.copies ≡ limits.copies
@@ -76,7 +76,7 @@ fn is_full(act: &Act, found: &Found<'_>, limits: Limits) -> bool
     limits.commands() <= found.keys || has_no_room(act, &found.rows, limits)
 }
 
-/// Whether the act makes copies, and more than the branch may still have.
+/// Returns whether the act makes copies, and more than the branch may still have.
 fn has_no_room(act: &Act, rows: &RowsFound, limits: Limits) -> bool
     ensures { (rules : model.Rules) (catalogue : Catalogue) (shop : Shop) (moment : calendar.Moment)
         → rules.copies ≡ limits.copies → ActAgrees rules catalogue shop moment (seen_act act.now) rows.now
@@ -87,7 +87,7 @@ fn has_no_room(act: &Act, rows: &RowsFound, limits: Limits) -> bool
     0 < new && u64::from(limits.copies()) < u64::from(rows.copies) + u64::from(new)
 }
 
-/// How many copies the act makes.
+/// Returns how many copies the act makes.
 fn new_copies(act: &Act, rows: &RowsFound) -> u32
     ensures { (rules : model.Rules) (catalogue : Catalogue) (shop : Shop) (moment : calendar.Moment)
         → ActAgrees rules catalogue shop moment (seen_act act.now) rows.now
@@ -100,7 +100,7 @@ fn new_copies(act: &Act, rows: &RowsFound) -> u32
     }
 }
 
-/// Whether the moment is before the last one, where there is one.
+/// Returns whether there is a last moment, and the moment is before it.
 fn is_before(moment: Moment, last: Option<Moment>) -> bool
     ensures { result ≡ is_before moment last }
 {
@@ -110,7 +110,7 @@ fn is_before(moment: Moment, last: Option<Moment>) -> bool
     }
 }
 
-/// Whether there is such a member of staff, who works at the branch and hasn't left.
+/// Returns whether the member of staff is there, works at the branch and hasn't left.
 #[tactic(auto, using(shop_model::proofs::FoundLemmas::at_one))]
 fn works_at(staff: Option<StaffFound>, branch: BranchNo) -> bool
     ensures { (rows : List model.Staff) (n : ℕ) → option_map seen_post staff ≡ head (map post_of (at n rows))

@@ -1,4 +1,4 @@
-//! Which copies of a film are in stock, and which are not.
+//! Lists the copies of a film that are in stock, and the copies that aren't.
 
 ghost use Rattle.std.specs.Prelude.{◌≡◌, ℕ, filter, map, IfOk};
 ghost use Rattle.shop_model.specs.Shop.{Shop};
@@ -18,14 +18,14 @@ pub struct FilmCopy {
     pub is_in_stock: bool,
 }
 
-/// Whether the copy is here, and in stock or not.
+/// Returns whether the copy is here, and is in stock exactly if the flag is set.
 fn is_listed(copy: &FilmCopy, is_in: bool) -> bool
     ensures { result ≡ is_listed is_in (seen_film_copy copy.now) }
 {
     copy.is_here && copy.is_in_stock == is_in
 }
 
-/// The copies that are here, and in stock or not, by number.
+/// Returns the numbers of the copies that are here, and that are in stock exactly if the flag is set.
 fn listed(alloc: Global, copies: &[FilmCopy], is_in: bool) -> Result<Vec<CopyNo>, NoMemory>
     ensures { IfOk result (λ numbers. numbers.items
         ≡ map (λ it. it.0) (filter (is_listed is_in) (map seen_film_copy copies.now))) }
@@ -41,8 +41,8 @@ fn listed(alloc: Global, copies: &[FilmCopy], is_in: bool) -> Result<Vec<CopyNo>
     Ok(numbers)
 }
 
-/// The copies that are here and in stock, by number: the manual's `film_in_stock`; that they have to be here is our
-/// own rule.
+/// Returns the numbers of the copies that are here and in stock: the manual's `film_in_stock`. Our own rule is that
+/// they have to be here.
 pub fn film_in_stock(alloc: Global, copies: &[FilmCopy]) -> Result<Vec<CopyNo>, NoMemory>
     ensures { IfOk result (λ numbers. (film : ℕ) (shop : Shop) → AreOfFilm film shop copies.now
         → numbers.items ≡ film_in_stock film shop) }
@@ -50,7 +50,8 @@ pub fn film_in_stock(alloc: Global, copies: &[FilmCopy]) -> Result<Vec<CopyNo>, 
     listed(alloc, copies, true)
 }
 
-/// The copies that are here and not in stock, by number: the manual's `film_not_in_stock`, and the same rule.
+/// Returns the numbers of the copies that are here and not in stock: the manual's `film_not_in_stock`. Our own rule is
+/// that they have to be here.
 pub fn film_not_in_stock(alloc: Global, copies: &[FilmCopy]) -> Result<Vec<CopyNo>, NoMemory>
     ensures { IfOk result (λ numbers. (film : ℕ) (shop : Shop) → AreOfFilm film shop copies.now
         → numbers.items ≡ film_not_in_stock film shop) }

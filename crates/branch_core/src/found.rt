@@ -1,4 +1,4 @@
-//! What was found of the rows that a command names.
+//! Holds what was found of the rows that a command names.
 
 ghost use Rattle.std.specs.Prelude.{◌≡◌, false, None};
 ghost use Rattle.branch_core.specs.Agreed.{nothing};
@@ -29,9 +29,9 @@ pub struct CopyFound {
     pub is_here: bool,
     /// Whether its film is withdrawn.
     pub is_withdrawn: bool,
-    /// Whether a customer has it.
+    /// Whether a customer has the copy.
     pub is_out: bool,
-    /// What a rental of its film is charged by now.
+    /// The terms of a rental of its film that begins now.
     pub terms: Terms,
 }
 
@@ -44,20 +44,20 @@ pub struct RentalFound {
     pub is_returned: bool,
 }
 
-/// What was found of the copies that a command lists, to be sent to another branch.
+/// What was found of the copies that a command lists for another branch.
 #[derive(Drop)]
 pub struct ListedFound {
     /// Whether the branch has no copy of one of the numbers.
     pub has_unknown: bool,
-    /// Whether one of the copies is sent or scrapped. It is looked at where the branch has them all.
+    /// Whether one of the copies is sent or scrapped. This is looked up only if the branch has all of them.
     pub has_away: bool,
-    /// Whether a customer has one of the copies. It is looked at where all are here.
+    /// Whether a customer has one of the copies. This is looked up only if all of them are here.
     pub has_out: bool,
-    /// The lines that they make, in their order. Of more than 100 copies there are none.
+    /// The lines that the copies make, in their order. There are none if more than 100 copies are listed.
     pub lines: Option<ParcelLines>,
 }
 
-/// A consignment to the branch, of which a command names the sender and the number.
+/// A consignment to the branch. A command names it by its sender and its number.
 #[derive(Drop)]
 pub struct ArrivalFound {
     /// Whether it was received already.
@@ -68,13 +68,13 @@ pub struct ArrivalFound {
 /// All that a decision reads.
 #[derive(Drop)]
 pub struct Found<'a> {
-    /// The branch's kept row of the command's key, where there is one.
+    /// The branch's kept row of the command's key, if there is one.
     pub kept: Option<KeptFound<'a>>,
     /// How many kept rows the branch has.
     pub keys: u32,
     /// The moment of the branch's last accepted command.
     pub last: Option<Moment>,
-    /// The member of staff of the command's number, where there is one.
+    /// The member of staff with the command's number, if there is one.
     pub staff: Option<StaffFound>,
     pub rows: RowsFound,
 }
@@ -88,21 +88,20 @@ pub struct Named {
     pub rental: Option<RentalNo>,
 }
 
-/// The rows that a command's act names, one field a kind. What is said of a kind that it doesn't name is never looked
-/// at.
+/// The rows that a command's act names, one field a kind. The fields of kinds that it doesn't name are never read.
 #[derive(Drop)]
 pub struct RowsFound {
     /// Whether the catalogue has the city of a new customer.
     pub has_city: bool,
-    /// Whether the customer may rent, where the branch has one of the number.
+    /// Whether the customer may rent, if the branch has a customer of the number.
     pub customer: Option<bool>,
-    /// The copy, where the branch has one of the number.
+    /// The copy, if the branch has a copy of the number.
     pub copy: Option<CopyFound>,
     /// Whether the branch has a rental of the command's moment, copy and customer.
     pub has_same: bool,
-    /// The rental, where the branch has one of the number.
+    /// The rental, if the branch has a rental of the number.
     pub rental: Option<RentalFound>,
-    /// How many copies the branch has, in whatever state, where it is to get more.
+    /// How many copies the branch has, in whatever state, if the act may bring more.
     pub copies: u32,
     /// Whether the branch has a lot of the name.
     pub has_lot: bool,
@@ -112,7 +111,7 @@ pub struct RowsFound {
     pub has_branch: bool,
     /// The copies that are listed.
     pub listed: ListedFound,
-    /// The consignment that is to be received, where there is one.
+    /// The consignment that is to be received, if there is one.
     pub arrival: Option<ArrivalFound>,
 }
 
@@ -130,7 +129,7 @@ impl Named {
 }
 
 impl ListedFound {
-    /// No test holds of a copy, and no line was made.
+    /// Returns a value in which no test holds of a copy, and no line was made.
     pub fn none() -> ListedFound
         ensures { result ≡ record { has_unknown = false; has_away = false; has_out = false; lines = None } }
     {
@@ -144,7 +143,7 @@ impl ListedFound {
 }
 
 impl RowsFound {
-    /// Of no row there is anything.
+    /// Returns a value in which nothing was found of any row.
     pub fn none(alloc: Global) -> RowsFound {
         RowsFound {
             has_city: false,

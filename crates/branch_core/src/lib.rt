@@ -1,5 +1,5 @@
-//! What a branch decides of a command, by what was found of the rows that the command names: that it is accepted, or
-//! the first refusal.
+//! Decides on a command of a branch by what was found of the rows that the command names. The command is accepted, or
+//! the first refusal is returned.
 #![tactic(auto)]
 
 mod acts;

@@ -1,4 +1,4 @@
-//! What the rows of a stock file come to.
+//! Counts the copies that the rows of a stock file make, and finds the first refusal of their import.
 
 ghost use Rattle.std.specs.Prelude.{◌≡◌, ◌≤◌, nat_le, not, [], Some, None, IfOk, if◌then◌else◌};
 ghost use Rattle.std.specs.List.{All, list_any};
@@ -16,7 +16,7 @@ use shop_types::{BadCsv, Refusal};
 use std::alloc::Global;
 use std::marker::Model;
 
-/// The rows of a stock file, with what the catalogue has of their films. They list at most 1,000 copies in all.
+/// The rows of a stock file, with what the catalogue says of their films. They list at most 1,000 copies in all.
 #[derive(Drop)]
 pub struct StockRows {
     rows: Vec<StockFound>,
@@ -35,7 +35,7 @@ impl Model for StockRows {
 }
 
 impl StockRows {
-    /// The rows, where they list no more than 1,000 copies. It takes the `Vec`, and so no memory.
+    /// Returns the rows, if they list no more than 1,000 copies. It takes over the `Vec`, and so takes no memory.
     pub fn new(rows: Vec<StockFound>) -> Option<StockRows>
         ensures { result ≡ (if nat_le (copies_of rows.items) 1_000 then Some rows.items else None) }
     {
@@ -46,7 +46,7 @@ impl StockRows {
         }
     }
 
-    /// No rows.
+    /// Returns a value without rows.
     pub fn none(alloc: Global) -> StockRows
         ensures { result ≡ [] }
     {
@@ -63,7 +63,7 @@ impl StockRows {
     }
 }
 
-/// Whether the rows list no more than 1,000 copies.
+/// Returns whether the rows list no more than 1,000 copies.
 fn are_few(rows: &[StockFound]) -> bool
     ensures { result ≡ nat_le (copies_of rows.now) 1_000 }
 {
@@ -77,7 +77,7 @@ fn are_few(rows: &[StockFound]) -> bool
     true
 }
 
-/// How many copies the rows list.
+/// Returns how many copies the rows list.
 pub fn copies_in(rows: &[StockFound]) -> u32
     requires { copies_of rows.now ≤ 1_000 }
     ensures { result ≡ copies_of rows.now }
@@ -89,7 +89,7 @@ pub fn copies_in(rows: &[StockFound]) -> u32
     copies
 }
 
-/// The rows of the stock file: none where it is at fault.
+/// Returns the rows of the stock file, or no rows if the file has a fault.
 pub fn rows_in(stock: &Result<StockRows, BadCsv>) -> &[StockFound]
     ensures films { films_of result.now ≡ films_in (seen_stock stock.now) }
     ensures few { copies_of result.now ≤ 1_000 }
@@ -100,7 +100,7 @@ pub fn rows_in(stock: &Result<StockRows, BadCsv>) -> &[StockFound]
     }
 }
 
-/// How many copies the stock file makes: none where it is at fault.
+/// Returns how many copies the stock file makes. If the file has a fault, it makes none.
 pub fn new_copies(stock: &Result<StockRows, BadCsv>) -> u32
     ensures value { result ≡ new_in (seen_stock stock.now) }
     ensures bound { result ≤ 1_000 }
@@ -111,7 +111,7 @@ pub fn new_copies(stock: &Result<StockRows, BadCsv>) -> u32
     }
 }
 
-/// Of an import of the stock file, by whether the branch has a lot of the name.
+/// Returns the first refusal of an import of the stock file. `has_lot` says whether the branch has a lot of the name.
 pub fn stock_refusal(stock: &Result<StockRows, BadCsv>, has_lot: bool) -> Option<Refusal>
     ensures { (catalogue : Catalogue) (shop : Shop) (lot : Text) → IfOk stock.now (All (RowAgrees catalogue))
         → has_lot ≡ list_any (bytes_eq lot) shop.lots
@@ -124,7 +124,7 @@ pub fn stock_refusal(stock: &Result<StockRows, BadCsv>, has_lot: bool) -> Option
     }
 }
 
-/// Of an import of the rows.
+/// Returns the first refusal of an import of the rows.
 #[tactic(auto, using(crate::proofs::StockLemmas::any_withdrawn, crate::proofs::StockLemmas::any_unknown))]
 fn rows_refusal(rows: &[StockFound], has_lot: bool) -> Option<Refusal>
     ensures { (catalogue : Catalogue) (shop : Shop) (lot : Text) → All (RowAgrees catalogue) rows.now

@@ -1,4 +1,4 @@
--- The copies of a film, row by row, are those of the branch's shop.
+-- The copies of a film that are found row by row are the copies in the branch's shop.
 use Rattle.shop_schema.proofs.Common.{◌≡◌, ◌∙◌, refl, sym, ap, ℕ, ◌+◌, Bool, List, [], ◌∷◌, map, filter, Row, is_of, of, numbered, numbered_from, IsCounted, AreNumbered, Copy, Rental, is_here, in_stock, BookCopy, Books, shop_of, unmarked, map_map, filter-map}
 use Rattle.std.specs.Prelude.{◌==◌, ◌&&◌}
 use Rattle.shop_store.specs.declared.copies.CopyRow.{CopyRow}
@@ -12,7 +12,7 @@ use Rattle.branch_finds.specs.Finds.{copy_shown}
 abbrev pair_of : Row BookCopy → ℕ × Copy
 pair_of row = (row.number, unmarked row.it)
 
--- its number, whether it is here, and whether it is in stock
+-- a copy's number, whether the copy is here, and whether it is in stock
 abbrev told : List Rental → ℕ × Copy → ℕ × Bool × Bool
 told rentals it = (it.0, is_here it.1, in_stock it.0 rentals)
 
@@ -33,7 +33,7 @@ film_rows b film rentals rows counted =
     ∙ ap (λ (found : List (Row BookCopy)). map (told rentals) (map pair_of found)) (filter_twice (is_of b) (λ (row : Row BookCopy). q (pair_of row)) rows)
     ∙ ap (map (told rentals)) (sym (filter-map q pair_of own) ∙ ap (filter q) pairs)
 
--- rows that are the branch's of the film
+-- rows of the branch's copies of the film
 pub of_film : (b film : ℕ) (books : Books) (copies : List FilmCopy) (rows : List CopyRow) → AreNumbered (is_of b) (λ (row : Row BookCopy). row.number) books.copies
     → map (λ (row : CopyRow). seen_copy_row row) rows ≡ filter (λ (row : Row BookCopy). is_of b row && row.it.film == film) books.copies
     → map seen_film_copy copies ≡ map (copy_shown (shop_of b books).rentals) rows → AreOfFilm film (shop_of b books) copies

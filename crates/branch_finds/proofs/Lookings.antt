@@ -1,4 +1,4 @@
--- What is found of one row tells what the books have of it.
+-- What is found of one row is what the books have of the row.
 use Rattle.shop_schema.proofs.Common.{◌≡◌, ◌∙◌, ap, sym, Bool, List, [], ◌∷◌, map, Option, Some, None, option_map, option_to_list, at, Copy, Catalogue, is_here, is_film_withdrawn, head}
 use Rattle.shop_store.specs.SharedSeen.{withdrawn_of}
 use Rattle.branch_finds.specs.Finds.{is_yes}
@@ -8,7 +8,7 @@ pub head_of : {X Y Z : Type 0} (f : X → Y) (g : Y → Z) (o : Option X) (l : L
 head_of f g None l is = ap (λ l. head (map g l)) is
 head_of f g (Some x) l is = ap (λ l. head (map g l)) is
 
--- whether the copy is here, whether its film is withdrawn, and whether it is out as is said
+-- whether the copy is here, whether its film is withdrawn, and whether it is out as the flag says
 abbrev pub shown : Catalogue → Bool → Copy → Bool × Bool × Bool
 shown catalogue out it = (is_here it, is_film_withdrawn catalogue it.film, out)
 

@@ -1,4 +1,4 @@
--- What is found of the single rows that an act names is what was to be found, where it names no others.
+-- If an act names only single rows, what is found of the named rows is all that its decision reads.
 use Rattle.shop_schema.proofs.Common.{◌≡◌, refl, ℕ, List, Moment, Books, shop_of, seen_act}
 use Rattle.shop_types.specs.declared.command.Act.{Act}
 use Rattle.shop_types.specs.declared.command.Act.TheVariants as act

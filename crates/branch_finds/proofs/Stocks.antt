@@ -1,4 +1,4 @@
--- What is found of the films of a stock file.
+-- Lemmas about what is found of the films of a stock file.
 use Rattle.shop_schema.proofs.Common.{◌≡◌, ◌∙◌, refl, sym, ap, ℕ, ◌+◌, ◌<◌, List, [], ◌∷◌, ◌++◌, length, map, take, get_or, replicate, Bool, Option, All, map_more, map_push, take_more, at, Catalogue, head}
 use Rattle.std.proofs.lemmas.List.Elements.{All-map, All-weaker}
 use Rattle.stock_csv.specs.declared.StockRow.{StockRow}
@@ -11,7 +11,7 @@ use Rattle.branch_finds.proofs.Readings.{at_most_one}
 use Rattle.consign_finds.proofs.Readings.{some_there}
 use Rattle.branch_finds.specs.Commands.{as_listed, found_row, told_row}
 
--- what the store told of a row's film is what the catalogue has of it
+-- what the store returned for a row's film is what the catalogue has of the film
 pub film_found : (catalogue : Catalogue) (row : StockRow) (withdrawn : Option Bool) → withdrawn ≡ head (map withdrawn_of (at row.film catalogue.films))
     → told_row row withdrawn ≡ found_row catalogue row
 film_found catalogue row withdrawn told =

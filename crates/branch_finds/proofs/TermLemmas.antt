@@ -1,4 +1,4 @@
--- What is found of a copy's film tells the terms of a rental.
+-- What is found of a copy's film gives the terms of a rental.
 use Rattle.std.proofs.Common.{flat_map}
 use Rattle.shop_schema.proofs.Common.{◌≡◌, ◌∙◌, refl, sym, ap, inl, inr, ℕ, List, [], ◌∷◌, map, append-nil, Bool, Option, Some, None, option_map, option_to_list, at, at_one, Copy, Film, Terms, Catalogue, Shop, head, film_terms, terms_now, seen_terms}
 use Rattle.chain_caches.specs.declared.films.KnownFilm.{KnownFilm}
@@ -35,7 +35,7 @@ one_told t [] is one = cc
 one_told t (film ∷ []) is one = ap option_to_list (sym is)
 one_told t (film ∷ other ∷ films) is one = cc
 
--- the terms of a rental of the copy, by those of its film
+-- the terms of a rental of the copy are the terms of its film
 pub copy_terms : (catalogue : Catalogue) (shop : Shop) (x : ℕ) (copy : Copy) (t : Terms) → copy ∷ [] ≡ at x shop.copies → Some t ≡ head (map film_terms (at copy.film catalogue.films))
     → terms_now catalogue shop x ≡ t ∷ []
 copy_terms catalogue shop x copy t found told =

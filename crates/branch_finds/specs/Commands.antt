@@ -1,4 +1,4 @@
--- What is found of the rows that a command names.
+-- Defines what is found of the rows that a command names.
 use Rattle.std.specs.Prelude.{◌≡◌, ℕ, Bool, not, is_some, map, filter, Option, option_map}
 use Rattle.std.specs.Str.{bytes_eq}
 use Rattle.shop_model.specs.Rows.{lacks, owned_by}
@@ -13,7 +13,7 @@ use Rattle.branch_core.specs.declared.found.StockFound.{StockFound}
 use Rattle.branch_core.specs.Agreed.{kept_for}
 use Rattle.branch_finds.specs.Finds.{is_yes}
 
--- the row, with whether the catalogue has its film, and whether that is withdrawn
+-- the row, with whether the catalogue has its film, and whether the film is withdrawn
 abbrev pub found_row : Catalogue → StockRow → StockFound
 found_row catalogue row = record {
   film = row.film;
@@ -22,7 +22,7 @@ found_row catalogue row = record {
   is_withdrawn = is_film_withdrawn catalogue row.film;
 }
 
--- the row, by whether its film is withdrawn, where there is such a film
+-- the row, made from whether its film is withdrawn, if there is such a film
 abbrev pub told_row : StockRow → Option Bool → StockFound
 told_row row withdrawn = record { film = row.film; copies = row.copies; is_there = is_some withdrawn; is_withdrawn = is_yes withdrawn }
 
@@ -30,6 +30,6 @@ told_row row withdrawn = record { film = row.film; copies = row.copies; is_there
 abbrev pub as_listed : StockFound → StockRow
 as_listed found = record { film = found.film; copies = found.copies }
 
--- what was found of the key is what the branch has under it
+-- what was found of the key is what the branch has under the key
 abbrev pub IsKeptFor : ℕ → Command → Option KeptFound → Books → Type 0
 IsKeptFor b command kept books = option_map seen_kept kept ≡ head (map (kept_for command) (filter (λ it. bytes_eq it.command.key command.key) (owned_by b books.kept)))

@@ -1,4 +1,4 @@
-//! What a command's decision reads: what the tables have of the rows that the command names.
+//! Finds what the decision on a command reads: the rows that the command names.
 
 ghost use Rattle.std.specs.Prelude.{◌≡◌, ◌≤◌, ℕ, map, IfOk};
 ghost use Rattle.std.specs.List.{All};
@@ -33,7 +33,7 @@ use sqlite::{Alter, Transaction};
 use std::alloc::Global;
 use stock_csv::{StockFault, StockRow, read_stock};
 
-/// All that a decision on the branch's command reads, where its kept row and how the branch stands are known.
+/// Finds all that a decision on the branch's command reads. The kept row and the standing of the branch are given.
 pub fn find_for_command<'a, S: Alter>(
     alloc: Global,
     tx: &mut Transaction<'_, S>,
@@ -61,7 +61,7 @@ pub fn find_for_command<'a, S: Alter>(
     })
 }
 
-/// What there is of the rows that the command's act names.
+/// Finds the rows that the command's act names.
 fn find_rows<S: Alter>(
     alloc: Global,
     tx: &mut Transaction<'_, S>,
@@ -84,7 +84,7 @@ fn find_rows<S: Alter>(
     }
 }
 
-/// What there is of the single rows that are named.
+/// Finds the single rows that are named.
 fn find_named<S: Alter>(
     alloc: Global,
     tx: &mut Transaction<'_, S>,
@@ -109,7 +109,7 @@ fn find_named<S: Alter>(
     })
 }
 
-/// The customer and the copy of a new rental, and whether there is one of its moment, customer and copy.
+/// Finds the customer and the copy of a new rental, and whether a rental has its moment, customer and copy already.
 fn find_for_rental<S: Alter>(
     alloc: Global,
     tx: &mut Transaction<'_, S>,
@@ -133,7 +133,7 @@ fn find_for_rental<S: Alter>(
     })
 }
 
-/// How many copies there are before an import, whether there is its lot, and the rows of its stock file.
+/// Finds how many copies there are before an import, whether its lot is there, and the rows of its stock file.
 fn find_for_import<S: Alter>(
     alloc: Global,
     tx: &mut Transaction<'_, S>,
@@ -157,7 +157,7 @@ fn find_for_import<S: Alter>(
     })
 }
 
-/// The rows of the stock file with what there is of their films, or the file's fault.
+/// Reads the rows of the stock file and finds their films, or returns the file's fault.
 fn find_stock<S: Alter>(
     alloc: Global,
     tx: &mut Transaction<'_, S>,
@@ -178,7 +178,7 @@ fn find_stock<S: Alter>(
     }
 }
 
-/// The rows of a stock file, with what there is of their films.
+/// Finds the films of the rows of a stock file.
 fn find_films<S: Alter>(
     alloc: Global,
     tx: &mut Transaction<'_, S>,
@@ -198,7 +198,7 @@ fn find_films<S: Alter>(
     Ok(found)
 }
 
-/// The row of a stock file, by whether its film is withdrawn, where there is such a film.
+/// Returns the row of a stock file. `withdrawn` says whether its film is withdrawn, if there is such a film.
 fn told_row(row: StockRow, withdrawn: Option<bool>) -> StockFound
     ensures { result ≡ told_row row withdrawn }
 {

@@ -1,4 +1,4 @@
-//! What is found of customers, copies and rentals.
+//! Finds customers, copies and rentals.
 
 ghost use Rattle.std.specs.Prelude.{◌≡◌, ℕ, is_some, map, option_map, option_to_list, not, IfSome};
 ghost use Rattle.sql_rows.specs.Calls.{DoesWithin};
@@ -25,7 +25,7 @@ use sql_rows::StoreFault;
 use sqlite::{Alter, Transaction};
 use std::alloc::Global;
 
-/// Whether there is the city that is named.
+/// Finds whether the city that is named is there.
 pub fn find_city<S: Alter>(
     tx: &mut Transaction<'_, S>,
     city: Option<CityNo>,
@@ -39,7 +39,7 @@ pub fn find_city<S: Alter>(
     }
 }
 
-/// Whether the customer who is named may rent, where the branch has one of the number.
+/// Finds whether the customer who is named may rent, if the branch has a customer of the number.
 pub fn find_customer<S: Alter>(
     tx: &mut Transaction<'_, S>,
     branch: BranchNo,
@@ -54,8 +54,9 @@ pub fn find_customer<S: Alter>(
     }
 }
 
-/// Whether the copy that is named is in the shop, its film withdrawn and a customer has it, and its film's terms as they
-/// are now, where the branch has one of the number. No sound table lacks the film.
+/// Finds the copy that is named, if the branch has a copy of the number: whether it is in the shop, whether its film is
+/// withdrawn, and whether it is out. Also finds its film's terms as they are now. Fails if there is no row of the film,
+/// which no sound table lacks.
 pub fn find_copy<S: Alter>(
     tx: &mut Transaction<'_, S>,
     films: &mut FilmCache,
@@ -84,7 +85,7 @@ pub fn find_copy<S: Alter>(
     }))
 }
 
-/// The rental that is named, where the branch has one of the number.
+/// Finds the rental that is named, if the branch has a rental of the number.
 pub fn find_rental<S: Alter>(
     tx: &mut Transaction<'_, S>,
     branch: BranchNo,
@@ -103,7 +104,7 @@ pub fn find_rental<S: Alter>(
     }
 }
 
-/// What is found of a rental.
+/// Returns what a decision reads of a rental.
 fn rental_found(rental: Rental) -> RentalFound
     ensures { seen_rental result ≡ (rental.customer, rental.copy, is_some rental.returned) }
 {
@@ -115,7 +116,7 @@ fn rental_found(rental: Rental) -> RentalFound
     }
 }
 
-/// The customer of the rental, where the branch has it.
+/// Finds the customer of the rental, if the branch has the rental.
 fn find_renter<S: Alter>(
     tx: &mut Transaction<'_, S>,
     branch: BranchNo,
@@ -131,7 +132,7 @@ fn find_renter<S: Alter>(
     }
 }
 
-/// The customer who has a copy that is out by the rental, if by any.
+/// Finds the customer who has a copy that is out by the given rental. Finds nobody if no rental is given.
 pub fn find_holder<S: Alter>(
     tx: &mut Transaction<'_, S>,
     branch: BranchNo,
@@ -148,7 +149,7 @@ pub fn find_holder<S: Alter>(
     }
 }
 
-/// The branch's copies of the film, in order of number.
+/// Finds the branch's copies of the film, in order of number.
 pub fn find_of_film<S: Alter>(
     alloc: Global,
     tx: &mut Transaction<'_, S>,
@@ -162,7 +163,7 @@ pub fn find_of_film<S: Alter>(
     with_stock(alloc, tx, branch, rows.as_slice())
 }
 
-/// The copies of those rows, each with whether it is in stock.
+/// Returns the copies of the rows, each with whether it is in stock.
 fn with_stock<S: Alter>(
     alloc: Global,
     tx: &mut Transaction<'_, S>,
@@ -181,7 +182,7 @@ fn with_stock<S: Alter>(
     Ok(copies)
 }
 
-/// The copy of that row, with whether it is in stock.
+/// Returns the copy of the row, with whether it is in stock.
 fn with_its_stock<S: Alter>(
     tx: &mut Transaction<'_, S>,
     branch: BranchNo,

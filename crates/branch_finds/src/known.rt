@@ -1,4 +1,4 @@
-//! What is known of a film as it is now: the store is asked where the chain's cache of films doesn't know.
+//! Finds a film as it is now: in the chain's cache of films, or else in the store.
 
 ghost use Rattle.std.specs.Prelude.{◌≡◌, map, option_map};
 ghost use Rattle.sql_rows.specs.Calls.{DoesWithin};
@@ -15,7 +15,7 @@ use shop_types::{FilmNo, Terms};
 use sql_rows::StoreFault;
 use sqlite::{Alter, Transaction};
 
-/// By what a rental of the film is charged now, and whether it is withdrawn, where there is such a film.
+/// Finds the terms of a rental of the film that begins now, and whether the film is withdrawn, if there is such a film.
 pub fn find_film<S: Alter>(
     tx: &mut Transaction<'_, S>,
     films: &mut FilmCache,
@@ -36,7 +36,7 @@ pub fn find_film<S: Alter>(
     Ok(Some(film))
 }
 
-/// Whether the film is withdrawn, where there is such a film.
+/// Finds whether the film is withdrawn, if there is such a film.
 pub fn find_withdrawn<S: Alter>(
     tx: &mut Transaction<'_, S>,
     films: &mut FilmCache,
@@ -52,7 +52,7 @@ pub fn find_withdrawn<S: Alter>(
     }
 }
 
-/// What is known of the film in the row.
+/// Returns what the cache keeps of the film in the row.
 fn known_in(row: &FilmRow) -> KnownFilm
     ensures { seen_known result ≡ known_of (seen_film_row row.now) }
 {

@@ -1,4 +1,4 @@
-//! What is found of the rows that a command's decision reads, and of those that a reading names.
+//! Finds the rows that a command's decision reads, and the rows that a reading names.
 #![tactic(auto)]
 
 mod commands;

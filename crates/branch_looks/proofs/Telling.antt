@@ -1,4 +1,4 @@
--- What is said of a reply, of the work that it makes.
+-- What holds of a reply holds of the work that is made of the reply.
 use Rattle.shop_schema.proofs.Common.{◌≡◌, refl, sym, subst, ℕ, Result, Ok, Err, Bool, true, false, IsOk, IfOk, MutBor, Ghosts, Held, State, DoesWithin, inside_when, within_of, within_when, Ask, seen_reply}
 use Rattle.shop_types.specs.declared.reply.Reply.{Reply}
 use Rattle.shop_ledger.specs.Calls.{Finds}
@@ -22,7 +22,7 @@ module _ {E : Type 0} where
   told_decided (Err e) decided = tt
 
 module _ {S E : Type 0} {g : Ghosts S} {a b : MutBor (Held S)} where
-  -- a look is told, whether or not it reads a row
+  -- a reading is answered, whether or not it reads a row
   pub told_look : {branch : ℕ} {ask : Ask} (r : Result Reply E) {work : Result (Work Listing) E} → work ≡ told_of r → DoesBy (reads_row ask) g a b r (Tells branch ask)
       → IfOk r (λ it. IsDecision (seen_reply it)) → LooksAt g branch ask a b work
   told_look {branch = branch} {ask = ask} r is one decided = subst (LooksAt g branch ask a b) (sym is) (record { does = by (reads_row ask) one; decided = told_decided r decided })

@@ -1,4 +1,4 @@
--- What a branch's reading shows.
+-- Defines what a branch's reading shows.
 use Rattle.std.specs.Prelude.{◌≡◌, ⊤, ℕ, Bool, true, false, List, map, Result, Ok, Err, IfOk}
 use Rattle.std.specs.Borrow.{MutBor}
 use Rattle.sqlite_trees.specs.declared.store.Store.{Ghosts}
@@ -24,7 +24,7 @@ use Rattle.branch_looks.specs.declared.work.Work.TheVariants as work
 use Rattle.branch_looks.specs.declared.work.Listing.{Listing}
 use Rattle.branch_looks.specs.declared.work.Listing.TheVariants as list
 
--- ---- what it comes to
+-- ---- the result of a reading
 
 -- the reading's answer reads a row, whatever it shows
 abbrev pub reads_row : Ask → Bool
@@ -34,7 +34,7 @@ reads_row model.Arrivals = false
 reads_row model.SentOff = false
 reads_row ask = true
 
--- a call that reads a row goes on only in a transaction that is open, and one that may read none doesn't show that it was
+-- A call that reads a row succeeds only in an open transaction. A call that may read no row doesn't show that the transaction was open.
 abbrev pub DoesBy : {S X E : Type 0} → Bool → Ghosts S → MutBor (Held S) → MutBor (Held S) → Result X E → (X → State → State → Type 0) → Type 0
 DoesBy true g old new result Says = DoesInside g old new result Says
 DoesBy false g old new result Says = DoesWithin g old new result Says
@@ -46,29 +46,29 @@ listed b (list.Overdue at) books = RowsAre (map overdue_text (overdue_list books
 listed b list.Arrivals books = ArrivalsAre (shop_of b books).arrivals
 listed b list.Sent books = SentAre (shop_of b books).sent
 
--- it is answered as the definitions have it, with nothing to commit, or it asks for the list that they show
+-- The reading is answered as the definitions say, with nothing to commit, or it asks for the list that the definitions show.
 abbrev pub IsShown : ℕ → Ask → Work Listing → Books → Type 0
 IsShown b ask (work.Answered it) books = (seen_reply it.reply ≡ looked b ask books) × (it.is_changed ≡ false)
 IsShown b ask (work.Shows it) books = looked b ask books ≡ answer_of (Shows (listed b it books))
 
--- what is answered is a decision, whatever the disk did
+-- an answer is a decision, whatever the disk did
 abbrev pub TellsDecision : {L : Type 0} → Work L → Type 0
 TellsDecision (work.Answered it) = IsDecision (seen_reply it.reply)
 TellsDecision (work.Shows it) = ⊤
 
--- What a reading of a branch comes to: it stays inside the transaction, shows what the definitions show of the books, and is a decision.
+-- A reading of a branch stays inside the transaction, and shows what the definitions show of the books. Its answer is a decision.
 pub record LooksAt {S E : Type 0} (g : Ghosts S) (b : ℕ) (ask : Ask) (old new : MutBor (Held S)) (result : Result (Work Listing) E) : Type 0 where
   pub does : DoesBy (reads_row ask) g old new result (λ it. Finds (IsShown b ask it))
   pub decided : IfOk result TellsDecision
 
--- the reply, which changes nothing
+-- the work with the reply, which changes nothing
 abbrev pub told_of : {E : Type 0} → Result Reply E → Result (Work Listing) E
 told_of (Ok reply) = Ok (work.Answered (record { reply = reply; is_changed = false }))
 told_of (Err fault) = Err fault
 
 -- ---- the copies of a film
 
--- the copies that are asked for: those in stock, or those that aren't
+-- the reading that asks for a film's copies: the copies in stock, or the copies that aren't
 abbrev pub stock_asked : Bool → ℕ → Ask
 stock_asked true film = model.FilmInStock film
 stock_asked false film = model.FilmNotInStock film

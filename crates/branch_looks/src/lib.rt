@@ -1,5 +1,4 @@
-//! What a branch's reading shows inside one transaction, or which list it asks for. What is found for a command's
-//! decision is passed on for those above.
+//! Answers a branch's reading inside one transaction, or returns which list it asks for.
 #![tactic(auto)]
 
 mod looks;

@@ -1,4 +1,4 @@
-//! What a branch's readings of its rows show inside one transaction, which changes nothing.
+//! Answers a branch's readings of its rows inside one transaction. Nothing is changed.
 
 ghost use Rattle.std.specs.Prelude.{◌≡◌, ℕ, IfOk, string_bytes};
 ghost use Rattle.sql_rows.specs.Calls.{DoesInside};
@@ -23,7 +23,7 @@ use sql_rows::StoreFault;
 use sqlite::{Alter, Transaction};
 use std::alloc::Global;
 
-/// Tells of a customer.
+/// Shows a customer.
 pub(crate) fn look_customer<S: Alter>(
     alloc: Global,
     tx: &mut Transaction<'_, S>,
@@ -39,7 +39,7 @@ pub(crate) fn look_customer<S: Alter>(
     }
 }
 
-/// Tells of a film, which may be withdrawn. The branch is only the one that asks.
+/// Shows a film, which may be withdrawn. The reply doesn't depend on the branch that asks.
 pub(crate) fn look_film<S: Alter>(
     alloc: Global,
     tx: &mut Transaction<'_, S>,
@@ -55,7 +55,7 @@ pub(crate) fn look_film<S: Alter>(
     }
 }
 
-/// Tells whether a copy is in stock.
+/// Shows whether a copy is in stock.
 pub(crate) fn look_in_stock<S: Alter>(
     alloc: Global,
     tx: &mut Transaction<'_, S>,
@@ -71,7 +71,7 @@ pub(crate) fn look_in_stock<S: Alter>(
     }
 }
 
-/// Tells which customer has a copy.
+/// Shows which customer has a copy.
 pub(crate) fn look_holder<S: Alter>(
     alloc: Global,
     tx: &mut Transaction<'_, S>,
@@ -109,7 +109,7 @@ pub(crate) fn look_film_copies<S: Alter>(
     }
 }
 
-/// The body that lists the copies that are here and in stock, or here and not in stock.
+/// Returns the body that lists the copies that are here and in stock, or here and not in stock.
 fn listed_text(alloc: Global, copies: &[FilmCopy], is_in: bool) -> Result<String, NoMemory>
     ensures { IfOk result (λ text. (film : ℕ) (shop : Shop) → AreOfFilm film shop copies.now
         → string_bytes text ≡ shown_text (CopiesAre (stock_listed is_in film shop))) }

@@ -1,4 +1,4 @@
-//! How a branch's reading is answered: inside a transaction, or by a list.
+//! Answers a branch's reading inside a transaction, or by a list.
 
 ghost use Rattle.std.specs.Prelude.{◌≡◌};
 ghost use Rattle.shop_types.specs.Seen.{seen_ask};
@@ -13,8 +13,8 @@ use sql_rows::StoreFault;
 use sqlite::{Alter, Transaction};
 use std::alloc::Global;
 
-/// Whether the reading's answer reads a row at least. A list reads none inside a transaction; nor do rewards, where a
-/// threshold is 0 or there is no month before the moment's.
+/// Returns whether the reading's answer always reads a row. A list reads no row inside a transaction. Rewards read no
+/// row if a threshold is 0, or if there is no month before the moment's.
 pub fn reads_row(ask: Ask) -> bool
     ensures { result ≡ reads_row (seen_ask ask) }
 {
@@ -30,8 +30,8 @@ pub fn reads_row(ask: Ask) -> bool
     }
 }
 
-/// Answers a reading of a branch, or tells which list it asks for. Where it reads a row, an answer shows that the
-/// transaction was open.
+/// Answers a reading of a branch, or returns which list it asks for. If the reading reads a row, an answer shows that
+/// the transaction was open.
 pub fn look<S: Alter>(
     alloc: Global,
     tx: &mut Transaction<'_, S>,
@@ -59,7 +59,7 @@ pub fn look<S: Alter>(
     }
 }
 
-/// The reply to a reading, which changes nothing.
+/// Returns the work with the reply to a reading, which changes nothing.
 fn told(reply: Result<Reply, StoreFault>) -> Result<Work<Listing>, StoreFault>
     ensures { result ≡ told_of reply }
 {

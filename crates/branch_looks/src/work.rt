@@ -1,14 +1,14 @@
-//! What a request comes to inside a transaction, and a branch's lists.
+//! Defines the result of a request inside a transaction, and the lists of a branch.
 
 use shop_ledger::Answered;
 use shop_types::{Moment, View};
 
-/// What a request came to inside a transaction.
+/// The result of a request inside a transaction.
 #[derive(Drop)]
 pub enum Work<L> {
-    /// It is answered.
+    /// The request is answered.
     Answered(Answered),
-    /// It asks for a list, which is shown outside any transaction.
+    /// The request asks for a list, which is shown outside any transaction.
     Shows(L),
 }
 

@@ -1,4 +1,4 @@
--- What a look shows of a row that is there, and of one that isn't.
+-- Lemmas about what a reading shows of a row that is there, and of a row that isn't.
 use Rattle.shop_schema.proofs.Common.{◌≡◌, refl, List, [], ◌∷◌, map, Some, None, Sorry, Shows, given, head}
 use Rattle.shop_model.specs.Refusals.{Refusal}
 use Rattle.shop_model.specs.Machine.{Shown}

@@ -1,4 +1,4 @@
--- The month before a moment's lies between the first second of that month and that of the moment's own.
+-- The month before a moment's month is the time between the first seconds of both months.
 use Rattle.shop_schema.proofs.Common.{◌≡◌, ◌∙◌, refl, sym, ap, arith, ℕ, ℤ, pos, suc, ◌+◌, ◌*◌, ◌<◌, ◌≤◌, List, [], ◌∷◌, map, filter, Bool, true, false, cond, Option, Some, None, option_map, nat_lt, nat_le, int_le, if◌then◌else◌, AllByRecursion, nat_tests, all-filter, Moment, is_leap_year, days_in_year, days_in_month, is_by, is_earlier, month_days, month_before, Row, is_of, of, Payment, Shop, Books, rewarded_in, IsRow, IsPayment, IsHeld, Payments}
 use Rattle.std.specs.Prelude.{◌-◌, ◌==◌, ◌&&◌, ◌||◌}
 use Rattle.std.proofs.lemmas.Int.{ints}
@@ -33,7 +33,7 @@ years_up : (n : ℕ) → days_of_years (suc n) ≡ days_of_years n + days_in_yea
 unfolding days_of_years
 years_up n = refl
 
--- a month begins behind the last day of the one before it
+-- a month begins after the last day of the month before it
 next_month : (year month : ℕ) → 1 < month → day_number year month 1 ≡ day_number year (month - 1) (days_in_month year (month - 1)) + 1
 unfolding day_number
 next_month year month h =
@@ -45,7 +45,7 @@ next_month year month h =
     let some = some_days year (month - 1) in
     omega (arith, up, same, days, some)
 
--- a year begins behind the last day of the one before it
+-- a year begins after the last day of the year before it
 next_year : (year : ℕ) → 1970 < year → day_number year 1 1 ≡ day_number (year - 1) 12 (days_in_month (year - 1) 12) + 1
 unfolding day_number days_of_months
 next_year year h =

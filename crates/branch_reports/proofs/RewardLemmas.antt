@@ -1,4 +1,4 @@
--- Who is rewarded: one payment or customer more, the payments of the month alone, and the customers by number.
+-- Lemmas about rewarded customers: one payment or customer more, the payments of the month alone, and the customers by number.
 use Rattle.shop_schema.proofs.Common.{◌≡◌, ◌≢◌, ◌∙◌, refl, sym, ap, inl, inr, arith, ℕ, ℤ, suc, ◌+◌, ◌<◌, ◌≤◌, List, [], ◌∷◌, ◌++◌, length, map, filter, take, get_or, subst, cond, Ordering, Less, Equal, Greater, append_assoc, append-nil, Bool, true, false, Option, Some, None, option_map, codes, decimal, nat_lt, sum_by, if◌then◌else◌, cases_Bool, nat_tests, map_more, sum_by-append, sum_by-cons, nat_cmp_is, nat_cmp, numbered, numbered_from, Moment, Text, Payment, Rewards, numbers_text, object, Answer, answer_of, accepted_answer, Catalogue, Shop, rewarded_in, rewarded, Shows, CustomersAre, look, one_more, more_yes, more_no, differ_test, same_test}
 use Rattle.std.specs.Prelude.{◌==◌, ◌&&◌, ◌*◌}
 use Rattle.std.proofs.lemmas.List.{length-append}
@@ -25,7 +25,7 @@ taken {A = A} f rows i row lt is = map_more f rows i row lt ∙ ap (λ (r : A). 
 
 -- ---- one customer more
 
--- the number after n is no zero
+-- the number after n isn't zero
 pub number_is : (n c : ℕ) (found : Option ℕ) → found ≡ (if n + 1 == 0 then None else Some (n + 1)) → found ≡ Some c → c ≡ n + 1
 number_is n c found made is =
     let some : (n + 1 == 0) ≡ false = differ_test (n + 1) 0 (omega arith) in
@@ -97,7 +97,7 @@ rewarded_are month (Some days) shop purchases cents is =
     let same : month ≡ seen_days days = cc in
     λ i. filter (λ (c : ℕ). passes_are shop c days month purchases cents (map paid_of (filter (λ (it : Payment). it.customer == c) shop.payments)) same refl i) (sym (numbers_are shop.customers) i)
 
--- what is found by the count of the customers and by the payments of the month is what the model names
+-- the customers found by the count of customers and by the payments of the month are the customers that the model names
 pub found_are : (month : ℤ × ℤ) (days : Option (ℕ × ℕ)) (shop : Shop) (purchases cents n : ℕ) (payments : List Payment) (numbers : List ℕ) → Some month ≡ option_map seen_days days
     → n ≡ length shop.customers → payments ≡ filter (is_paid_in month) shop.payments → numbers ≡ rewarded_numbers month purchases cents n payments → numbers ≡ rewarded_in days shop purchases cents
 found_are month days shop purchases cents n payments numbers is count of_month found =
@@ -113,7 +113,7 @@ good_thresholds : (b : ℕ) (catalogue : Catalogue) (shop : Shop) (moment : Mome
     → look b catalogue shop (Rewards moment purchases cents) ≡ Shows (CustomersAre (rewarded shop moment purchases cents))
 good_thresholds b catalogue shop moment purchases cents some some_cents = rw (some_high purchases some, some_high cents some_cents) refl
 
--- an answer whose body lists the customers is the model's
+-- an answer whose body lists the customers is the model's answer
 pub rewards_told : (b : ℕ) (catalogue : Catalogue) (shop : Shop) (moment : Moment) (purchases cents : ℕ) (found numbers : List ℕ) (body : Text) (answer : Answer) → purchases ≢ 0 → cents ≢ 0
     → numbers ≡ found → found ≡ rewarded shop moment purchases cents → body ≡ object ((codes "count", decimal (length numbers)) ∷ (codes "customers", numbers_text numbers) ∷ []) → answer ≡ accepted_answer body
     → answer ≡ answer_of (look b catalogue shop (Rewards moment purchases cents))
@@ -133,7 +133,7 @@ one_longer paid it =
     let one : sum_by amount_of (it ∷ []) ≡ it.amount = sum_by-cons amount_of it [] ∙ omega arith in
     λ i. record { purchases = long i; cents = (sum ∙ ap (λ (n : ℕ). sum_by amount_of paid + n) one) i }
 
--- a key that is another isn't found for it
+-- a different key isn't found for a key
 apart : (a b : ℕ) → (a == b) ≡ false → is_at (nat_cmp a) b ≡ false
 apart a b other = elim (cases_Bool (is_at (nat_cmp a) b)) [
   | inl is ↦
@@ -164,7 +164,7 @@ pub sums_same : (month : ℤ × ℤ) (sums : BTreeMap ℕ PaidSum) (payments : L
 sums_same month sums payments it are off = λ c.
     are c ∙ ap summed (sym (paid_off month c payments it off))
 
--- a payment of the month changes its customer's sum alone
+-- a payment of the month changes only its customer's sum
 pub sums_more : (month : ℤ × ℤ) (old new : BTreeMap ℕ PaidSum) (payments : List Payment) (it : Payment) → AreSummed month old payments → is_on month (paid_of it) ≡ true
     → Updates nat_cmp old new it.customer (Some (one_paid it.amount (get nat_cmp old it.customer))) → AreSummed month new (payments ++ it ∷ [])
 sums_more month old new payments it are on updates = λ c.
@@ -183,7 +183,7 @@ sums_more month old new payments it are on updates = λ c.
           ap sum_or_none (updates.2 c differ) ∙ are c ∙ ap summed (sym (ap (filter (is_on month)) (more_no paid_of (λ (p : Payment). p.customer == c) payments it other)))
     ]
 
--- ---- their bounds
+-- ---- bounds of the sums
 
 weaker : (n m : ℕ) (sum : Option PaidSum) → n ≤ m → IfSome sum (λ it. (it.purchases ≤ n) × (it.cents ≤ 99999 * n)) → IfSome sum (λ it. (it.purchases ≤ m) × (it.cents ≤ 99999 * m))
 weaker n m None le small = tt

@@ -1,4 +1,4 @@
--- What a branch's reading shows.
+-- Defines what a branch's reading shows.
 use Rattle.std.specs.Prelude.{◌≡◌, ℕ}
 use Rattle.sqlite.specs.State.{State}
 use Rattle.shop_model.specs.Values.{Ask}

@@ -1,4 +1,4 @@
--- What is found of payments, and of the customers who are rewarded for them.
+-- Defines what is found of payments, and of the customers who are rewarded for the payments.
 use Rattle.std.specs.Prelude.{◌≡◌, ◌≤◌, ℕ, ◌+◌, ◌*◌, zero, suc, ℤ, [], ◌∷◌, ◌++◌, ◌==◌, Bool, List, length, sum_by, map, filter, Option, Some, None}
 use Rattle.std.specs.Option.{IfSome}
 use Rattle.std.specs.Ordering.{nat_cmp}
@@ -32,12 +32,12 @@ passes_for month purchases cents payments c = passes month purchases cents (map 
 abbrev pub paid_in : ℤ × ℤ → ℕ → List Payment → List Paid
 paid_in month c payments = filter (is_on month) (map paid_of (filter (λ (it : Payment). it.customer == c) payments))
 
--- a sum, or none paid
+-- the sum, or zero if the customer paid nothing
 abbrev pub sum_or_none : Option PaidSum → PaidSum
 sum_or_none None = record { purchases = 0; cents = 0 }
 sum_or_none (Some sum) = sum
 
--- a payment more
+-- the sum with one payment more
 abbrev pub one_paid : ℕ → Option PaidSum → PaidSum
 one_paid amount sum = record { purchases = (sum_or_none sum).purchases + 1; cents = (sum_or_none sum).cents + amount }
 
@@ -49,6 +49,6 @@ AreSummed month sums payments = (c : ℕ) → sum_or_none (get nat_cmp sums c) �
 abbrev pub AreSmall : ℕ → BTreeMap ℕ PaidSum → Type 0
 AreSmall n sums = (c : ℕ) → IfSome (get nat_cmp sums c) (λ sum. (sum.purchases ≤ n) × (sum.cents ≤ 99999 * n))
 
--- of so many customers, those for whom that is so
+-- the customers among the first n whose payments pass both thresholds in the month
 abbrev pub rewarded_numbers : ℤ × ℤ → ℕ → ℕ → ℕ → List Payment → List ℕ
 rewarded_numbers month purchases cents n payments = filter (passes_for month purchases cents payments) (numbers_to n)

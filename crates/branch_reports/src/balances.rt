@@ -1,4 +1,4 @@
-//! What a customer owes, by the customer's rentals and payments.
+//! Finds the customer's rentals and payments, by which a balance is reckoned.
 
 ghost use Rattle.std.specs.Prelude.{◌≡◌};
 ghost use Rattle.sql_rows.specs.Calls.{DoesWithin};
@@ -16,7 +16,7 @@ use sql_rows::StoreFault;
 use sqlite::{Alter, Transaction};
 use std::alloc::Global;
 
-/// The customer's rentals, in order of number, each with its terms.
+/// Finds the customer's rentals, in order of number, each with its terms.
 pub fn find_terms<S: Alter>(
     alloc: Global,
     tx: &mut Transaction<'_, S>,
@@ -34,7 +34,7 @@ pub fn find_terms<S: Alter>(
     Ok(terms)
 }
 
-/// What a balance reads of the rental.
+/// Returns what a balance reads of the rental.
 fn charged_by(row: TermedRental) -> RentalTerms
     ensures { result ≡ terms_of (seen_termed row) }
 {
@@ -47,7 +47,7 @@ fn charged_by(row: TermedRental) -> RentalTerms
     }
 }
 
-/// The customer's payments, in order of number.
+/// Finds the customer's payments, in order of number.
 pub fn find_paid<S: Alter>(
     alloc: Global,
     tx: &mut Transaction<'_, S>,
@@ -65,7 +65,7 @@ pub fn find_paid<S: Alter>(
     Ok(payments)
 }
 
-/// What a balance reads of the payment.
+/// Returns what a balance reads of the payment.
 pub fn paid_by(payment: Payment) -> Paid
     ensures { result ≡ paid_of (seen_payment payment) }
 {

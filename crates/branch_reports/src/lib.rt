@@ -1,4 +1,4 @@
-//! What a branch is told of money: what a customer owes, and which customers are rewarded.
+//! Answers what a branch asks about money: what a customer owes, and which customers are rewarded.
 #![tactic(auto)]
 
 mod balances;

@@ -1,4 +1,4 @@
-//! What a branch is told of money.
+//! Answers what a branch asks about money.
 
 ghost use Rattle.std.specs.Prelude.{◌≡◌, ℕ, IfOk};
 ghost use Rattle.sql_rows.specs.Calls.{DoesInside, DoesWithin};
@@ -22,7 +22,7 @@ use sql_rows::StoreFault;
 use sqlite::{Alter, Transaction};
 use std::alloc::Global;
 
-/// Tells what a customer owes at a moment, by the rule of the chain.
+/// Shows what a customer owes at a moment, by the rule of the chain.
 pub fn look_balance<S: Alter>(
     alloc: Global,
     tx: &mut Transaction<'_, S>,
@@ -43,7 +43,8 @@ pub fn look_balance<S: Alter>(
     Ok(Reply::accepted(balance_text(alloc, cents)?))
 }
 
-/// The balance by those rows and the rule. No sound table has more than a million of them.
+/// Returns the balance by the rows and the rule. Fails if there are more than a million rows of a kind, which no sound
+/// table has.
 fn owed(
     rentals: &[RentalTerms],
     payments: &[Paid],

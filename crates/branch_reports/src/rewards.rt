@@ -1,4 +1,4 @@
-//! Which of a branch's customers are rewarded.
+//! Finds which of a branch's customers are rewarded.
 
 ghost use Rattle.std.specs.Prelude.{◌≡◌, ℕ, ℤ, ◌+◌, ◌*◌, ◌≤◌, List, Some, length, IfOk, OnOk};
 ghost use Rattle.std.specs.BTreeMap.{Updates, get};
@@ -28,8 +28,8 @@ pub struct PaidSum {
     pub cents: u64,
 }
 
-/// The customers, by number, whose payments in the month before the moment's are more in number and in cents than the
-/// thresholds. Nobody in January 1970, before which there is no month.
+/// Finds the customers, by number, whose payments in the month before the moment's are more in number and in cents than
+/// the thresholds. Finds nobody in January 1970, before which there is no month.
 pub fn find_rewarded<S: Alter>(
     alloc: Global,
     tx: &mut Transaction<'_, S>,
@@ -54,8 +54,8 @@ pub fn find_rewarded<S: Alter>(
     rewarded_among(alloc, customers, rows.as_slice(), month, purchases, cents)
 }
 
-/// The first second of the month before the moment's, and that of the moment's own. In January 1970 both are of that
-/// month.
+/// Returns the first second of the month before the moment's, and the first second of the moment's own month. In
+/// January 1970 both are the first second of that month.
 fn last_month_bounds(at: Moment) -> (Moment, Moment)
     ensures { (days : ℕ × ℕ) → month_before at ≡ Some days
         → (seconds_of result.0 ≡ days.0 * 86_400) × (seconds_of result.1 ≡ (days.1 + 1) * 86_400) }
@@ -71,7 +71,8 @@ fn last_month_bounds(at: Moment) -> (Moment, Moment)
     }
 }
 
-/// Of so many customers, those whose payments among these pass both thresholds in the month.
+/// Returns the numbers of the customers whose payments among the rows pass both thresholds in the month. The customers
+/// have the numbers from 1 to `customers`.
 fn rewarded_among(
     alloc: Global,
     customers: u32,
@@ -96,7 +97,7 @@ fn rewarded_among(
     Ok(numbers)
 }
 
-/// What each customer paid in the month, by these payments. A customer without one isn't there.
+/// Sums what each customer paid in the month. A customer who paid nothing in the month has no sum.
 fn sums_of(
     alloc: Global,
     rows: &[PaymentRow],
@@ -133,7 +134,7 @@ fn add_paid(
     Ok(())
 }
 
-/// What the customer paid.
+/// Returns what the customer paid.
 fn sum_at(sums: &BTreeMap<u32, PaidSum>, customer: CustomerNo) -> PaidSum
     ensures { result ≡ sum_or_none (get nat_cmp sums.now customer) }
 {
@@ -146,7 +147,7 @@ fn sum_at(sums: &BTreeMap<u32, PaidSum>, customer: CustomerNo) -> PaidSum
     }
 }
 
-/// Whether what the customer paid passes both thresholds.
+/// Returns whether what the customer paid passes both thresholds.
 fn passes_for(
     sums: &BTreeMap<u32, PaidSum>,
     customer: CustomerNo,

@@ -1,4 +1,4 @@
--- What an accepted act makes of the books, with what was found of the rows that it names, and with the command kept.
+-- Lemmas about the books after an accepted act, by what was found of the rows that it names, and after its command is kept.
 use Rattle.shop_schema.proofs.Common.{◌≡◌, ◌∙◌, refl, sym, ap, subst, ℕ, Bool, [], ◌∷◌, ◌++◌, map, filter, Ok, Some, Result, MutBor, Global, is_some, string_bytes, Held, state, within_as, Row, of, is_row, Text, Rules, Command, Act, Rental, reply_text, Books, book_acted, book_done, set_last, shop_of, map_at, row_at, found_some, IsHeld, Rentals}
 use Rattle.std.specs.Prelude.{String}
 use Rattle.sqlite.specs.Store.{Ghosts}
@@ -11,16 +11,16 @@ use Rattle.branch_work.specs.Added.{IsActed, with_kept}
 use Rattle.branch_work.specs.Acts.{CarriesOut}
 
 module _ {S E : Type 0} {g : Ghosts S} {old new : MutBor (Held S)} {b : ℕ} {command : Command} {act : Act} {found : RowsFound} {text : String Global} where
-  -- calls that were well, by which the act is carried out
+  -- calls that succeeded, by which the act is carried out
   pub carried_out : (calls : Calls g old new) → (calls.Said → (rules : Rules) → IsActed rules b command act found (string_bytes text) (state g old.now) (state g new.now))
       → CarriesOut {E = E} g old new b command act found (Ok text)
   carried_out calls more = record { inside = within_as calls.inside; says = λ clean. more (calls.said clean) }
 
-  -- and what they say of it
+  -- the calls of an act that was carried out, with what they say of the act
   abbrev pub out_calls : CarriesOut {E = E} g old new b command act found (Ok text) → Calls g old new
   out_calls one = record { Said = (rules : Rules) → IsActed rules b command act found (string_bytes text) (state g old.now) (state g new.now); inside = within_as one.inside; said = one.says }
 
--- what a call says of an act, of the act by another name
+-- what a call says of an act holds of an equal act
 pub by_name : {S E : Type 0} {g : Ghosts S} {old new : MutBor (Held S)} {b : ℕ} {command : Command} {act was : Act} {found : RowsFound} {r : Result (String Global) E} → was ≡ act
     → CarriesOut g old new b command act found r → CarriesOut g old new b command was found r
 by_name {g = g} {old = old} {new = new} {b = b} {command = command} {found = found} {r = r} is one = subst (λ (it : Act). CarriesOut g old new b command it found r) (sym is) one
@@ -36,12 +36,12 @@ copy_found b r found books held is =
     ∙ ap (map (λ (it : Rental). it.copy)) one.1
     ∙ ap (λ (m : ℕ). m ∷ []) copy
 
--- what an act does leaves the kept commands and the last moments
+-- an act leaves the kept commands and the last moments as they were
 pub acted_kept : (rules : Rules) (b : ℕ) (command : Command) (act : Act) (books : Books) → ((book_acted rules b command act books).kept ≡ books.kept) × ((book_acted rules b command act books).lasts ≡ books.lasts)
 acted_kept rules b command (model.AddCustomer person) books = (refl, refl)
 acted_kept rules b command act books = (refl, refl)
 
--- with the command kept, they are the books after it
+-- the books in which the act was carried out, with the command kept, are the books after the command
 pub acted_done : (rules : Rules) (b : ℕ) (command : Command) (reply : Text) (books : Books) → reply ≡ reply_text rules command (shop_of b books)
     → with_kept b command reply (book_acted rules b command command.act books) ≡ book_done rules b command books
 acted_done rules b command reply books is =

@@ -1,4 +1,4 @@
--- What a dispatch and a receipt write, step by step, and with which counts the tables then stand for the books.
+-- Lemmas about what a dispatch and a receipt write, step by step, and with which counts the tables then hold the books.
 use Rattle.shop_schema.proofs.Common.{[], inl, inr, suc, cases_Bool, ◌≡◌, ◌∙◌, refl, sym, ap, subst, ℕ, ◌+◌, ◌<◌, ◌≤◌, Bool, not, List, ◌∷◌, ◌++◌, length, take, map, filter, get_or, Option, Some, None, option_map, arith, append-nil, IfSome, map-append, take_more, take_all, length-take-le, State, PicksOne, Row, AreNumbered, arrived, is_of, is_row, mem, next, numbered_from, put_all, set_row, set_rows, Books, BookCopy, Mark, Consignment, between, checked, come, is_consignment, put_state, unpacked, length_map, set_rows_counted, ParcelLine, seen_parcel_line, Pair, add_pair, count_pair, counts_of, raise, AreTermed, Holds, HoldsWith, Writes}
 use Rattle.std.specs.Prelude.{fold, flat_map, option_to_list}
 use Rattle.std.proofs.lemmas.List.Filters.{length-filter_both}
@@ -16,6 +16,7 @@ use Rattle.branch_core.specs.Marked.{line_parts, arrival_parts, consignment_part
 use Rattle.branch_core.specs.Consigned.{come_copy, made_from, sent_line, with_dispatch, with_receipt}
 use Rattle.branch_work.proofs.Writings.{with_copies, copies_then}
 use Rattle.branch_work.proofs.CopyLemmas.{made_more, made_counted, made_stand}
+use Rattle.shop_schema.specs.Counts.{copies_kind}
 
 -- ---- copies that are set one after another
 
@@ -162,17 +163,17 @@ receiving b makes p missing books = record books {
 }
 
 module _ (b : ℕ) (books : Books) (low : 1 ≤ b) where
-  pub receiving_counted : (makes : List (ℕ → BookCopy)) (p : Consignment → Bool) (missing : List ℕ) → counts_of (receiving b makes p missing books) ≡ raise b 1 (length makes) (counts_of books)
+  pub receiving_counted : (makes : List (ℕ → BookCopy)) (p : Consignment → Bool) (missing : List ℕ) → counts_of (receiving b makes p missing books) ≡ raise b copies_kind (length makes) (counts_of books)
   receiving_counted makes p missing =
       let same = pairs_stay p missing [] books.consignments in
       (λ i. record { counters = (counts_of (record books { copies = put_all b makes books.copies })).counters; outs = (counts_of books).outs; pairs = same i }) ∙ made_counted b books low makes books.lots
 
   pub receipt_added : (s : State) (source n first m : ℕ) (lines : List ParcelLine) (missing : List ℕ) → first ≡ next b books.copies → m ≡ length (arrived missing lines) → AreTermed books
-      → HoldsWith (raise b 1 m (counts_of books)) s (record books { copies = books.copies ++ come_rows b first (arrived missing lines); consignments = update_where (is_consignment source b n) (checked missing) books.consignments })
+      → HoldsWith (raise b copies_kind m (counts_of books)) s (record books { copies = books.copies ++ come_rows b first (arrived missing lines); consignments = update_where (is_consignment source b n) (checked missing) books.consignments })
       → Holds s (with_receipt b source n lines missing books)
   receipt_added s source n first m lines missing is all termed holds =
       let makes : List (ℕ → BookCopy) = map come_copy (arrived missing lines) in
       let received : List Consignment = update_where (is_consignment source b n) (checked missing) books.consignments in
       let count : m ≡ length makes = all ∙ sym (length_map come_copy (arrived missing lines)) in
-      agreed s (receiving b makes (is_consignment source b n) missing books) (raise b 1 (length makes) (counts_of books)) (receiving_counted makes (is_consignment source b n) missing) termed
+      agreed s (receiving b makes (is_consignment source b n) missing books) (raise b copies_kind (length makes) (counts_of books)) (receiving_counted makes (is_consignment source b n) missing) termed
       (made_stand b books low s first m makes (λ rs. record books { copies = rs; consignments = received }) is count holds)

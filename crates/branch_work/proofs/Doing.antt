@@ -1,4 +1,4 @@
--- What a request comes to, by the verdict on it, and where the branch isn't there.
+-- Lemmas about the result of a request, by the verdict on it, and if the branch isn't there.
 use Rattle.shop_schema.proofs.Common.{◌≡◌, ◌∙◌, refl, sym, ap, subst, ℕ, true, false, List, State, Limits, lacks, Text, Command, Ask, Verdict, Again, Refused, Accepted, verdict, Request, Do, Look, Done, Sorry, reply_to, reply_by, reply_text, if_accepted, answer_of, Books, Caller, Counter, shop_of, book_done, branch_after, seen_reply, Holds}
 use Rattle.shop_model.specs.Refusals as named
 use Rattle.shop_ledger.specs.declared.answered.Answered.{Answered}
@@ -39,26 +39,26 @@ module _ (limits : Limits) (b : ℕ) (books : Books) where
   after_is : (request : Request) → lacks books.catalogue.branches b ≡ false → left_by limits (Counter b) request books ≡ branch_after (rules_of limits) b request books
   after_is request there = rw there refl
 
-  -- its command goes by the verdict
+  -- the result of a branch's command depends on the verdict
   pub branch_goes : (command : Command) → lacks books.catalogue.branches b ≡ false
       → GoesBy limits (Counter b) (Do command) (verdict (rules_of limits) b books.catalogue (shop_of b books) command) (reply_text (rules_of limits) command (shop_of b books)) (book_done (rules_of limits) b command books) books
   branch_goes command there = record { told = told_is (Do command) there; left = after_is (Do command) there }
 
-  -- there is no such branch
+  -- the result of a request if there is no such branch
   pub nobody_done : (request : Request) (it : Answered) (s : State) → lacks books.catalogue.branches b ≡ true → seen_reply it.reply ≡ answer_of (Sorry named.NoCounter) → Holds s books
       → IsDone limits (Counter b) request it s books
   nobody_done request it s none is holds =
       let after : left_by limits (Counter b) request books ≡ books = rw none refl in
       record { reply = is ∙ rw none refl; holds = subst (Holds s) (sym after) holds; same = λ _. after }
 
-  -- a request that leaves the books, whatever it is answered
+  -- a request that leaves the books as they were, whatever its answer is
   pub kept_done : (request : Request) (it : Answered) (s : State) → lacks books.catalogue.branches b ≡ false → branch_after (rules_of limits) b request books ≡ books
       → seen_reply it.reply ≡ answer_of (reply_to (rules_of limits) b books.catalogue (shop_of b books) request) → Holds s books → IsDone limits (Counter b) request it s books
   kept_done request it s there same is holds =
       let after = after_is request there ∙ same in
       record { reply = is ∙ sym (told_is request there); holds = subst (Holds s) (sym after) holds; same = λ _. after }
 
-  -- what is read of the books is told or is still to be shown, and they stay
+  -- a reading is answered or asks for a list, and the books stay
   pub look_come : (ask : Ask) (it : Work Listing) (s : State) → lacks books.catalogue.branches b ≡ false → IsShown b ask it books → Holds s books → HasCome (listed b) limits (Counter b) (Look ask) it s books
   look_come ask (work.Answered it) s there shown holds = kept_done (Look ask) it s there refl shown.0 holds
   look_come ask (work.Shows it) s there shown holds = (told_is (Look ask) there ∙ shown, after_is (Look ask) there)

@@ -1,4 +1,4 @@
--- What is found under a key, by the stored form of the command and by the command itself.
+-- Lemmas about what is found under a key: by the stored form of the command, and by the command itself.
 use Rattle.shop_schema.proofs.Common.{[], inl, inr, cases_Bool, All-map, All-weaker, all-filter, ◌≡◌, ◌∙◌, refl, ap, ℕ, true, List, ◌∷◌, map, filter, Option, Some, option_map, AllByRecursion, bytes_eq, bytes_eq-Decides, IsMoment, Owned, owned_by, Command, Kept, same_command, head, command_form, IsKept}
 use Rattle.std.specs.Prelude.{◌==◌}
 use Rattle.shop_schema.proofs.OneToOne.{forms_are_one_to_one}
@@ -15,7 +15,7 @@ owned_real b rows all =
     All-map IsReal (λ (row : Owned Kept). row.it) (filter (λ row. row.owner == b) rows)
     (all-filter (λ (row : Owned Kept). IsReal row.it) (λ row. row.owner == b) rows (All-weaker IsKept (λ (row : Owned Kept). IsReal row.it) (λ row such. such.1.moment) rows all))
 
--- under one key, the stored forms are the same exactly where the commands are
+-- under one key, the stored forms are the same exactly if the commands are the same
 one_told : (command : Command) (form : List ℕ) (kept : Kept) → form ≡ command_form command → IsMoment command.moment → IsReal kept → bytes_eq kept.command.key command.key ≡ true
     → by_form form (stored_kept kept) ≡ kept_for command kept
 unfolding IsReal

@@ -1,4 +1,4 @@
--- Rentals have their terms as before where a rental comes with its terms, and where one is set.
+-- Each rental still has its terms after a rental is added with its terms, and after a rental is changed.
 use Rattle.shop_schema.proofs.Common.{◌≡◌, ℕ, List, [], ◌∷◌, ◌++◌, Bool, true, false, cond, map, refl, sym, subst, subst₂, IsPermutation, map_push, IsPermutation-refl, IsPermutation-append, Row, is_row, set_row, Rental, Terms, Books, AreTermed}
 
 abbrev key : {A : Type 0} → Row A → List ℕ

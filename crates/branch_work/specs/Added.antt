@@ -1,4 +1,4 @@
--- What an accepted act makes of the books, and what is replied of it.
+-- Defines the books after an accepted act, and the reply to the act.
 use Rattle.std.specs.Prelude.{◌≡◌, ⊤, ℕ, ◌≤◌, List, ◌∷◌, ◌++◌, length, map, IfSome, []}
 use Rattle.sqlite.specs.State.{State}
 use Rattle.shop_model.specs.Json.{object}
@@ -14,7 +14,7 @@ use Rattle.branch_core.specs.Agreed.{ActAgrees}
 use Rattle.branch_core.specs.Marked.{AreMarked}
 use Rattle.branch_core.specs.Consigned.{made_from}
 
--- imported copies of these films, with numbers from the first on
+-- imported copies of the films, with numbers from the first on
 abbrev pub copies_from : ℕ → ℕ → List ℕ → List (Row BookCopy)
 copies_from b first films = made_from b first (map (imported b) films)
 
@@ -23,8 +23,8 @@ abbrev pub HasFewLines : Act → RowsFound → Type 0
 HasFewLines (model.Receive source number missing) found = IfSome found.arrival (λ it. length it.lines ≤ 100)
 HasFewLines act found = ⊤
 
--- From books that are held and have what was found of the rows that the act names, the tables come to stand for those in which it acted, and the text tells of it.
--- Few lines make few copies, so that their count and that of the kept commands may still grow.
+-- The tables hold the books before the act, and the books agree with what was found of the rows that the act names. Then the tables hold the books after the
+-- act, and the text is its reply. A receipt has at most 100 lines, so the counts of copies and of kept commands may still grow.
 abbrev pub IsActed : Rules → ℕ → Command → Act → RowsFound → Text → State → State → Type 0
 IsActed rules b command act found text old new =
     (books : Books) → Holds old books → IsHeld books → ActAgrees rules books.catalogue (shop_of b books) command.moment act found → AreMarked b act found books

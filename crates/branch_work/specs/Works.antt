@@ -1,4 +1,4 @@
--- What a request does inside one transaction, whoever asks it.
+-- Defines what a request does inside one transaction, whoever asks it.
 use Rattle.std.specs.Prelude.{◌≡◌, ℕ, Bool, false, IsTrue}
 use Rattle.sqlite.specs.State.{State}
 use Rattle.shop_types.specs.LimitValues.{Limits}
@@ -34,11 +34,11 @@ told_to limits caller request books = answer_of (reply_for (rules_of limits) off
 abbrev pub left_by : Limits → Caller → Request → Books → Books
 left_by limits caller request books = after_for (rules_of limits) (known_caller books.catalogue caller) request books
 
--- books that the tables can hold, of whose films these are known
+-- books that the tables can hold, and known films that are rows of the books
 abbrev pub IsHeldWith : KnownFilms → Books → Type 0
 IsHeldWith films books = IsHeld books × AreRows films books.catalogue.films
 
--- the request is answered, the tables come to stand for the books after it, and it is told whether there is anything to commit
+-- The request is answered, and afterwards the tables hold the books after it. `is_changed` says whether there is anything to commit.
 pub record IsDone (limits : Limits) (caller : Caller) (request : Request) (it : Answered) (new : State) (books : Books) : Type 0 where
   pub reply : seen_reply it.reply ≡ told_to limits caller request books
   pub holds : Holds new (left_by limits caller request books)
@@ -47,40 +47,40 @@ pub record IsDone (limits : Limits) (caller : Caller) (request : Request) (it : 
 abbrev pub Does : Limits → Caller → Request → Answered → State → State → Type 0
 Does limits caller request it old new = (books : Books) → Holds old books → IsHeld books → IsDone limits caller request it new books
 
--- the answer and the books go by the verdict: where it is accepted, to that text and those books
+-- The answer and the books depend on the verdict. If the command is accepted, they are the given text and the books `done`.
 pub record GoesBy (limits : Limits) (caller : Caller) (request : Request) (verdict : Verdict) (text : Text) (done books : Books) : Type 0 where
   pub told : told_to limits caller request books ≡ answer_of (reply_by verdict text)
   pub left : left_by limits caller request books ≡ if_accepted verdict done books
 
--- the request came to this: it is done, or it asks for a list, which shows this and is still to be shown
+-- The result of the request: it is done, or it asks for a list, which is still to be shown and shows what the definitions show.
 abbrev pub HasCome : {L : Type 0} → (L → Books → Shown) → Limits → Caller → Request → Work L → State → Books → Type 0
 HasCome shown limits caller request (work.Answered it) new books = IsDone limits caller request it new books
 HasCome shown limits caller request (work.Shows it) new books =
     (told_to limits caller request books ≡ answer_of (Shows (shown it books))) × (left_by limits caller request books ≡ books)
 
--- where it is known that the branch is there, it is
+-- if the branch is known to be there, it is there
 abbrev pub IsKnown : Bool → ℕ → Catalogue → Type 0
 IsKnown is_known b catalogue = IsTrue is_known → lacks catalogue.branches b ≡ false
 
--- where that is so, and the films that are known then are rows of the same books
+-- A branch that is known to be there has to be there. Then the request has its result, and the films that are known afterwards are rows of the same books.
 abbrev pub Works : Limits → ℕ → Bool → Request → KnownFilms → KnownFilms → Work Listing → State → State → Type 0
 Works limits b is_known request before after it old new =
     (books : Books) → Holds old books → IsHeldWith before books → IsKnown is_known b books.catalogue
     → HasCome (listed b) limits (Counter b) request it new books × AreRows after books.catalogue.films
 
--- the same of a branch that is there and stands so
+-- the same for a branch that is there and has this standing
 abbrev pub WorksFor : Limits → ℕ → Standing → Request → KnownFilms → KnownFilms → Answered → State → State → Type 0
 WorksFor limits b standing request before after it old new =
     (books : Books) → Holds old books → IsHeldWith before books → HasStanding b books standing
     → IsDone limits (Counter b) request it new books × AreRows after books.catalogue.films
 
--- the same of a branch that is there, where this was found for the decision
+-- the same for a branch that is there, if this was found for the decision
 abbrev pub WorksBy : Limits → ℕ → Command → Found → Answered → State → State → Type 0
 WorksBy limits b command found it old new =
     (books : Books) → Holds old books → IsHeld books → lacks books.catalogue.branches b ≡ false → Agrees (rules_of limits) books.catalogue (shop_of b books) command found
     → AreMarked b command.act found.rows books → IsDone limits (Counter b) (Do command) it new books
 
--- the tables come to stand for the books after an accepted command, and the reply is its own
+-- afterwards the tables hold the books after the accepted command, and the reply is the reply to the command
 abbrev pub IsAdded : Limits → ℕ → Command → RowsFound → Answer → State → State → Type 0
 IsAdded limits b command rows answer old new =
     (books : Books) → Holds old books → IsHeld books → ActAgrees (rules_of limits) books.catalogue (shop_of b books) command.moment command.act rows → AreMarked b command.act rows books

@@ -1,5 +1,5 @@
-//! How an accepted command's act is carried out as it stands: its rows, their counts, and what is replied of them;
-//! and how the command is kept.
+//! Carries out an accepted command's act: writes its rows and counts them, and makes the body of the reply. Also keeps
+//! the command.
 
 ghost use Rattle.std.specs.Prelude.{◌≡◌, true, IfOk};
 ghost use Rattle.sql_rows.specs.Calls.{DoesWithin};
@@ -26,7 +26,7 @@ use sql_rows::{Bytes, StoreFault};
 use sqlite::{Alter, Transaction};
 use std::alloc::{AllocError, Global};
 
-/// Carries out an accepted command's act, by what was found of the rows that it names, and gives the body of its reply.
+/// Carries out an accepted command's act, by what was found of the rows that it names. Returns the body of its reply.
 pub fn carry_out<S: Alter>(
     alloc: Global,
     tx: &mut Transaction<'_, S>,
@@ -77,7 +77,7 @@ pub fn keep<S: Alter>(
     set_last(tx, branch, command.at)
 }
 
-/// The number of the branch's next row of the kind, which is counted.
+/// Returns the number of the branch's next row of the kind, and counts the row.
 fn next_number<const KIND: u8, S: Alter>(
     tx: &mut Transaction<'_, S>,
     branch: BranchNo,
@@ -93,7 +93,7 @@ fn next_number<const KIND: u8, S: Alter>(
     }
 }
 
-/// The customer that a command of that moment adds, who is active.
+/// Returns the customer that a command of that moment adds. The customer is active.
 fn new_customer(it: &NewCustomer, at: Moment) -> Result<Customer, AllocError>
     ensures { IfOk result (λ customer. seen_customer customer ≡ model.new_customer at (seen_new_customer it.now)) }
 {
@@ -143,8 +143,8 @@ fn put_active<S: Alter>(
     Ok(object_text(alloc, &members)?)
 }
 
-/// Adds an open rental, with the terms of its copy's film under the same number, and notes that the copy is out. The
-/// copy was found.
+/// Adds an open rental, with the terms of its copy's film under the same number. Records that the copy is out. The copy
+/// was found before.
 fn add_rental<S: Alter>(
     alloc: Global,
     tx: &mut Transaction<'_, S>,
@@ -184,7 +184,7 @@ fn add_rental<S: Alter>(
     Ok(number_text(alloc, "rental", number)?)
 }
 
-/// Sets when the rental's copy came back, and notes that it isn't out. The rental was found.
+/// Sets when the rental's copy came back. Records that the copy isn't out. The rental was found before.
 fn take_back<S: Alter>(
     alloc: Global,
     tx: &mut Transaction<'_, S>,

@@ -1,4 +1,4 @@
-//! What a command is answered that changes nothing: a repeat, and one that is refused.
+//! Answers commands that change nothing: repeats and refused commands.
 
 ghost use Rattle.std.specs.Prelude.{◌≡◌, false, Some, IfOk};
 ghost use Rattle.shop_model.specs.Refusals as named;
@@ -14,7 +14,7 @@ use shop_types::{Refusal, Reply};
 use sql_rows::StoreFault;
 use std::alloc::Global;
 
-/// The reply to a command that comes again.
+/// Returns the reply to a command that comes again.
 pub fn again(alloc: Global, reply: &str) -> Result<Answered, StoreFault>
     ensures { IfOk result (λ done. (seen_reply done.reply ≡ accepted_answer reply.now) × (done.is_changed ≡ false)) }
 {
@@ -25,8 +25,8 @@ pub fn again(alloc: Global, reply: &str) -> Result<Answered, StoreFault>
     })
 }
 
-/// The reply to a command that is refused. A decision gives none of the store's refusals; one of these would be the
-/// store's failure.
+/// Returns the reply to a command that is refused. A decision never gives a refusal of the store, so with such a
+/// refusal this fails as the store does.
 pub fn refuse(alloc: Global, refusal: Refusal) -> Result<Answered, StoreFault>
     ensures told { IfOk result (λ done. (done.is_changed ≡ false)
         × ((verdict : Verdict) → Some verdict ≡ verdict_by (Some refusal) → (d : named.Refusal)

@@ -1,5 +1,5 @@
-//! How copies go from branch to branch: a dispatch sends listed copies off as the lines of a consignment, and a
-//! receipt makes copies of the lines that came.
+//! Moves copies from branch to branch. A dispatch sends listed copies as the lines of a consignment. A receipt makes
+//! copies of the lines that came.
 
 ghost use Rattle.std.specs.Prelude.{◌≡◌, ⊤, ◌+◌, ◌≤◌, ◌++◌, length, map, IfOk};
 ghost use Rattle.sql_rows.specs.Calls.{DoesWithin};
@@ -23,8 +23,8 @@ use sql_rows::StoreFault;
 use sqlite::{Alter, Transaction};
 use std::alloc::Global;
 
-/// Sends the listed copies to the other branch, as a consignment of the lines that were made of them, and gives the
-/// body of the reply.
+/// Sends the listed copies to the other branch, as a consignment of the lines that were made of them. Returns the body
+/// of the reply.
 pub fn dispatch<S: Alter>(
     alloc: Global,
     tx: &mut Transaction<'_, S>,
@@ -56,7 +56,7 @@ pub fn dispatch<S: Alter>(
     Ok(object_text(alloc, &members)?)
 }
 
-/// The place behind that of the last consignment, which is 0 where there is none.
+/// Returns the place after the place of the last consignment. `last` is 0 if there is no consignment.
 fn place_behind(last: u64) -> Result<DispatchPlace, StoreFault>
     ensures { IfOk result (λ place. place ≡ last + 1) }
 {
@@ -69,7 +69,7 @@ fn place_behind(last: u64) -> Result<DispatchPlace, StoreFault>
     }
 }
 
-/// Notes of each of the copies that it is sent.
+/// Records that each of the copies is sent.
 fn set_sent<S: Alter>(
     tx: &mut Transaction<'_, S>,
     branch: BranchNo,
@@ -85,7 +85,7 @@ fn set_sent<S: Alter>(
     Ok(())
 }
 
-/// Takes the consignment in that was found, and gives the body of the reply: the lines that aren't missing become
+/// Receives the consignment that was found, and returns the body of the reply. The lines that aren't missing become
 /// copies with the branch's next numbers, and keep their marks.
 pub fn receive<S: Alter>(
     alloc: Global,
@@ -141,7 +141,7 @@ fn put_come<S: Alter>(
     Ok(())
 }
 
-/// A line that came, as a copy of that number. The mark is the line's own.
+/// Returns a line that came as a copy of that number. The copy has the mark of the line.
 fn come_copy(branch: BranchNo, number: u32, line: ParcelLine) -> CopyRow
     requires { 1 ≤ number }
     ensures { seen_copy_row result ≡ record { branch = branch; number = number; it = come_copy line number } }

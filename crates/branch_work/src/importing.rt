@@ -1,4 +1,4 @@
-//! How the copies of an import are written and counted.
+//! Writes and counts the copies of an import.
 
 ghost use Rattle.std.specs.Prelude.{◌≡◌, ⊤, ◌+◌, ◌≤◌, ◌++◌, map, replicate, vec_len, IfOk, OnOk};
 ghost use Rattle.sql_rows.specs.Calls.{DoesWithin};
@@ -19,7 +19,7 @@ use sql_rows::StoreFault;
 use sqlite::{Alter, Transaction};
 use std::alloc::{AllocError, Global};
 
-/// Adds the copies that the stock lists which was found, and the lot, and gives the body of the reply.
+/// Adds the copies that the found stock lists, and the lot. Returns the body of the reply.
 pub fn import<S: Alter>(
     alloc: Global,
     tx: &mut Transaction<'_, S>,
@@ -44,7 +44,7 @@ pub fn import<S: Alter>(
     Ok(object_text(alloc, &members)?)
 }
 
-/// The first of so many numbers that end with the last.
+/// Returns the first of `count` numbers that end with `last`.
 pub fn first_of(last: u32, count: u32) -> Result<CopyNo, StoreFault>
     requires { last ≤ 1_000_000 }
     ensures first { IfOk result (λ first. first + count ≡ last + 1) }
@@ -56,7 +56,7 @@ pub fn first_of(last: u32, count: u32) -> Result<CopyNo, StoreFault>
     }
 }
 
-/// The copies that the stock lists, with numbers from the first on.
+/// Returns the copies that the stock lists, with numbers from the first on.
 fn new_copies(
     alloc: Global,
     branch: BranchNo,
@@ -74,7 +74,8 @@ fn new_copies(
     Ok(copies)
 }
 
-/// Adds so many copies of the film to those of an import, whose numbers go on from the first.
+/// Adds `count` copies of the film to the copies of an import. The import's copies have successive numbers from `first`
+/// on.
 fn push_copies(
     copies: &mut Vec<CopyRow>,
     branch: BranchNo,
@@ -95,7 +96,7 @@ fn push_copies(
     Ok(())
 }
 
-/// A copy that the branch imports, with that number.
+/// Returns a copy that the branch imports, with that number.
 fn new_copy(branch: BranchNo, number: u32, film: FilmNo) -> CopyRow
     requires { 1 ≤ number }
     ensures { seen_copy_row result ≡ record { branch = branch; number = number; it = imported branch film number } }

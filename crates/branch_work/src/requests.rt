@@ -1,4 +1,4 @@
-//! A branch's request inside one transaction.
+//! Answers a branch's request inside one transaction.
 
 ghost use Rattle.std.specs.Prelude.{◌≡◌, false, true, IfOk};
 ghost use Rattle.sql_rows.specs.Calls.{DoesInside, DoesWithin};
@@ -24,8 +24,8 @@ use sql_rows::{Bytes, StoreFault};
 use sqlite::{Alter, Transaction};
 use std::alloc::Global;
 
-/// What a branch's request comes to, where it is told whether the branch is known to be there. A command is done, and
-/// a look is answered; a list is left to the caller.
+/// Does a branch's command, or answers its reading. If the reading asks for a list, returns the list for the caller to
+/// show. `is_known` says whether the branch is known to be there.
 pub fn answer_branch<S: Alter>(
     alloc: Global,
     tx: &mut Transaction<'_, S>,
@@ -41,7 +41,7 @@ pub fn answer_branch<S: Alter>(
 {
     if is_known {
         if let Request::Look(ask) = request {
-            // What reads no row doesn't show that the transaction is open.
+            // A reading that reads no row doesn't show that the transaction is open.
             if reads_row(*ask) {
                 return look(alloc, tx, branch, *ask);
             }
@@ -50,7 +50,7 @@ pub fn answer_branch<S: Alter>(
     answer_where_found(alloc, tx, films, limits, branch, request)
 }
 
-/// What the request comes to, where first of all the branch is looked for.
+/// Looks for the branch first, and then answers the request.
 fn answer_where_found<S: Alter>(
     alloc: Global,
     tx: &mut Transaction<'_, S>,
@@ -83,7 +83,7 @@ fn answer_where_found<S: Alter>(
     }
 }
 
-/// Answers a command of a branch that is there, of which it is known how it stands.
+/// Answers a command of a branch that is there and whose standing is known.
 fn answer_command<S: Alter>(
     alloc: Global,
     tx: &mut Transaction<'_, S>,
@@ -133,7 +133,7 @@ fn answer<S: Alter>(
     }
 }
 
-/// The stored form of a command, whose moment is a real one.
+/// Returns the stored form of a command. The command's moment is a date of the calendar.
 fn form_of(alloc: Global, command: &Command) -> Result<Bytes, StoreFault>
     ensures form { IfOk result (λ form. form ≡ command_form (seen_command command.now)) }
     ensures moment { IsMoment command.now.at }
@@ -145,7 +145,7 @@ fn form_of(alloc: Global, command: &Command) -> Result<Bytes, StoreFault>
     }
 }
 
-/// Carries out an accepted command, keeps it, and gives its reply. There is something to commit.
+/// Carries out an accepted command, keeps it, and returns its reply. There is something to commit.
 fn add<S: Alter>(
     alloc: Global,
     tx: &mut Transaction<'_, S>,

@@ -1,4 +1,4 @@
--- When what was found is what the catalogue has of the rows that a command of head office names.
+-- Says when the rows that were found for a command of head office agree with the catalogue.
 use Rattle.std.specs.Prelude.{◌≡◌, ⊤, ℕ, ◌==◌, ◌&&◌, Bool, false, Option, None, not, map, filter, length, option_map}
 use Rattle.std.specs.List.{list_any}
 use Rattle.std.specs.Str.{bytes_eq}
@@ -38,7 +38,7 @@ is_cast catalogue cast = list_any (λ (it : Cast). it.film == cast.film && it.ac
 
 -- ---- the act
 
--- of no row there is anything
+-- nothing was found of any row
 abbrev pub no_rows : SharedRows
 no_rows = record {
   has_token = false;

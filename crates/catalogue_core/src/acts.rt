@@ -1,4 +1,4 @@
-//! The first refusal of a command of head office by what it does, where its key is new.
+//! Finds the first refusal of a command of head office by what it does, if its key is new.
 
 ghost use Rattle.std.specs.Prelude.{◌≡◌, ℕ, ◌==◌, not, Some, [], ◌∷◌, option_map};
 ghost use Rattle.std.specs.Str.{bytes_eq};
@@ -14,7 +14,7 @@ ghost use Rattle.catalogue_core.specs.Shares.{film_at, branch_at, staff_at, is_t
 use crate::BranchFound;
 use shop_types::{BranchNo, Refusal, StaffFound, StaffNo};
 
-/// Of a new row whose name may be taken.
+/// Returns the refusal of a new row, if its name is taken.
 pub fn name_refusal(is_named: bool) -> Option<Refusal>
     ensures { verdict_by result ≡ Some (first ((Already, is_named) ∷ [])) }
 {
@@ -25,7 +25,7 @@ pub fn name_refusal(is_named: bool) -> Option<Refusal>
     }
 }
 
-/// Of the rule by which balances are to go.
+/// Returns the refusal of a choice of the rule for balances.
 pub fn rule_refusal(is_chosen: bool) -> Option<Refusal>
     ensures { verdict_by result ≡ Some (first ((Already, is_chosen) ∷ [])) }
 {
@@ -36,7 +36,7 @@ pub fn rule_refusal(is_chosen: bool) -> Option<Refusal>
     }
 }
 
-/// Of a new row that names another, which may not be there.
+/// Returns the refusal of a new row that names another row, if that row isn't there.
 pub fn row_refusal(is_there: bool) -> Option<Refusal>
     ensures { verdict_by result ≡ Some (first ((NoSharedRow, not is_there) ∷ [])) }
 {
@@ -47,7 +47,7 @@ pub fn row_refusal(is_there: bool) -> Option<Refusal>
     }
 }
 
-/// Of a film's new price. The price that stands is a price like any other.
+/// Returns the first refusal of a film's new price. The present price may be set again.
 pub fn price_refusal(film: Option<bool>) -> Option<Refusal>
     ensures { (catalogue : Catalogue) (f rate : ℕ) → film ≡ film_at catalogue f
         → verdict_by result ≡ Some (first (office_refusals catalogue (PriceFilm f rate))) }
@@ -58,7 +58,7 @@ pub fn price_refusal(film: Option<bool>) -> Option<Refusal>
     }
 }
 
-/// Of taking a film out of the catalogue.
+/// Returns the first refusal of taking a film out of the catalogue.
 pub fn withdraw_refusal(film: Option<bool>) -> Option<Refusal>
     ensures { (catalogue : Catalogue) (f : ℕ) → film ≡ film_at catalogue f
         → verdict_by result ≡ Some (first (office_refusals catalogue (WithdrawFilm f))) }
@@ -70,7 +70,7 @@ pub fn withdraw_refusal(film: Option<bool>) -> Option<Refusal>
     }
 }
 
-/// Of putting an actor into a film's cast.
+/// Returns the first refusal of putting an actor into a film's cast.
 pub fn cast_refusal(film: Option<bool>, has_actor: bool, has_cast: bool) -> Option<Refusal>
     ensures { (catalogue : Catalogue) (cast : Cast) → film ≡ film_at catalogue cast.film
         → has_actor ≡ not (lacks catalogue.actors cast.actor) → has_cast ≡ is_cast catalogue cast
@@ -87,7 +87,7 @@ pub fn cast_refusal(film: Option<bool>, has_actor: bool, has_cast: bool) -> Opti
     }
 }
 
-/// Of a new branch, whose token may be head office's or a branch's.
+/// Returns the first refusal of a new branch. Head office or another branch may have its token already.
 pub fn branch_refusal(is_office: bool, has_token: bool, has_city: bool) -> Option<Refusal>
     ensures { (catalogue : Catalogue) (branch : Branch) → is_office ≡ bytes_eq branch.token catalogue.office_token
         → has_token ≡ is_token catalogue branch.token → has_city ≡ not (lacks catalogue.cities branch.city)
@@ -102,7 +102,7 @@ pub fn branch_refusal(is_office: bool, has_token: bool, has_city: bool) -> Optio
     }
 }
 
-/// Of a new member of staff.
+/// Returns the first refusal of a new member of staff.
 pub fn staff_refusal(branch: Option<BranchFound>, has_city: bool) -> Option<Refusal>
     ensures { (catalogue : Catalogue) (staff : Staff)
         → option_map seen_branch_found branch ≡ branch_at catalogue staff.branch
@@ -118,7 +118,7 @@ pub fn staff_refusal(branch: Option<BranchFound>, has_city: bool) -> Option<Refu
     }
 }
 
-/// Of a member of staff who leaves.
+/// Returns the first refusal of a command by which a member of staff leaves.
 pub fn leave_refusal(staff: Option<StaffFound>) -> Option<Refusal>
     ensures { (catalogue : Catalogue) (s : ℕ) → option_map seen_post staff ≡ staff_at catalogue s
         → verdict_by result ≡ Some (first (office_refusals catalogue (StaffLeaves s))) }
@@ -135,7 +135,7 @@ pub fn leave_refusal(staff: Option<StaffFound>) -> Option<Refusal>
     }
 }
 
-/// Of making a member of staff the manager of a branch, where both may not be there.
+/// Returns the first refusal of making a member of staff the manager of a branch. Either may not be there.
 pub fn manager_refusal(
     number: BranchNo,
     manager: StaffNo,

@@ -1,4 +1,4 @@
-//! The decision on a command of head office.
+//! Decides on a command of head office.
 
 ghost use Rattle.std.specs.Prelude.{◌≡◌, Some};
 ghost use Rattle.shop_model.specs.Values as model;
@@ -18,7 +18,7 @@ use crate::acts::{
 use crate::{Shared, SharedRows};
 use shop_types::{Change, Limits, OfficeAct, OfficeCommand, Refusal, Token};
 
-/// Whether head office's command is accepted, or the first refusal that holds of it. It takes no memory.
+/// Accepts head office's command, repeats its kept reply, or fails with the first refusal that holds. Takes no memory.
 pub fn decide_office<'a>(
     command: &OfficeCommand,
     shared: &Shared<'a>,
@@ -43,7 +43,7 @@ pub fn decide_office<'a>(
     }
 }
 
-/// The first refusal of a command whose key isn't kept.
+/// Returns the first refusal of a command whose key isn't kept.
 fn first_refusal(act: &OfficeAct, shared: &Shared, limits: Limits) -> Option<Refusal>
     ensures { (rules : model.Rules) (catalogue : Catalogue) (command : model.OfficeCommand)
         → command.act ≡ seen_office_act act.now → rules.commands ≡ limits.commands
@@ -57,7 +57,7 @@ fn first_refusal(act: &OfficeAct, shared: &Shared, limits: Limits) -> Option<Ref
     }
 }
 
-/// The first refusal that goes by what the command does.
+/// Returns the first refusal that depends on what the command does.
 fn act_refusal(act: &OfficeAct, office_token: &Token, rows: &SharedRows) -> Option<Refusal>
     ensures { (catalogue : Catalogue) → office_token.now ≡ catalogue.office_token
         → ActShares catalogue (seen_office_act act.now) rows.now

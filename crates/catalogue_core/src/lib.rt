@@ -1,5 +1,5 @@
-//! What head office decides of a command, by what was found of the shared rows that the command names: whether it is
-//! accepted, or the first refusal.
+//! Decides on a command of head office by what was found of the shared rows that the command names. The command is
+//! accepted, or the first refusal is returned.
 #![tactic(auto)]
 
 mod acts;

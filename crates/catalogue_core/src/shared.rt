@@ -1,4 +1,4 @@
-//! What was found of the shared rows that a command of head office names.
+//! Holds what was found of the shared rows that a command of head office names.
 
 ghost use Rattle.std.specs.Prelude.{◌≡◌};
 ghost use Rattle.catalogue_core.specs.Shares.{no_rows};
@@ -14,7 +14,7 @@ pub struct BranchFound {
 /// All that a decision reads: the catalogue, head office's own keys, and nothing of any branch.
 #[derive(Drop)]
 pub struct Shared<'a> {
-    /// Head office's kept row of the command's key, where there is one.
+    /// Head office's kept row of the command's key, if there is one.
     pub kept: Option<KeptFound<'a>>,
     /// How many kept rows head office has.
     pub keys: u32,
@@ -23,12 +23,12 @@ pub struct Shared<'a> {
     pub rows: SharedRows,
 }
 
-/// The rows that a command's act names. What is said of a row that it doesn't name is never looked at.
+/// The rows that a command's act names. The fields of rows that it doesn't name are never read.
 #[derive(Clone, Copy)]
 pub struct SharedRows {
     /// Whether a branch has the token that the command gives.
     pub has_token: bool,
-    /// Whether the name of a new country, language or category is that of one already, by its bytes.
+    /// Whether a country, language or category has the name of the new one already, byte for byte.
     pub is_named: bool,
     pub has_country: bool,
     pub has_city: bool,
@@ -37,18 +37,18 @@ pub struct SharedRows {
     pub has_actor: bool,
     /// Whether the actor is in the film's cast already.
     pub has_cast: bool,
-    /// Whether the rule is the one that is chosen already.
+    /// Whether the rule is chosen already.
     pub is_chosen: bool,
-    /// Whether the film is withdrawn, where there is such a film.
+    /// Whether the film is withdrawn, if there is such a film.
     pub film: Option<bool>,
-    /// The branch, where there is one of the number.
+    /// The branch, if there is a branch of the number.
     pub branch: Option<BranchFound>,
-    /// The member of staff, where there is one of the number.
+    /// The member of staff, if there is one of the number.
     pub staff: Option<StaffFound>,
 }
 
 impl SharedRows {
-    /// Of no row there is anything.
+    /// Returns a value in which nothing was found of any row.
     pub fn none() -> SharedRows
         ensures { result ≡ no_rows }
     {

@@ -1,4 +1,4 @@
--- What is made of what a read found.
+-- Lemmas about what a read found.
 use Rattle.shop_schema.proofs.Common.{◌≡◌, Ok, Err, Result, refl, sym, subst, IsOk, IfOk, MutBor, Ghosts, Held, DoesWithin, within_err, within_of, within_when, OfficeAct, Books}
 use Rattle.sql_rows.specs.Calls.{DoesInside}
 use Rattle.shop_ledger.specs.Calls.{Finds}
@@ -7,7 +7,7 @@ use Rattle.catalogue_core.specs.Shares.{ActShares}
 use Rattle.catalogue_rows.specs.Found.{FindsFor}
 
 module _ {S F : Type 0} {g : Ghosts S} {a b : MutBor (Held S)} {was act : OfficeAct} where
-  -- what was found for an act, of the act by another name
+  -- what was found for an act is found for an equal act
   pub of_act : {s : Result SharedRows F} → was ≡ act → DoesWithin g a b s (FindsFor act) → DoesWithin g a b s (FindsFor was)
   of_act {s} is = subst (λ (it : OfficeAct). DoesWithin g a b s (FindsFor it)) (sym is)
 

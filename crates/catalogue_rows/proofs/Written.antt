@@ -1,4 +1,4 @@
--- What the rows of head office's commands make of the books, and that a new branch has no last moment.
+-- Lemmas about the books after the rows of head office's commands are written. A new branch has no last moment.
 use Rattle.std.proofs.Common.{IfOk}
 use Rattle.shop_schema.proofs.Common.{◌≡◌, ◌+◌, Result, ℕ, List, [], ◌∷◌, ◌++◌, map, length, sym, ap, subst, ◌∙◌, arith, ⊤, IsOk, MutBor, Ghosts, Held, state, State, Moment, Owned, owned_by, Text, Branch, OfficeAct, OfficeCommand, Catalogue, office_acted, office_told, office_text, office_done, Books, Counts, counts_of, with_branch, IsHeld, HoldsWith}
 use Rattle.sql_rows.specs.Calls.{DoesInside}
@@ -28,7 +28,7 @@ branch_added s books n row branch is same holds =
     subst (λ (it : Branch). HoldsWith (with_branch (length books.catalogue.branches + 1) (counts_of books)) s (record books { catalogue = record books.catalogue { branches = books.catalogue.branches ++ it ∷ [] } })) same
     (subst (λ (m : ℕ). HoldsWith (with_branch m (counts_of books)) s (record books { catalogue = record books.catalogue { branches = books.catalogue.branches ++ row ∷ [] } })) is holds)
 
--- an act makes these books, beside counts that stay, and its reply is that of the number
+-- an act makes these books and counts, and the reply with the number is its reply
 abbrev pub Makes : OfficeAct → ℕ → Books → Books → Type 0
 Makes act number books made =
     ◌≡◌ {A = Counts × Books × List (Text × Text)} (counts_of books, made, office_members act number) (with_counts act books, with_act act books, office_told act books.catalogue)
@@ -37,17 +37,17 @@ made_so : (act : OfficeAct) (number : ℕ) (books made : Books) {s : State} → 
     → IsActed act s books × (office_members act number ≡ office_told act books.catalogue)
 made_so act number books made {s = s} makes holds = (subst (λ (it : Counts × Books × List (Text × Text)). HoldsWith it.0 s it.1) makes holds, ap (λ (it : Counts × Books × List (Text × Text)). it.2) makes)
 
--- the books with these rows in the place of a list of the catalogue
+-- the books with these rows instead of a list of the catalogue
 abbrev pub with_rows : {W : Type 0} → (Catalogue → List W → Catalogue) → List W → Books → Books
 with_rows set rows books = record books { catalogue = set books.catalogue rows }
 
 module _ {S F : Type 0} {g : Ghosts S} {a b : MutBor (Held S)} {r : Result ℕ F} {was act : OfficeAct} where
-  -- the number of an act, as that of the act by another name
+  -- the number of an act is the number of an equal act
   pub of_act : was ≡ act → DoesInside g a b r (IsNumbered act) → DoesInside g a b r (IsNumbered was)
   of_act is = subst (λ (it : OfficeAct). DoesInside g a b r (IsNumbered it)) (sym is)
 
 module _ {S X E F : Type 0} {g : Ghosts S} {b c : MutBor (Held S)} {put : Result X E} {was act : OfficeAct} (r : Result ℕ F) (is_act : was ≡ act) where
-  -- a row is put after the last of its list, whose number was told before
+  -- a row is put after the last row of its list, and the number of the last row was read before
   pub row_added : {W : Type 0} {a : MutBor (Held S)} {last : Result ℕ E} {number n : ℕ} {row new : W} (get : Catalogue → List W) (set : Catalogue → List W → Catalogue)
       → ((books : Books) → Makes act (length (get books.catalogue) + 1) books (with_rows set (get books.catalogue ++ new ∷ []) books))
       → row ≡ new → n ≡ number → IsNext last number → IfOk r (λ it. (it ≡ number) × IsOk put)
@@ -63,7 +63,7 @@ module _ {S X E F : Type 0} {g : Ghosts S} {b c : MutBor (Held S)} {put : Result
       let its = made_so act _ books _ (makes books) (subst (λ (it : W). HoldsWith (counts_of books) (state g c.now) (with_rows set (get books.catalogue ++ it ∷ []) books)) same holds_new) in
       (its.0, ap (office_members act) comes ∙ its.1)))
 
-  -- a row is put that has no number, or changed
+  -- a row is put that has no number, or a row is changed
   pub row_changed : {change : Books → Books} → ((books : Books) → Makes act 0 books (change books)) → IfOk r (λ it. (it ≡ 0) × IsOk put)
       → DoesInside g b c put (λ _. Stores (λ _. ⊤) change) → DoesInside g b c r (IsNumbered was)
   row_changed {change} makes is stored = of_act is_act (numbered_as put r _ is stored (λ _ written books holds held.
@@ -71,7 +71,7 @@ module _ {S X E F : Type 0} {g : Ghosts S} {b c : MutBor (Held S)} {put : Result
 
 -- ---- the command itself
 
--- with its rows and itself kept, a command's books are those after it
+-- the books with the rows of a command, and with the command kept, are the books after the command
 pub act_kept : (command : OfficeCommand) (reply : Text) (books : Books) → reply ≡ office_text command books.catalogue
     → with_kept command reply (with_act command.act books) ≡ record books { catalogue = office_done command books.catalogue }
 act_kept command reply books is =

@@ -1,4 +1,4 @@
--- What the rows of an accepted command of head office make of the books, and what is replied of them.
+-- Defines the books after the rows of an accepted command of head office are written, and the reply to it.
 use Rattle.std.specs.Prelude.{◌≡◌, ℕ, ◌+◌, [], ◌∷◌, ◌++◌, length}
 use Rattle.sqlite.specs.State.{State}
 use Rattle.shop_model.specs.Values.{Text, OfficeAct, OfficeCommand}
@@ -20,11 +20,11 @@ with_act act books = record books { catalogue = office_acted act books.catalogue
 abbrev pub with_counts : OfficeAct → Books → Counts
 with_counts act books = office_grown act (length books.catalogue.branches + 1) (counts_of books)
 
--- the tables come to stand for the books with the rows, beside their counts
+-- afterwards the tables hold the books with the rows and their counts
 abbrev pub IsActed : OfficeAct → State → Books → Type 0
 IsActed act new books = HoldsWith (with_counts act books) new (with_act act books)
 
--- so they do, and the number is that of the new row, where the act has one
+-- afterwards the tables hold the books with the rows, and the number is the number of the new row, if the act has one
 abbrev pub IsNumbered : OfficeAct → ℕ → State → State → Type 0
 IsNumbered act number old new =
     (books : Books) → Holds old books → IsHeld books → IsActed act new books × (office_members act number ≡ office_told act books.catalogue)
@@ -34,13 +34,13 @@ abbrev pub with_kept : OfficeCommand → Text → Books → Books
 with_kept command reply books =
     record books { catalogue = record books.catalogue { kept = books.catalogue.kept ++ record { command = command; reply = reply } ∷ [] } }
 
--- beside counts of which one more may be taken, the tables come to stand for those books, and the key is counted
+-- if the counts have room for one more key, afterwards the tables hold the books with the command kept, and the key is counted
 abbrev pub IsKept : OfficeCommand → Text → State → State → Type 0
 IsKept command reply old new =
     (counts : Counts) (books : Books) → HoldsWith counts old books → CountsOnce 0 kind.Kept counts
     → HoldsWith (raise 0 kept_kind 1 counts) new (with_kept command reply books)
 
--- the tables come to stand for the books after an accepted command, and the reply is its own
+-- afterwards the tables hold the books after the accepted command, and the reply is the reply to the command
 abbrev pub IsAdded : OfficeCommand → Answer → State → State → Type 0
 IsAdded command answer old new =
     (books : Books) → Holds old books → IsHeld books

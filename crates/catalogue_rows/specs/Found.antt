@@ -1,4 +1,4 @@
--- What is found of the rows that a command of head office names.
+-- Defines what is found of the rows that a command of head office names.
 use Rattle.std.specs.Prelude.{◌≡◌, map, filter, Option, option_map}
 use Rattle.std.specs.Str.{bytes_eq}
 use Rattle.sqlite.specs.State.{State}
@@ -13,12 +13,12 @@ use Rattle.catalogue_core.specs.declared.shared.SharedRows.{SharedRows}
 use Rattle.catalogue_core.specs.Shares.{ActShares, kept_for}
 use Rattle.catalogue_rows.specs.declared.finding.SharedFound.{SharedFound}
 
--- what was found of the key is what head office has under it
+-- what was found of the key is what head office has under the key
 abbrev pub IsKeptFor : OfficeCommand → Option KeptFound → Books → Type 0
 IsKeptFor command kept books =
     option_map seen_kept kept ≡ head (map (kept_for command) (filter (λ (k : OfficeKept). bytes_eq k.command.key command.key) books.catalogue.kept))
 
--- both together
+-- what was found of the key and of the rows, in one value
 abbrev pub shared_of : Option KeptFound → SharedFound → Shared
 shared_of kept found = record { kept = kept; keys = found.keys; office_token = found.office_token; rows = found.rows }
 

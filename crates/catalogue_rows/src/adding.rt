@@ -1,5 +1,4 @@
-//! How the rows of an accepted command of head office are written and counted, how it is kept, and what is replied of
-//! it.
+//! Writes and counts the rows of an accepted command of head office, keeps the command, and makes its reply.
 
 ghost use Rattle.std.specs.Prelude.{◌≡◌, ℕ, ◌+◌, true, string_bytes, Ok, IsOk, IfOk};
 ghost use Rattle.sql_rows.specs.Calls.{DoesInside};
@@ -29,8 +28,8 @@ use sql_rows::{Bytes, StoreFault};
 use sqlite::{Alter, Transaction};
 use std::alloc::Global;
 
-/// Writes the rows of an accepted command, keeps it, and gives its reply. There is something to commit. The form is the
-/// command's stored form.
+/// Writes the rows of an accepted command, keeps the command, and returns its reply. There is something to commit.
+/// `form` is the command's stored form.
 pub fn add<S: Alter>(
     alloc: Global,
     tx: &mut Transaction<'_, S>,
@@ -67,7 +66,7 @@ fn keep<S: Alter>(
     Ok(())
 }
 
-/// Writes the rows of an act, and gives the number of its new row, or 0 where it has none.
+/// Writes the rows of an act. Returns the number of its new row, or 0 if the act has no new row with a number.
 fn write<S: Alter>(tx: &mut Transaction<'_, S>, act: &OfficeAct) -> Result<u32, StoreFault>
     ensures { DoesInside S.Store tx.old.conn tx.new.conn result
         (IsNumbered (seen_office_act act.now)) }
@@ -111,7 +110,7 @@ fn write<S: Alter>(tx: &mut Transaction<'_, S>, act: &OfficeAct) -> Result<u32, 
     }
 }
 
-/// The number that comes after the last one.
+/// Returns the number that comes after the last one.
 fn next<const KIND: u8>(last: Result<u32, StoreFault>) -> Result<RowNumber<KIND>, StoreFault>
     ensures { IfOk result (λ number. (n : ℕ) × (last ≡ Ok n) × (number ≡ n + 1)) }
 {
@@ -130,7 +129,7 @@ fn after<const KIND: u8>(last: u32) -> Result<RowNumber<KIND>, StoreFault>
     }
 }
 
-/// The number of a new row that was put.
+/// Returns the number of a new row that was put.
 fn numbered<const KIND: u8>(
     number: RowNumber<KIND>,
     put: Result<(), StoreFault>,
@@ -141,7 +140,7 @@ fn numbered<const KIND: u8>(
     Ok(number.get())
 }
 
-/// 0, where a row was set that has its number already.
+/// Returns 0 after a row was set that has its number already.
 fn without_number(set: Result<(), StoreFault>) -> Result<u32, StoreFault>
     ensures { IfOk result (λ n. (n ≡ 0) × IsOk set) }
 {

@@ -1,4 +1,4 @@
-//! What the tables have of the shared rows that a command of head office names.
+//! Finds in the tables the shared rows that a command of head office names.
 
 ghost use Rattle.std.specs.Prelude.{◌≡◌, option_map, Ok, IfOk};
 ghost use Rattle.sql_rows.specs.Calls.{DoesWithin};
@@ -35,7 +35,7 @@ pub struct SharedFound {
     pub rows: SharedRows,
 }
 
-/// What a decision on head office's command reads of the tables, beside what is kept under the command's key.
+/// Finds what a decision on head office's command reads, except what is kept under the command's key.
 pub fn find<S: Alter>(
     tx: &mut Transaction<'_, S>,
     command: &OfficeCommand,
@@ -54,7 +54,7 @@ pub fn find<S: Alter>(
     })
 }
 
-/// What there is of the rows that an act names.
+/// Finds the rows that an act names.
 fn find_rows<S: Alter>(
     tx: &mut Transaction<'_, S>,
     act: &OfficeAct,
@@ -80,7 +80,7 @@ fn find_rows<S: Alter>(
     }
 }
 
-/// Whether there are the language and the category of a new film.
+/// Finds whether the language and the category of a new film are there.
 fn for_film<S: Alter>(tx: &mut Transaction<'_, S>, film: &Film) -> Result<SharedRows, StoreFault>
     ensures { DoesWithin S.Store tx.old.conn tx.new.conn result
         (FindsFor (model.AddFilm (seen_film film.now))) }
@@ -94,7 +94,7 @@ fn for_film<S: Alter>(tx: &mut Transaction<'_, S>, film: &Film) -> Result<Shared
     })
 }
 
-/// Whether there are a film and an actor who comes into its cast, and whether the actor is in it already.
+/// Finds whether a film and an actor for its cast are there, and whether the actor is in the cast already.
 fn for_cast<S: Alter>(
     tx: &mut Transaction<'_, S>,
     film: FilmNo,
@@ -114,7 +114,7 @@ fn for_cast<S: Alter>(
     })
 }
 
-/// Whether a branch has the token of a new one, and whether there is its city.
+/// Finds whether a branch has the token of a new branch already, and whether the city of the new branch is there.
 fn for_branch<S: Alter>(
     tx: &mut Transaction<'_, S>,
     branch: &Branch,
@@ -131,7 +131,7 @@ fn for_branch<S: Alter>(
     })
 }
 
-/// Whether there are the branch and the city of a new member of staff.
+/// Finds whether the branch and the city of a new member of staff are there.
 fn for_staff<S: Alter>(tx: &mut Transaction<'_, S>, staff: &Staff) -> Result<SharedRows, StoreFault>
     ensures { DoesWithin S.Store tx.old.conn tx.new.conn result
         (FindsFor (model.AddStaff (seen_staff staff.now))) }
@@ -145,7 +145,7 @@ fn for_staff<S: Alter>(tx: &mut Transaction<'_, S>, staff: &Staff) -> Result<Sha
     })
 }
 
-/// Whether there are a branch and a member of staff who becomes its manager.
+/// Finds whether a branch and its new manager are there.
 fn for_manager<S: Alter>(
     tx: &mut Transaction<'_, S>,
     branch: BranchNo,
@@ -163,7 +163,7 @@ fn for_manager<S: Alter>(
     })
 }
 
-/// Whether a rule is the one that is chosen already.
+/// Finds whether a rule is chosen already.
 fn for_rule<S: Alter>(tx: &mut Transaction<'_, S>, rule: Rule) -> Result<SharedRows, StoreFault>
     ensures { DoesWithin S.Store tx.old.conn tx.new.conn result
         (FindsFor (model.ChooseRule (seen_rule rule))) }
@@ -185,7 +185,7 @@ fn is_same(first: Rule, second: Rule) -> bool
     }
 }
 
-/// Whether a country, language or category has the name of a new one.
+/// Returns whether a country, language or category has the name of a new one.
 fn with_name(is_named: Result<bool, StoreFault>) -> Result<SharedRows, StoreFault>
     ensures { IfOk result (λ rows. is_named ≡ Ok rows.is_named) }
 {
@@ -195,7 +195,7 @@ fn with_name(is_named: Result<bool, StoreFault>) -> Result<SharedRows, StoreFaul
     })
 }
 
-/// Whether there is the country of a new city.
+/// Returns whether the country of a new city is there.
 fn with_country(has_country: Result<bool, StoreFault>) -> Result<SharedRows, StoreFault>
     ensures { IfOk result (λ rows. has_country ≡ Ok rows.has_country) }
 {
@@ -205,7 +205,7 @@ fn with_country(has_country: Result<bool, StoreFault>) -> Result<SharedRows, Sto
     })
 }
 
-/// Whether there is a film whose price is set, or that is withdrawn, and whether it is withdrawn already.
+/// Returns whether the film that gets a price or is withdrawn is there, and whether it is withdrawn already.
 fn with_film(film: Result<Option<bool>, StoreFault>) -> Result<SharedRows, StoreFault>
     ensures { IfOk result (λ rows. film ≡ Ok rows.film) }
 {
@@ -215,7 +215,7 @@ fn with_film(film: Result<Option<bool>, StoreFault>) -> Result<SharedRows, Store
     })
 }
 
-/// Whether there is a member of staff who leaves, and whether the member left already.
+/// Returns whether the member of staff who leaves is there, and has left already.
 fn with_staff(staff: Result<Option<StaffFound>, StoreFault>) -> Result<SharedRows, StoreFault>
     ensures { IfOk result (λ rows. staff ≡ Ok rows.staff) }
 {
@@ -225,7 +225,7 @@ fn with_staff(staff: Result<Option<StaffFound>, StoreFault>) -> Result<SharedRow
     })
 }
 
-/// The branch with that manager, where there is one.
+/// Returns what was found of a branch: its manager, if the branch is there.
 fn branch_of(manager: Option<Option<StaffNo>>) -> Option<BranchFound>
     ensures { option_map seen_branch_found result ≡ manager }
 {

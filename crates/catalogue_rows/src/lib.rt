@@ -1,4 +1,4 @@
-//! The rows that all branches share, as head office's commands find and write them.
+//! Finds and writes the rows that all branches share, for commands of head office.
 #![tactic(auto)]
 
 mod adding;

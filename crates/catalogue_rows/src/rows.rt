@@ -1,4 +1,4 @@
-//! The row that each new thing of head office's becomes under its number.
+//! Makes the row of each new thing of head office, under its number.
 
 ghost use Rattle.std.specs.Prelude.{◌≡◌};
 ghost use Rattle.shop_types.specs.Seen.{seen_city, seen_actor, seen_film, seen_branch, seen_staff};

@@ -5,7 +5,7 @@ use Rattle.shop_types.specs.declared.request.Caller.{Caller as Known}
 use Rattle.shop_types.specs.declared.request.Caller.TheVariants as known
 use Rattle.chain_caches.specs.Callers.{AreCallers, KnownCallers, IsCallers}
 
--- none is known
+-- no caller is known
 pub no_callers : (entries : KnownCallers) (catalogue : Catalogue) → entries ≡ [] → AreCallers entries catalogue
 no_callers entries catalogue none = record { caller = λ token caller there. absurd (in_none token caller (subst (λ (es : KnownCallers). Contains es (token, caller)) none there)) }
   where
@@ -23,7 +23,7 @@ branch_there entries token b catalogue callers there =
     by true e = let no : _ = e in cc
     by false e = refl
 
--- one more
+-- one caller more
 pub one_more : (entries : KnownCallers) (token : List ℕ) (caller : Known) (catalogue : Catalogue) → AreCallers entries catalogue → IsCallers token caller catalogue
     → AreCallers (entries ++ (token, caller) ∷ []) catalogue
 one_more entries token caller catalogue known is = record {
@@ -33,7 +33,7 @@ one_more entries token caller catalogue known is = record {
   ];
 }
 
--- behind any request of any caller
+-- after any request of any caller
 pub callers_after : (entries : KnownCallers) (rules : Rules) (caller : Caller) (request : Request) (books : Books) → AreCallers entries books.catalogue
     → AreCallers entries (after_for rules caller request books).catalogue
 callers_after entries rules caller request books known = record {

@@ -16,7 +16,7 @@ fewer_rows old new films within rows = record { row = λ number film there. rows
 pub no_rows : (entries : KnownFilms) (films : List Film) → entries ≡ [] → AreRows entries films
 no_rows entries films none = record { row = λ number film there. absurd (Contains-nil (number, film) (subst (λ (es : KnownFilms). Contains es (number, film)) none there)) }
 
--- what is found among them
+-- a film that is found among the entries
 pub found_row : (entries : KnownFilms) (films : List Film) (number : ℕ) (found : Option KnownFilm) → found ≡ lookup (nat_eq number) entries → AreRows entries films
     → IfSome found (λ film. IsRow number film films)
 found_row entries films number None is rows = tt
@@ -25,7 +25,7 @@ found_row entries films number (Some film) is rows =
     let same : number ≡ there.0 = same_if number there.0 there.2 in
     subst (λ (n : ℕ). IsRow n film films) (sym same) (rows.row there.0 film there.1)
 
--- one was put
+-- an entry was put
 pub put_row : (cache : LruCache ℕ KnownFilm) (films : List Film) (number : ℕ) (film : KnownFilm) → AreRows cache.entries films → IsRow number film films
     → AreRows (put_entries nat_eq cache number film) films
 put_row cache films number film rows it = record {
@@ -41,13 +41,13 @@ put_row cache films number film rows it = record {
   ];
 }
 
--- one was put, or there was no memory for it
+-- an entry was put, or there was no memory for it
 pub put_or_not : {X E : Type 0} (result : Result X E) (old new : LruCache ℕ KnownFilm) (films : List Film) (number : ℕ) (film : KnownFilm)
     → OnOk result (new ≡ lru_cache (put_entries nat_eq old number film) old.cap) → OnErr result (new ≡ old) → AreRows old.entries films → IsRow number film films → AreRows new.entries films
 put_or_not (Ok x) old new films number film made same rows it = subst (λ (c : LruCache ℕ KnownFilm). AreRows c.entries films) (sym made) (put_row old films number film rows it)
 put_or_not (Err e) old new films number film made same rows it = subst (λ (c : LruCache ℕ KnownFilm). AreRows c.entries films) (sym same) rows
 
--- ---- one was taken out
+-- ---- an entry was taken out
 
 among_keys : (k : ℕ) (entries : KnownFilms) (e : ℕ × KnownFilm) → AllByRecursion (λ y. nat_eq k y ≡ false) (keys_of entries) → Contains entries e → nat_eq k e.0 ≡ false
 among_keys k [] e apart there = absurd (Contains-nil e there)
@@ -56,7 +56,7 @@ among_keys k (first ∷ entries) e apart there = elim (Contains-cons first entri
   | inr later ↦ among_keys k entries e apart.1 later
 ]
 
--- it is gone
+-- the entry is gone
 pub gone : (number : ℕ) (entries : KnownFilms) (e : ℕ × KnownFilm) → IsDistinct nat_eq (keys_of entries) → Contains (remove_entry (nat_eq number) entries) e → nat_eq number e.0 ≡ false
 gone number [] e distinct there = absurd (Contains-nil e there)
 gone number (first ∷ entries) e distinct there = (elim (nat_eq number first.0) as (λ y. nat_eq number first.0 ≡ y → nat_eq number e.0 ≡ false) [
@@ -70,7 +70,7 @@ gone number (first ∷ entries) e distinct there = (elim (nat_eq number first.0)
   ]
 ]) refl
 
--- whatever becomes of its row
+-- the other entries stay true whatever is done to its row
 pub free_rows : (number : ℕ) (entries : KnownFilms) (films : List Film) (change : Film → Film) → IsDistinct nat_eq (keys_of entries) → AreRows entries films
     → AreRows (remove_entry (nat_eq number) entries) (set_at number change films)
 free_rows number entries films change distinct rows = record {

@@ -1,4 +1,4 @@
--- What a cache knows of callers.
+-- Defines what a cache knows of callers.
 use Rattle.std.specs.Prelude.{◌≡◌, ℕ, false, List, Option, Some, None, Contains, refl}
 use Rattle.std.specs.Coded.{Coded, code_by, coded×, coded_ℕ, coded_list, coded_option}
 use Rattle.shop_model.specs.Shop.{Catalogue}
@@ -12,7 +12,7 @@ use Rattle.shop_types.specs.Seen.{seen_caller}
 abbrev pub KnownCallers : Type 0
 KnownCallers = List (List ℕ × Caller)
 
--- a caller by whether it is one, and by the number that a branch has
+-- a caller as numbers: nobody or somebody, head office or a branch, and the branch's number
 abbrev parts_of : Caller → Option (Option ℕ)
 parts_of Nobody = None
 parts_of Office = Some None
@@ -28,17 +28,17 @@ same_parts Nobody = refl
 same_parts Office = refl
 same_parts (Branch number) = refl
 
--- entries are told apart by their parts
+-- entries are distinguished by their parts
 abbrev pub caller_code : Coded Caller
 caller_code = code_by (Option (Option ℕ)) (coded_option (coded_option coded_ℕ)) parts_of of_parts same_parts
 
 abbrev pub callers_code : Coded KnownCallers
 callers_code = coded_list (coded× (coded_list coded_ℕ) caller_code)
 
--- the token is that caller's, and it isn't nobody's
+-- the token belongs to that caller, and the caller isn't nobody
 abbrev pub IsCallers : List ℕ → Caller → Catalogue → Type 0
 IsCallers token caller catalogue = (seen_caller caller ≡ caller_of (Some token) catalogue) × (is_nobody (seen_caller caller) ≡ false)
 
--- each entry's token is its caller's
+-- each entry's token belongs to its caller
 pub record AreCallers (entries : KnownCallers) (catalogue : Catalogue) : Type 0 where
   pub caller : (token : List ℕ) (caller : Caller) → Contains entries (token, caller) → IsCallers token caller catalogue

@@ -1,4 +1,4 @@
--- What a cache knows of films.
+-- Defines what a cache knows of films.
 use Rattle.std.specs.Prelude.{◌≡◌, ℕ, Bool, List, [], map, Option, Some, None, Contains, refl}
 use Rattle.std.specs.Coded.{Coded, code_by, coded×, coded_ℕ, coded_bool, coded_list}
 use Rattle.lru.specs.LruCache.{LruCache}
@@ -18,7 +18,7 @@ abbrev pub entries_of : Option (LruCache ℕ KnownFilm) → KnownFilms
 entries_of None = []
 entries_of (Some films) = films.entries
 
--- entries are told apart by their parts
+-- entries are distinguished by their parts
 abbrev pub known_code : Coded KnownFilm
 known_code =
     code_by ((ℕ × (ℕ × ℕ)) × Bool) (coded× (coded× coded_ℕ (coded× coded_ℕ coded_ℕ)) coded_bool) (λ it. ((it.terms.rate, (it.terms.period, it.terms.replacement)), it.withdrawn))
@@ -28,14 +28,14 @@ known_code =
 abbrev pub entries_code : Coded KnownFilms
 entries_code = coded_list (coded× coded_ℕ known_code)
 
--- what a rental of it is charged by, and whether it is withdrawn
+-- the terms of a rental of the film, and whether the film is withdrawn
 abbrev pub known_of : Film → Terms × Bool
 known_of film = (film_terms film, film.withdrawn)
 
 abbrev pub seen_known : KnownFilm → Terms × Bool
 seen_known film = (seen_terms film.terms, film.withdrawn)
 
--- it is the row of the number
+-- what is known is the row of the number
 abbrev pub IsRow : ℕ → KnownFilm → List Film → Type 0
 IsRow number film films = Some (seen_known film) ≡ head (map known_of (at number films))
 

@@ -1,4 +1,4 @@
-//! The cache of callers.
+//! Caches callers by their tokens.
 
 ghost use Rattle.std.specs.Prelude.{◌≡◌, ◌⊎◌, [], ◌∷◌, ◌++◌, Some, IfSome, IsTrue, false};
 ghost use Rattle.shop_model.specs.Rows.{lacks};
@@ -11,8 +11,8 @@ use shop_types::{BranchNo, Caller, Token};
 use std::alloc::Global;
 use std::marker::Model;
 
-/// Tokens with their callers, in the order in which they came: head office and branches. Where there are 256, no
-/// further one is taken.
+/// Tokens with their callers, which are head office and branches, in the order in which they came. If there are 256, no
+/// further token is taken.
 #[derive(Drop)]
 pub struct CallerCache {
     callers: Vec<(Token, Caller)>,
@@ -30,7 +30,7 @@ impl Model for CallerCache {
 }
 
 impl CallerCache {
-    /// A cache without a caller. It takes no memory.
+    /// Returns a cache without a caller. Takes no memory.
     pub fn new(alloc: Global) -> CallerCache
         ensures { result ≡ [] }
     {
@@ -39,7 +39,7 @@ impl CallerCache {
         }
     }
 
-    /// The caller whose token it is, where that is known.
+    /// Returns the caller who has the token, if it is known.
     pub fn known(&self, token: &Token) -> Option<Caller>
         ensures { (catalogue : Catalogue) → AreCallers self.now catalogue
             → IfSome result (λ caller. seen_caller caller ≡ caller_of (Some token.now) catalogue) }
@@ -52,7 +52,7 @@ impl CallerCache {
         None
     }
 
-    /// Whether the branch is among them: then it is there.
+    /// Returns whether the branch is in the cache. If so, the chain has the branch.
     pub fn has_branch(&self, branch: BranchNo) -> bool
         ensures { (catalogue : Catalogue) → AreCallers self.now catalogue → IsTrue result
             → lacks catalogue.branches branch ≡ false }
@@ -67,8 +67,8 @@ impl CallerCache {
         false
     }
 
-    /// Keeps whose the token is, where it is somebody's and there is room and memory for it. Where there is none, the
-    /// cache stays as it is, and nobody is told.
+    /// Keeps which caller has the token, if it is somebody's and there are room and memory for it. Else the cache stays
+    /// as it is, and no error is returned.
     pub fn put(&mut self, token: &Token, caller: &Caller)
         ensures { (catalogue : Catalogue) → AreCallers self.old catalogue
             → seen_caller caller.now ≡ caller_of (Some token.now) catalogue → AreCallers self.new catalogue }
@@ -79,7 +79,7 @@ impl CallerCache {
         }
     }
 
-    /// Keeps it, where there is room and memory.
+    /// Keeps the token and its caller, if there are room and memory.
     fn keep(&mut self, token: Token, caller: Caller)
         ensures { (self.new ≡ self.old) ⊎ (self.new ≡ self.old ++ (token, caller) ∷ []) }
     {

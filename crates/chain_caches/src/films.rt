@@ -1,4 +1,4 @@
-//! The cache of films.
+//! Caches films by their numbers.
 
 ghost use Rattle.std.specs.Prelude.{◌≡◌, ◌≤◌, [], Some, List, map, length, IfSome};
 ghost use Rattle.lru.specs.LruCache.{lru_cache};
@@ -16,18 +16,18 @@ use std::alloc::Global;
 use std::marker::Model;
 use std::num::NonZeroUsize;
 
-/// By what a rental of a film is charged now, and whether it is withdrawn.
+/// The terms of a rental of a film that begins now, and whether the film is withdrawn.
 #[derive(Clone, Copy)]
 pub struct KnownFilm {
     pub terms: Terms,
     pub withdrawn: bool,
 }
 
-/// Films with their numbers, the most recently used first. Where there are 256, a new one takes the place of the last.
+/// Films with their numbers, the most recently used first. If there are 256, a new film takes the place of the last.
 #[derive(Drop)]
 pub struct FilmCache {
     alloc: Global,
-    /// There is none before the first film.
+    /// `None` before the first film is put.
     films: Option<LruCache<u32, KnownFilm>>,
 }
 
@@ -44,14 +44,14 @@ impl Model for FilmCache {
 }
 
 impl FilmCache {
-    /// A cache without a film. It takes no memory.
+    /// Returns a cache without a film. Takes no memory.
     pub fn new(alloc: Global) -> FilmCache
         ensures { result ≡ [] }
     {
         FilmCache { alloc, films: None }
     }
 
-    /// How many films it has. It takes no memory.
+    /// Returns how many films the cache has. Takes no memory.
     pub fn len(&self) -> usize
         ensures value { result ≡ length self.now }
         ensures most { result ≤ 256 }
@@ -62,7 +62,7 @@ impl FilmCache {
         }
     }
 
-    /// What is known of the film, which then is the most recently used.
+    /// Returns what is known of the film, and makes it the most recently used.
     pub fn known(&mut self, number: FilmNo) -> Option<KnownFilm>
         ensures row { (films : List model.Film) → AreRows self.old films
             → IfSome result (λ known. Some (seen_known known) ≡ head (map known_of (at number films))) }
@@ -74,8 +74,8 @@ impl FilmCache {
         films.get(&number.get()).copied()
     }
 
-    /// Keeps what was read of the film, where there is memory for it. Where there is none, the cache stays as it is,
-    /// and nobody is told.
+    /// Keeps what was read of the film, if there is memory for it. Else the cache stays as it is, and no error is
+    /// returned.
     pub fn put(&mut self, number: FilmNo, film: &KnownFilm)
         ensures { (films : List model.Film) → AreRows self.old films → IsRow number film.now films
             → AreRows self.new films }
@@ -87,7 +87,7 @@ impl FilmCache {
         drop(films.put(number.get(), *film));
     }
 
-    /// Takes room for films, where there is none yet, and memory for it.
+    /// Makes room for films, if there is no room yet and there is memory for it.
     fn make_room(&mut self)
         ensures { self.new ≡ self.old }
     {
@@ -97,8 +97,8 @@ impl FilmCache {
         self.films = no_films(self.alloc);
     }
 
-    /// Takes out what is known of the film, before its row is changed: whatever becomes of the row, what is left
-    /// stays true.
+    /// Takes out what is known of the film, before its row is changed. All other entries stay true, whatever is done to
+    /// the row.
     pub fn take_out(&mut self, number: FilmNo)
         ensures kept { (films : List model.Film) → AreRows self.old films → AreRows self.new films }
         ensures free { (films : List model.Film) (change : model.Film → model.Film) → AreRows self.old films
@@ -107,19 +107,19 @@ impl FilmCache {
         let Some(films) = &mut self.films else {
             return;
         };
-        // That no key comes twice is what a length says.
+        // The length says that no key comes twice.
         let _few = films.len();
         drop(films.pop(&number.get()));
     }
 
-    /// Takes all films out. It takes no memory.
+    /// Takes all films out. Takes no memory.
     pub fn clear(&mut self)
         ensures { self.new ≡ [] }
     {
         self.films = None;
     }
 
-    /// Takes out the film whose row an act of head office changes, where it changes one. What is left stays true
+    /// Takes out the film whose row an act of head office changes, if it changes one. All other entries stay true,
     /// whether or not the act is done.
     #[tactic(auto, using(crate::proofs::FilmSteps::longer_rows))]
     pub fn take_out_changed(&mut self, act: &OfficeAct)
@@ -134,7 +134,7 @@ impl FilmCache {
     }
 }
 
-/// Room for 256 films, where there is memory for any.
+/// Returns room for 256 films, if there is memory for it.
 fn no_films(alloc: Global) -> Option<LruCache<u32, KnownFilm>>
     ensures { IfSome result (λ films. films ≡ lru_cache [] 256) }
 {
@@ -142,7 +142,7 @@ fn no_films(alloc: Global) -> Option<LruCache<u32, KnownFilm>>
     LruCache::sparse(alloc, most).ok()
 }
 
-/// The film whose row the act changes, where it changes one.
+/// Returns the film whose row the act changes, if it changes one.
 fn changed_film(act: &OfficeAct) -> Option<FilmNo>
     ensures { result ≡ film_changed (seen_office_act act.now) }
 {

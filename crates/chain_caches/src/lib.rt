@@ -1,6 +1,6 @@
-//! What a chain keeps in mind beside its tables, so that a request needn't ask the store again: what is known of
-//! films as they are now, and whose a token is, of at most 256 each. A chain has one cache of each kind, for all its
-//! branches.
+//! Caches what a chain knows beside its tables, so that a request doesn't have to ask the store again. There are at
+//! most 256 films as they are now, and at most 256 tokens with their callers. A chain has one cache of each kind, for
+//! all its branches.
 #![tactic(auto)]
 
 mod callers;

@@ -10,18 +10,18 @@ use Rattle.chain_requests.proofs.Requests.{kept}
 use Rattle.chain_requests.proofs.Taking.{takes_still}
 use Rattle.chain_engine.specs.Leaving.{LeavesNoMore}
 
--- what a look answers is of a chain that hasn't failed
+-- if a look succeeds, the chain hasn't failed
 pub is_live : {P : Type 0} {A E : Type 0} (was : Bool) (told : A) (fault : E) → (was ≡ true → P × (Ok told ≡ Err fault)) → was ≡ false
 is_live was told fault failed = elim (cases_Bool was) [
   | inl is ↦ let no : Ok told ≡ Err fault = (failed is).1 in cc
   | inr live ↦ live
 ]
 
--- whether it has failed is told by the value as by its parts
+-- equal chains have failed or not alike
 pub same_failed : {S : Type 0} {old self : Chained S} → old ≡ self → old.is_failed ≡ self.is_failed
 same_failed {S} = ap (λ (x : Chained S). x.is_failed)
 
--- with the connection as it was, whatever the fault is
+-- if a chain has failed and its connection is as before, a further fault leaves the chain as it was
 pub stays_failed : {S : Type 0} (old : Chained S) (conn : Held S) (fault : StoreFault) → old.is_failed ≡ true → conn ≡ old.conn
     → record { limits = old.limits; is_failed = old.is_failed || is_final fault; films = old.films; callers = old.callers; conn = conn } ≡ old
 stays_failed {S} old conn fault was same =
@@ -37,17 +37,17 @@ is_either : (b : Bool) → (b || true) ≡ true
 is_either true = refl
 is_either false = refl
 
--- a chain has failed behind a fault exactly where that is told as the store's failure
+-- after a fault, a chain has failed exactly if the reply for this fault is the store's failure
 pub fails_by : (was : Bool) (fault : StoreFault) → (was ≡ true → fault ≡ Failed) → (was || is_final fault) ≡ is_store_failure (problem_answer (seen_refusal (refusal_for fault)))
 fails_by was Memory only = was_none was (λ is. let no : Memory ≡ Failed = only is in cc) ∙ sym memory_failure
 fails_by was Size only = was_none was (λ is. let no : Size ≡ Failed = only is in cc) ∙ sym size_failure
 fails_by was Failed only = is_either was ∙ sym failed_failure
 
--- and it goes on to answer that it has failed
+-- a chain that has failed answers each request with the store's failure
 refuses_failed : {S : Type 0} (g : Ghosts S) (chain : Chained S) → chain.is_failed ≡ true → Takes g chain chain (IsStoreRefusal StoreFailed)
 refuses_failed g chain was = takes_still (λ books besides. inr (refl, subst (λ (b : Bool). holding chain books besides ≡ record (holding chain books besides) { is_failed = b }) was refl))
 
--- a call that commits nothing leaves a crash no more
+-- after a call that commits nothing, a crash finds no database that it couldn't have found before the call
 pub leaves_no_more : {S : Type 0} (g : Ghosts S) (old self : Chained S) (conn new : Held S) → old ≡ self → Survives (state g old.conn) (state g conn) (λ _. ⊥) → new ≡ conn
     → LeavesNoMore (state g self.conn) (state g new)
 leaves_no_more {S} g old self conn new is survives same = subst (λ (x : Chained S). LeavesNoMore (state g x.conn) (state g new)) is (λ clean db may.
@@ -57,7 +57,7 @@ leaves_no_more {S} g old self conn new is survives same = subst (λ (x : Chained
 abbrev refusing : (A : Type 0) → StoreFault → Result A StoreFault
 refusing A fault = Err fault
 
--- a look that the store refuses, of a chain that had failed or of one that hadn't: what it is made of, and what it is
+-- The store refuses a look, of a chain that had failed or of one that hadn't: what such a look leaves, and what it answers.
 module _ {S A : Type 0} (g : Ghosts S) (old self new : Chained S) (conn : Held S) (fault : StoreFault) (is : old ≡ self)
     (told : new ≡ record { limits = old.limits; is_failed = old.is_failed || is_final fault; films = old.films; callers = old.callers; conn = conn })
     (refused : old.is_failed ≡ true → (conn ≡ old.conn) × (refusing A fault ≡ refusing A Failed)) where

@@ -1,4 +1,4 @@
--- A chain that was stopped goes on with one history.
+-- The requests before a stop and after it are one history.
 use Rattle.std.proofs.Common.{◌⊎◌}
 use Rattle.std.specs.Prelude.{◌||◌}
 use Rattle.shop_schema.proofs.Common.{◌≡◌, ◌∙◌, inl, inr, refl, sym, ap, subst, Bool, true, false, List, [], ◌∷◌, length, Some, arith, cases_Bool, ∥∥₁_map, Trees, Ghosts, state, HasCleanDisk, Limits, Rules, Answer, Books, Event, after, office_look, IsRun, is_store_failure, has_failed, last_books, StandsFor, HoldsOne}
@@ -15,7 +15,7 @@ use Rattle.chain_requests.specs.Chains.{IsAt, Takes, Runs, StandsForEither}
 use Rattle.chain_files.specs.Files.{KeepsBooks, KeepsEither}
 use Rattle.chain_engine.specs.Resumes.{before_stop, behind_stop, Resumes}
 
--- where an answer is the store's failure, there is a request at which it failed first
+-- if one of the answers is the store's failure, there is a first request at which the store failed
 fails_at : (events : List Event) (answers : List Answer) → length answers ≡ length events → has_failed answers ≡ true → (event : Event) × (failing events answers ≡ Some event)
 fails_at [] [] each did = let no : false ≡ true = did in cc
 fails_at [] (a ∷ answers) each did = absurd (omega (arith, each))
@@ -30,7 +30,7 @@ fails_at (e ∷ events) (a ∷ answers) each did = elim (cases_Bool (is_store_fa
 ]
 
 module _ {S : Type 0} (g : Ghosts S) (limits : Limits) (start mid again last : Chained S) (first rest : List Event) (told later : List Answer) where
-  -- what was answered behind the stop
+  -- the chain resumes with the requests that were answered after the stop
   goes_on : (acted : Bool) (old between begins : Books) → start.limits ≡ limits → again.limits ≡ limits → again.is_failed ≡ false → IsRun (rules_of limits) office_look first told old between
       → begins ≡ last_books (rules_of limits) (in_flight (before_stop first told acted)) between
       → (new besides : Books) → Runs rest later (holding again begins begins) (holding last new besides) → IsAt g last new besides
@@ -82,7 +82,7 @@ module _ {S : Type 0} (g : Ghosts S) (limits : Limits) (start mid again last : C
             ]
       ])
 
--- ---- a crash of the disks
+-- ---- after a crash of the disks
 
 module _ {D : Type 0} (g : DiskGhosts D) (files now : Files D) where
   crashed_one : (P : Trees → Type 0) → ((image : Image) → outcomes g now.log now.db image → outcomes g files.log files.db image) → HoldsOne g files P → HoldsOne g now P

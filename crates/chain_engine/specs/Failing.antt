@@ -5,7 +5,7 @@ use Rattle.shop_model.specs.Histories.{is_store_failure}
 use Rattle.shop_types.specs.declared.refusal.Refusal.{Refusal}
 use Rattle.shop_types.specs.Seen.{seen_refusal}
 
--- it is refused, and the answer that tells so is the store's failure
+-- the result is a refusal, and the reply for that refusal is the store's failure
 abbrev pub is_failure : {A : Type 0} → Result A Refusal → Bool
 is_failure (Ok found) = false
 is_failure (Err refusal) = is_store_failure (problem_answer (seen_refusal refusal))

@@ -34,8 +34,8 @@ use sqlite::{Alter, Connection, MemStore};
 use std::alloc::Global;
 use std::marker::Model;
 
-/// A chain of shops: its limits, the books of all branches in the tables of a store, and what is known of films, for
-/// all branches, and of callers.
+/// A chain of shops: its limits, and the books of all branches in the tables of a store. It caches what it has read of
+/// films, for all branches, and of callers.
 #[derive(Drop)]
 pub struct Chain<S: Alter> {
     pub(crate) limits: Limits,
@@ -60,8 +60,8 @@ impl<S: Alter> Model for Chain<S> {
 }
 
 impl Chain<MemStore> {
-    /// A chain in memory with head office's token and no shared row. Where there is none, memory or room is wanting,
-    /// or the store has failed.
+    /// Makes a chain in memory with head office's token and no shared row. Fails if there isn't enough memory or room,
+    /// or if the store has failed.
     pub fn memory(
         alloc: Global,
         limits: Limits,
@@ -80,8 +80,8 @@ impl Chain<MemStore> {
         }
     }
 
-    /// A chain in memory, with the opening rows, in which no branch has asked anything. Where there is none, memory
-    /// or room is wanting, or the store has failed.
+    /// Makes a chain in memory with the opening rows, in which no branch has asked anything. Fails if there isn't
+    /// enough memory or room, or if the store has failed.
     pub fn demo(alloc: Global, limits: Limits) -> Result<Chain<MemStore>, OpenFault>
         ensures made { IfOk result (λ chain. (chain.limits ≡ limits) × (chain.is_failed ≡ false)
             × IsAt over_memory chain opening_books opening_books) }
@@ -98,7 +98,7 @@ impl Chain<MemStore> {
 }
 
 impl<S: Alter> Chain<S> {
-    /// The chain whose tables are the connection's, of which nothing is kept yet.
+    /// Returns the chain whose tables are the connection's. Its caches are empty.
     pub(crate) fn over(alloc: Global, conn: Connection<S>, limits: Limits) -> Chain<S>
         requires { conn.in_transaction ≡ false }
         ensures { result ≡ record { limits = limits; is_failed = false; films = []; callers = []; conn = conn } }
@@ -113,14 +113,14 @@ impl<S: Alter> Chain<S> {
         }
     }
 
-    /// Whether the store has failed: then every request is answered `StoreFailed`.
+    /// Reports whether the store has failed. If it has, every request is answered `StoreFailed`.
     pub fn is_failed(&self) -> bool
         ensures { result ≡ self.now.is_failed }
     {
         self.is_failed
     }
 
-    /// Of how many films the chain knows what they are, so that they needn't be read again. It takes no memory.
+    /// Returns the number of cached films, which needn't be read again. Takes no memory.
     pub fn cached_films(&self) -> usize
         ensures value { result ≡ length self.now.films }
         ensures most { result ≤ 256 }
@@ -128,9 +128,9 @@ impl<S: Alter> Chain<S> {
         self.films.len()
     }
 
-    /// The caller whose token it is, or the refusal that the store gives instead: `Memory`, `Size` or `StoreFailed`,
-    /// the last exactly where the chain has failed then. What a crash may find stays as it was, whatever the tables
-    /// are.
+    /// Returns the caller whose token it is, or the store's refusal: `Memory`, `Size` or `StoreFailed`. It is
+    /// `StoreFailed` exactly if the chain has failed after the call. Whatever the tables are, what a crash may find
+    /// stays as it was.
     pub fn caller(&mut self, token: &Token) -> Result<Caller, Refusal>
         ensures taken { Takes S.Store self.old self.new (FindsCaller token.now result) }
         ensures refused { IfErr result IsOfStore }
@@ -150,7 +150,8 @@ impl<S: Alter> Chain<S> {
         }
     }
 
-    /// The caller whose token it is, where the chain hasn't failed and has found it before. The store isn't asked.
+    /// Returns the caller whose token it is, if the chain hasn't failed and has found this caller before. Doesn't ask
+    /// the store.
     fn remembered(&self, token: &Token) -> Option<Caller>
         ensures { IfSome result (λ caller. (self.now.is_failed ≡ false)
             × ((catalogue : Catalogue) → AreCallers self.now.callers catalogue → seen_caller caller ≡ caller_of
@@ -162,9 +163,9 @@ impl<S: Alter> Chain<S> {
         self.callers.known(token)
     }
 
-    /// What an audit says of the tables, whatever they hold, or the refusal that the store gives instead: `Memory`,
-    /// `Size` or `StoreFailed`, the last exactly where the chain has failed then. What a crash may find stays as it
-    /// was. It reads all tables: its time is that of sorting their rows, and its memory that of keeping them.
+    /// Audits the tables, whatever they hold, or returns the store's refusal: `Memory`, `Size` or `StoreFailed`. It is
+    /// `StoreFailed` exactly if the chain has failed after the call. What a crash may find stays as it was. The audit
+    /// reads all tables: it takes the time to sort their rows, and the memory to keep them.
     pub fn audit(&mut self) -> Result<Audit, Refusal>
         ensures told { HasCleanDisk (state S.Store self.new.conn)
             → IfOk result (AuditsState (state S.Store self.old.conn)) }
@@ -180,9 +181,9 @@ impl<S: Alter> Chain<S> {
         }
     }
 
-    /// Answers one request of a caller. What is answered with a refusal has changed nothing; where it is `Memory` or
-    /// `Size`, the request may be sent again as it was. Once the answer is `StoreFailed`, it is that for good: the
-    /// chain is to be closed and opened again.
+    /// Answers one request of a caller. A request that is refused has changed nothing. If the refusal is `Memory` or
+    /// `Size`, the request may be sent again as it was. After one `StoreFailed` every further answer is `StoreFailed`:
+    /// close the chain and open it again.
     pub fn answer(&mut self, caller: &Caller, request: &Request) -> Reply
         ensures taken { Takes S.Store self.old self.new
             (Answers (seen_caller caller.now) (seen_request request.now) (seen_reply result)) }
@@ -214,8 +215,8 @@ impl<S: Alter> Chain<S> {
         }
     }
 
-    /// Answers requests one after another, each as if it had come alone. An `Err` has answered none and changed
-    /// nothing.
+    /// Answers requests one after another, each as if it had come alone. A call that returns `Err` has answered none
+    /// and changed nothing.
     pub fn replay(&mut self, requests: &[(Token, Request)]) -> Result<Vec<Reply>, NoMemory>
         ensures ran { IfOk result (λ replies. Takes S.Store self.old self.new
             (Runs (map event_of requests.now) (map seen_reply replies.items))) }
@@ -250,7 +251,7 @@ impl<S: Alter> Chain<S> {
         }
     }
 
-    /// Answers what the tables answer, where the store hasn't failed.
+    /// Answers from the tables. The store must not have failed.
     fn answer_asked(&mut self, asked: &Asked<'_>) -> Reply
         requires fine { self.old.is_failed ≡ false }
         requires known { (catalogue : Catalogue) → AreCallers self.old.callers catalogue
@@ -278,7 +279,7 @@ impl<S: Alter> Chain<S> {
         }
     }
 
-    /// Answers a reading of head office, where the store hasn't failed.
+    /// Answers a reading of head office. The store must not have failed.
     fn answer_office(&mut self, ask: OfficeAsk) -> Reply
         requires { self.old.is_failed ≡ false }
         ensures taken { Takes S.Store self.old self.new
@@ -293,7 +294,7 @@ impl<S: Alter> Chain<S> {
         }
     }
 
-    /// How a fault of the store is told; once it has failed, the chain is failed for good.
+    /// Returns the refusal for a fault of the store. Once the store has failed, the chain is failed permanently.
     fn refusal(&mut self, fault: StoreFault) -> Refusal
         ensures told { result ≡ refusal_for fault }
         ensures failed { self.new ≡ record self.old { is_failed = self.old.is_failed || is_final fault } }

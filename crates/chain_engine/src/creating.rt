@@ -13,8 +13,8 @@ use std::alloc::Global;
 
 impl<D: Disk + Drop> Chain<FileStore<D>> {
     /// Makes a chain with head office's token and no shared row in files that hold no table. A fault gives the files
-    /// back: `Already` where they hold tables, which stay as they are, and `Memory`, `Size` or `Store` where the
-    /// store can't do its part; then they hold no table, or the whole chain without a row.
+    /// back. It is `Already` if they hold tables, which stay as they are. It is `Memory`, `Size` or `Store` if the
+    /// store can't do its part. The files then hold no table, or the whole chain without a row.
     pub fn create_files(
         alloc: Global,
         files: Files<D>,

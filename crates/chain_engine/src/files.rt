@@ -19,9 +19,9 @@ use sqlite_disk::Disk;
 use std::alloc::Global;
 
 impl<D: Disk + Drop> Chain<FileStore<D>> {
-    /// Opens the chain that the files hold; the limits are those of this opening. A fault gives the files back:
-    /// `NotAChain` where they hold none, `OtherVersion` where its version isn't the program's, `Damaged` where its
-    /// tables stand for no sound books, and `Memory`, `Size` or `Store` where the store can't do its part.
+    /// Opens the chain that the files hold. The limits apply to this opening. A fault gives the files back. It is
+    /// `NotAChain` if they hold none, and `OtherVersion` if the chain's version isn't the program's. It is `Damaged` if
+    /// its tables don't hold sound books, and `Memory`, `Size` or `Store` if the store can't do its part.
     pub fn open_files(
         alloc: Global,
         files: Files<D>,
@@ -37,8 +37,8 @@ impl<D: Disk + Drop> Chain<FileStore<D>> {
         }
     }
 
-    /// Gives the files back, which hold what a crash of the chain may leave. Unless the store has failed, they keep
-    /// the chain's books; else they keep the books before the request at which it failed, or those after it.
+    /// Gives the files back, which hold what a crash of the chain may leave. If the store hasn't failed, they keep the
+    /// chain's books. If it has, they keep the books before the request at which it failed, or the books after it.
     pub fn close(self) -> Files<D>
         ensures keeps { self.is_failed ≡ false → (books besides : Books) → IsAt over_files self books besides
             → KeepsBooks D.Disk result books }
@@ -59,9 +59,9 @@ impl<D: Disk + Drop> Chain<FileStore<D>> {
         give_back(conn)
     }
 
-    /// Closes the chain and opens its files again, with the limits that it had: the new chain has the same books, or,
-    /// where the store had failed, those before the request at which it failed or those after it. A fault gives the
-    /// files back, as `open_files` does, but is never `Damaged`.
+    /// Closes the chain and opens its files again, with the limits that it had. The new chain has the same books. If
+    /// the store had failed, it has the books before the request at which it failed, or the books after it. A fault
+    /// gives the files back, as `open_files` does, but is never `Damaged`.
     pub fn reopen(self) -> Result<Chain<FileStore<D>>, (OpenFault, Files<D>)>
         ensures live { IfOk result (λ chain. (chain.limits ≡ self.limits) × (chain.is_failed ≡ false)) }
         ensures honest { IfOk result (λ chain. HasCleanDisk (file_state chain.conn)

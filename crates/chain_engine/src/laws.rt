@@ -2,8 +2,7 @@
 
 ghost use Rattle.chain_engine.specs.Laws.{RunsFollow};
 
-/// What a chain answered in two calls of `replay`, one after the other, is what it would have answered in one: both
-/// together are one history.
+/// Two calls of `replay`, one after the other, answer what one call would have answered. Both together are one history.
 pub fn runs_follow()
     ensures { RunsFollow }
 {}

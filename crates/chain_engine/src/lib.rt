@@ -1,5 +1,5 @@
-//! The chain of shops over a store: its books, and what they answer, one request after another, each in one
-//! transaction; and a chain in two files that is stopped and opened again, with what its requests come to.
+//! The chain of shops over a store. It answers requests from its books, one after another, each in one transaction. A
+//! chain in two files may be stopped and opened again, and its requests remain one history.
 #![tactic(auto)]
 
 mod chain;

@@ -11,11 +11,11 @@ use sqlite_disk::Disk;
 use std::alloc::Global;
 
 impl<D: Disk + Drop> Chain<FileStore<D>> {
-    /// Makes the chain of version 1 that the files hold one of this version, and opens it: each rental gets the terms
-    /// of its film as they stand, and all else stays. A fault gives the files back: `Already` where they hold a chain
-    /// of this version, `NotAChain` where they hold none, `OtherVersion` where its version is neither, `Damaged`
-    /// where its tables stand for no sound books, and `Memory`, `Size` or `Store` where the store can't do its part;
-    /// then they hold the one version or the other, whole, and may be migrated again.
+    /// Turns the chain of version 1 that the files hold into one of this version, and opens it. Each rental gets its
+    /// film's present terms, and all else stays. A fault gives the files back. It is `Already` if they hold a chain
+    /// of this version, `NotAChain` if they hold none, and `OtherVersion` if its version is neither. It is `Damaged`
+    /// if its tables don't hold sound books, and `Memory`, `Size` or `Store` if the store can't do its part. The
+    /// files then hold either version, whole, and may be migrated again.
     pub fn migrate_files(
         alloc: Global,
         files: Files<D>,

@@ -13,8 +13,8 @@ use sqlite_disk::Disk;
 use sqlite_std_file::File;
 
 impl Chain<FileStore<File>> {
-    /// Makes a chain with head office's token and no shared row in the file, which is made where it isn't there.
-    /// `Already` where the file holds tables, which stay as they are.
+    /// Makes a chain with head office's token and no shared row in the file. A missing file is made. Fails with
+    /// `Already` if the file holds tables, which stay as they are.
     pub fn create(
         rt: &HostRuntime,
         path: &str,
@@ -37,8 +37,8 @@ impl Chain<FileStore<File>> {
         }
     }
 
-    /// Opens the chain that the file holds; the limits are those of this opening. `NotAChain` also where there is no
-    /// file, and then none is made.
+    /// Opens the chain that the file holds. The limits apply to this opening. Fails with `NotAChain` also if there is
+    /// no file, and then makes none.
     pub fn open(
         rt: &HostRuntime,
         path: &str,
@@ -64,8 +64,8 @@ impl Chain<FileStore<File>> {
         }
     }
 
-    /// Makes the chain of version 1 that the file holds one of this version, and opens it; the limits are those of
-    /// this opening. `NotAChain` also where there is no file, and then none is made.
+    /// Turns the chain of version 1 that the file holds into one of this version, and opens it. The limits apply to
+    /// this opening. Fails with `NotAChain` also if there is no file, and then makes none.
     pub fn migrate(
         rt: &HostRuntime,
         path: &str,

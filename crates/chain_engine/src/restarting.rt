@@ -18,7 +18,7 @@ use sqlite::{FileStore, Files};
 use sqlite_disk::Crash;
 use std::alloc::Global;
 
-/// The files behind a crash of their disks.
+/// Crashes the disks of both files, and returns the files as the crash leaves them.
 fn crashed<D: Crash + Drop>(files: Files<D>) -> Files<D>
     ensures left { (image : Image) → outcomes D.Disk result.log result.db image
         → outcomes D.Disk files.log files.db image }
@@ -31,9 +31,9 @@ fn crashed<D: Crash + Drop>(files: Files<D>) -> Files<D>
 }
 
 /// Stops a chain, lets its disks crash, and opens the files that are left, with the given limits. The new chain has
-/// the books of the old one, or, if the store had failed, those before the request at which it failed or those
-/// after it. A fault gives the files back, as `open_files` does, but is never `Damaged`. Unless the opening of the
-/// database itself failed, they keep those books, so it may be tried again.
+/// the books of the old one. If the store had failed, it has the books before the request at which it failed, or the
+/// books after it. A fault gives the files back, as `open_files` does, but is never `Damaged`. Unless the opening of
+/// the database itself failed, the files keep these books, so they may be opened again.
 pub fn restart<D: Crash + Drop>(
     alloc: Global,
     chain: Chain<FileStore<D>>,

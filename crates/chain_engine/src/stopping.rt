@@ -1,4 +1,4 @@
-//! Requests before a stop and behind it.
+//! Requests before a stop and after it.
 
 ghost use Rattle.std.specs.Prelude.{◌≡◌, false, IfOk, map};
 ghost use Rattle.sqlite.specs.State.{HasCleanDisk};
@@ -17,7 +17,7 @@ use sqlite::FileStore;
 use sqlite_disk::Crash;
 use std::alloc::Global;
 
-/// A chain that goes on behind a stop, and what was answered before it and behind it.
+/// A chain that was opened again after a stop, with its replies before the stop and after it.
 #[derive(Drop)]
 pub struct Resumed<D: Crash + Drop> {
     pub before: Vec<Reply>,
@@ -25,7 +25,7 @@ pub struct Resumed<D: Crash + Drop> {
     pub chain: Chain<FileStore<D>>,
 }
 
-/// Why no chain goes on.
+/// Why the chain wasn't opened again, or couldn't answer.
 #[derive(Clone, Copy, Debug)]
 pub enum NotResumed {
     /// There was no memory for the replies.
@@ -40,9 +40,10 @@ impl From<NoMemory> for NotResumed {
     }
 }
 
-/// Answers requests, until they end or the store fails at some call; stops there, lets the disks crash, opens the
-/// files that are left with the limits that the chain had, and answers more requests. All of it is one history: the
-/// requests before the stop that were answered, at most the one more at which the store failed, and those behind it.
+/// Answers requests until they end or the store fails at some call. Stops there and lets the disks crash. Then opens
+/// the files that are left with the limits that the chain had, and answers more requests. All of it is one history. It
+/// has the requests that were answered before the stop, and the requests after it. It may also have the request at
+/// which the store failed.
 pub fn over_a_stop<D: Crash + Drop>(
     alloc: Global,
     chain: Chain<FileStore<D>>,

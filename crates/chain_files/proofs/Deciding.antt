@@ -1,4 +1,4 @@
--- Whether tables stand for books can be decided, so it is known where it is known only in some case.
+-- Whether tables stand for books can be decided. So it is known, even if it was only proved that some proof exists.
 use Rattle.shop_schema.proofs.Common.{◌≡◌, ℕ, List, [], ◌∷◌, refl, inl, inr, ∥∥₁_map, cases_eq, Trees, Decided, one_bag, decided, in_any, Books, StandsFor}
 
 same_key : (a b : List ℕ) → Decided (a ≡ b)

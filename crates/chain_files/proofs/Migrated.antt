@@ -1,4 +1,4 @@
--- What a transaction leaves in which tables of version 1 become those of this version.
+-- The state that a transaction leaves that turns tables of version 1 into tables of this version.
 use Rattle.shop_schema.proofs.Common.{Ok, MutBor, arith, ◌≡◌, ◌∙◌, true, false, IsTrue, refl, sym, ap, subst, false≢true, Ghosts, Trees, Database, Held, state, State, HasCleanDisk, Survives, AreKeyed, crash_new, Books, migrated, without_terms, migrated_sound, without_terms_sound, Audit, StandsFor, IsShop, IsKeyed, shop_schema, version_1_schema}
 use Rattle.std.specs.Prelude.{◌↔◌}
 use Rattle.sql_rows.specs.Calls.{DoesInside}
@@ -40,7 +40,7 @@ are_migrated old new it is = record {
       (books, was, it.books is books was);
 }
 
--- sound books of version 1 become sound books, so an audit that finds none was of no sound ones
+-- sound books of version 1 become sound books; so if an audit finds none, there were no sound books of version 1
 pub were_unsound : (old new : State) → MigratesInside false old new → IsVersion1 old → (books : Books) → ¬ StandsSoundlyForVersion1 old.now.trees books
 were_unsound old new it is books sound =
     false≢true ((it.sound is).1 (migrated books, it.books is books sound, migrated_values books sound.1, migrated_sound widest_rules books sound.2))
@@ -64,11 +64,11 @@ module _ {S E : Type 0} {g : Ghosts S} (old end : Held S) {tx mid : MutBor (Held
             rests_after g old mid.now end books settled (record { schema_is = made.0; keyed = made.1; stands = subst (λ (d : Database). StandsFor d.trees books) shows.now_is stands }) shows;
       }
 
-  -- what the commit leaves, whether or not it answers so
+  -- what the commit leaves, whether or not it reports success
   pub leaves_migration : Survives (state g old) (state g end) (LeavesMigrated (state g old))
   leaves_migration = crash_new g old mid.now end (LeavesMigrated (state g old)) (λ clean. let it = did clean in (it.0, λ first. are_migrated _ _ it.1 first)) (begun_does old is one).inside.survives ending
 
--- ---- behind a call that changes nothing
+-- ---- after a call that changes nothing
 
 module _ (first old new : State) (clean : first.now ≡ first.committed) (stays : StaysAsFound first old) where
   still : IsTrue old.is_open → IsVersion1 first → IsVersion1 old

@@ -1,4 +1,4 @@
--- What files hold in which a chain of version 1 is migrated.
+-- What the files of a chain of version 1 hold after its migration, or after a failed migration.
 use Rattle.std.proofs.Common.{◌⊎◌}
 use Rattle.shop_schema.proofs.Common.{◌≡◌, ◌≢◌, ◌∙◌, true, false, map, inl, inr, refl, sym, subst, cases_Bool, ∥∥₁_elim, ∥∥₁_map, Trees, Trees-set, Schema, State, HasCleanDisk, Survives, Held, HoldsDatabase, Finds, IsOpened, file_state, image_of, columns_of, opened_keyed, one_schema, Text, Books, migrated, this_version, first_version, HasVersion, StandsFor, StandsForVersion1, version_1_schema, version_of, HoldsOne, IsHeldIn, OpenFailed}
 use Rattle.shop_schema.specs.declared.known.KnownVersion.{KnownVersion}
@@ -20,7 +20,7 @@ use Rattle.chain_files.proofs.Deciding.{stands_in_any}
 use Rattle.chain_files.proofs.FirstRow.{first_row}
 use Rattle.chain_files.proofs.Opening.{kept_one, only_committed, one_version, begins_with_some, version_there, same_trees, shows_found, shows_what_is_held, committed_database, is_database, holds_no_chain}
 
--- ---- the version that is told
+-- ---- the version in the first table
 
 told_this : (db : Trees) (books : Books) → StandsFor db books → version_of (map (columns_of 1) (db 0)) ≡ This
 told_this db books stands = version_there this_version books.catalogue.office_token (db 0) stands.chain
@@ -31,7 +31,7 @@ told_first db books stands = version_there first_version books.catalogue.office_
 not_both : {told : KnownVersion} → told ≡ First → told ≡ This → ⊥
 not_both first this = let no : First ≡ This = sym first ∙ this in cc
 
--- files that keep books of version 1 keep them in the one version or the other
+-- files that keep books of version 1 keep them in one of the two versions
 pub keeps_in_either : {D : Type 0} (g : Ghosts D) (files : Files D) (books : Books) → KeepsVersion1Books g files books → KeepsInEither g files books
 keeps_in_either g files books keeps = record {
   sound = keeps.sound;
@@ -111,7 +111,7 @@ module _ {D : Type 0} {g : Ghosts D} (c : Held (FileStore D g)) (files : Files D
       let is : opened_state.committed.trees ≡ held.db = ∥∥₁_elim held.holds (Trees-set _ _) (found.holds held.db) in
       (subst (λ (t : Trees). StandsForVersion1 t books) (sym (same ∙ is)) held.stands, held.values, held.sound)
 
-  -- the books that the files keep, in the one version or the other
+  -- the books that the files keep, in one of the two versions
   in_either : SeenMayStay g → (books : Books) → KeepsInEither g files books → ∥ StandsInEither books opened_state.committed.trees ∥₁
   in_either stays books keeps =
       ∥∥₁_map (keeps.left found.honest (image_of g files) (stays _, stays _)) (λ it. subst (StandsInEither books) (sym (found.holds it.0 it.2)) it.1)
@@ -123,7 +123,7 @@ module _ {D : Type 0} {g : Ghosts D} (c : Held (FileStore D g)) (files : Files D
   pub stands_as_kept : SeenMayStay g → (books : Books) → KeepsInEither g files books → IsFirst opened_state → (db : Trees) → AreMigrated opened_state.now.trees db → StandsFor db (migrated books)
   stands_as_kept stays books keeps first db tables = stands_in_any _ (migrated books) (∥∥₁_map (in_either stays books keeps) (λ either. becomes books db first tables keeps either))
 
-  -- ---- what is left where nothing was migrated, or not for certain
+  -- ---- what remains if nothing was migrated, or if that isn't certain
 
   abbrev pub LeavesFirst : Trees → Type 0
   LeavesFirst db = IsFirst opened_state × (opened_state.now ≡ opened_state.committed → LeavesMigrated opened_state db)
@@ -162,7 +162,7 @@ module _ {D : Type 0} {g : Ghosts D} (c : Held (FileStore D g)) (files : Files D
 
 -- ---- faults
 
--- a fault by which the database wasn't opened, and what is left of the files
+-- a fault by which the database wasn't opened, and what remains in the files
 pub unmigrated_by : {D : Type 0} (g : Ghosts D) (files : Files D) (why : OpenFault) (left : Files D) → why ≢ fault.NotAChain → why ≢ fault.OtherVersion → why ≢ fault.Damaged → why ≢ fault.Already
     → OpenFailed g files left → IsNotMigrated g files why left
 unmigrated_by g files why left chain version damaged already failed = record {

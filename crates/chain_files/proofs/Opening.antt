@@ -1,4 +1,4 @@
--- What an open of files finds, and what files hold after the store is closed.
+-- What opening files finds, and what files hold after the store is closed.
 use Rattle.std.proofs.Common.{◌⊎◌}
 use Rattle.std.specs.Prelude.{◌==◌}
 use Rattle.shop_schema.proofs.Common.{[], ◌≡◌, ◌≢◌, ◌∙◌, inl, inr, refl, sym, ap, subst, true, false, IsTrue, arith, map, take, ℕ, List, ◌∷◌, pos, negsuc, AllZip, cases_Bool, length_permutation, ∥∥₁_elim, ∥∥₁_map, column, Value, Null, Int, Real, Blob, Trees, IsClean, Trees-set, no_doubt, AreListed, IsTableRow, IsIndexRow, IsViewRow, Database, State, HasCleanDisk, Survives, Held, AreDatabases, HoldsDatabase, Finds, IsOpened, IsEmpty, over_files, file_state, image_of, one_permutation, opens_again, no_schema, columns_of, HasRows, number_value, opened_keyed, one_schema, Books, IsSound, AreValues, shop_schema, HasVersion, StandsFor, this_version, first_version, versioned_columns, Schema, version_of, version_told, HoldsOne, IsHeldIn, IsFoundIn, OpenFailed}
@@ -31,7 +31,7 @@ use Rattle.chain_files.specs.Openings.{IsNotOpened}
 pub clean_store : {D : Type 0} {g : Ghosts D} (it : FileStore D g) (files : Files D) → (files.log, files.db) ≡ store_files it → AreClean g files.log files.db → IsClean (view it)
 clean_store {D} {g} it files is honest = no_doubt _ (clean_is it.pool ∙ subst (λ (p : D × D). AreClean g p.0 p.1) is honest)
 
--- each outcome of a crash of the files of a store that is closed is a database that the store allowed
+-- any outcome of a crash of a closed store's files is a database that the store allowed
 pub holds_one : {D : Type 0} {g : Ghosts D} (it : FileStore D g) (files : Files D) (P : Trees → Type 0) → (files.log, files.db) ≡ store_files it → AreClean g files.log files.db
     → IsTrue (view it).is_numbered → AreDatabases (recovers it) → ((db : Trees) → recovers it db → P db) → HoldsOne g files P
 holds_one {D} {g} it files P is honest numbered sound within image may =
@@ -52,7 +52,7 @@ keeps_books {D} {g} chain files left live books besides at = record {
   left = λ honest. kept_one g files _ _ (left honest) (at.rests live).left;
 }
 
--- whether the store has failed or not, they keep its books, or those besides
+-- whether or not the store has failed, the files keep its books or `besides`
 pub keeps_either : {D : Type 0} {g : Ghosts D} (chain : Chained (FileStore D g)) (files : Files D) → (AreClean g files.log files.db → HoldsOne g files (file_state chain.conn).may_leave)
     → (books besides : Books) → IsAt over_files chain books besides → KeepsEither g files books besides
 keeps_either {D} {g} chain files left books besides at = record {
@@ -61,7 +61,7 @@ keeps_either {D} {g} chain files left books besides at = record {
   left = λ honest. kept_one g files _ _ (left honest) (elim (cases_Bool chain.is_failed) [ inl failed ↦ at.left failed | inr live ↦ λ db may. inl ((at.rests live).left db may) ]);
 }
 
--- a chain that rests on books, and whose store hasn't failed, is at them
+-- a chain that rests on books, and whose store hasn't failed, has the books
 pub opened_at : {D : Type 0} {g : Ghosts D} (chain : Chained (FileStore D g)) (books : Books) → chain.is_failed ≡ false → chain.films ≡ [] → chain.callers ≡ [] → IsSound widest_rules books → AreValues books
     → Rests (file_state chain.conn) books → IsAt over_files chain books books
 opened_at chain books live none nobody sound values rests = record {
@@ -77,7 +77,7 @@ opened_at chain books live none nobody sound values rests = record {
     apart : false ≡ true → ⊥
     apart e = cc
 
--- while a connection is open, a crash leaves the last commit alone
+-- while a connection is open, a crash leaves only the last commit
 pub only_committed : {D : Type 0} {g : Ghosts D} (c : Held (FileStore D g)) → SeenMayStay g → IsTrue (file_state c).is_open → (db : Trees) → (file_state c).may_leave db → db ≡ (file_state c).committed.trees
 only_committed c stays live db may = settled_at c.store stays db live may
 
@@ -96,7 +96,7 @@ empty_has_none schema db empty sound =
     let views : schema.views ≡ [] = nothing_listed IsViewRow schema.views listed.views in
     λ i. record { tables = tables i; indexes = indexes i; views = views i }
 
--- one that begins with the table that has the version has some
+-- a database that begins with the table of the version has a table
 pub begins_with_some : (schema : Schema) → HasVersion schema → schema ≢ no_schema
 begins_with_some schema begins none = subst HasVersion none begins
 
@@ -116,7 +116,7 @@ told_some (Real x) e = let no : Other ≡ Missing = e in cc
 told_some (Text t) e = let no : Other ≡ Missing = e in cc
 told_some (Blob b) e = let no : Other ≡ Missing = e in cc
 
--- the one row of a chain's table
+-- if a chain's first table has one row, its version isn't missing
 pub one_version : (rows : List Row) (row : Row) → HasRows 2 rows (row ∷ []) → version_of (map (columns_of 1) rows) ≡ Missing → ⊥
 one_version [] row has e = omega (arith, length_permutation _ _ has)
 one_version (r ∷ []) row has e = told_some (column (columns_of 1 r) 0) e
@@ -163,7 +163,7 @@ module _ {D : Type 0} {g : Ghosts D} (c : Held (FileStore D g)) (files : Files D
       rests_on stays schema books (stands_in_any _ books
       (∥∥₁_map (keeps.left found.honest (image_of g files) (stays _, stays _)) (λ it. subst (λ t. StandsFor t books) (sym (found.holds it.0 it.2)) it.1)))
 
-  -- or one of two
+  -- or the books of one of the two
   pub either_rests : SeenMayStay g → opened_state.now.schema ≡ shop_schema → (books besides : Books) → KeepsEither g files books besides
       → ∥ Rests opened_state books ⊎ (IsSound widest_rules besides × AreValues besides × Rests opened_state besides) ∥₁
   either_rests stays schema books besides keeps =
@@ -184,7 +184,7 @@ module _ {D : Type 0} {g : Ghosts D} (c : Held (FileStore D g)) (files : Files D
     | inr none ↦ inr (none.0, none.1, found.holds)
   ]
 
-  -- and where it has a table, they hold it
+  -- and if the database has a table, the files hold the database
   pub shows_what_is_held : opened_state.now.schema ≢ no_schema → IsHeldIn (image_of g files) opened_state.committed.trees
   shows_what_is_held some = elim found.reads [
     | inl it ↦ record { recovers = it; only = found.holds }
@@ -243,7 +243,7 @@ module _ {D : Type 0} {g : Ghosts D} (c : Held (FileStore D g)) (files : Files D
   has_other_version (inl it) = inl (tells_version First it.0 it.1)
   has_other_version (inr it) = inr (tells_version Other it.0 it.1)
 
-  -- calls that commit nothing leave it so
+  -- calls that commit nothing leave the files so
   pub left_as_found : SeenMayStay g → (new : Held (FileStore D g)) (now : Files D) → Survives (file_state c) (file_state new) (λ _. ⊥) → HasCleanDisk (file_state new)
       → HoldsOne g now (file_state new).may_leave → HoldsOne g now (λ left. left ≡ opened_state.committed.trees)
   left_as_found stays new now survives clean holds =
@@ -252,7 +252,7 @@ module _ {D : Type 0} {g : Ghosts D} (c : Held (FileStore D g)) (files : Files D
         | inr none ↦ absurd none
       ])
 
-  -- files that hold what was found keep what the first ones kept
+  -- files that hold what was found keep what the first files kept
   still_one : SeenMayStay g → (now : Files D) → HoldsOne g now (λ left. left ≡ opened_state.committed.trees) → (P : Trees → Type 0) → HoldsOne g files P → HoldsOne g now P
   still_one stays now same P holds image may =
       ∥∥₁_elim (holds (image_of g files) (stays _, stays _)) squash₁ (λ it.
@@ -273,7 +273,7 @@ module _ {D : Type 0} {g : Ghosts D} (c : Held (FileStore D g)) (files : Files D
     left = λ _. still_one stays now same (StandsForEither books besides) (keeps.left found.honest);
   }
 
--- the files of a chain that was closed hold no damage, also if its store had failed
+-- the files of a closed chain hold no damage, even if its store had failed
 pub undamaged : {D : Type 0} (g : Ghosts D) (files : Files D) (books besides : Books) → SeenMayStay g → AreClean g files.log files.db → KeepsEither g files books besides → ¬ HoldsDamage (image_of g files)
 undamaged g files books besides stays honest keeps damage =
     ∥∥₁_elim (keeps.left honest (image_of g files) (stays _, stays _)) ⊥_prop (λ it.
@@ -282,7 +282,7 @@ undamaged g files books besides stays honest keeps damage =
 
 -- ---- faults
 
--- a fault of the store, and what is left of the files
+-- a fault of the store, and what remains in the files
 pub unopened_by : {D : Type 0} (g : Ghosts D) (files : Files D) (why : OpenFault) (left : Files D) → why ≢ fault.NotAChain → why ≢ fault.OtherVersion → why ≢ fault.Damaged → why ≢ fault.Already
     → OpenFailed g files left → IsNotOpened g files why left
 unopened_by g files why left chain version damaged already failed = record {

@@ -1,4 +1,4 @@
--- The faults by which there is no chain: their names, and which one tells a fault of the store.
+-- The faults that stop the opening of a chain: each fault's name, and the fault of opening for each fault of the store.
 use Rattle.std.specs.Prelude.{ℕ, Bool, true, false, List, codes}
 use Rattle.chain_files.specs.declared.faults.OpenFault.{OpenFault}
 use Rattle.chain_files.specs.declared.faults.OpenFault.TheVariants as fault

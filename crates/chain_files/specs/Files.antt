@@ -22,23 +22,24 @@ use Rattle.shop_schema.specs.declared.known.KnownVersion.TheVariants.{This, Miss
 use Rattle.chain_requests.specs.Chains.{widest_rules, StandsForEither, StandsSoundly}
 use Rattle.chain_files.specs.Migrations.{StandsSoundlyForVersion1}
 
--- What is known of the tables. They are a chain's of this version; or they aren't a chain's: the first isn't the one that has the version, or hasn't its one row, or tells
--- this version of other tables; or that table tells another version, the first one or any other, whatever the others are.
+-- What is known of the tables. `This`: they are a chain's of this version. `Missing`: they aren't a chain's. Then the first table isn't the table of the
+-- version, or it hasn't exactly its one row, or it says this version of other tables. `First` and `Other`: the first table says version 1 or any other
+-- version, whatever the other tables are.
 abbrev pub Knows : KnownVersion → State → Type 0
 Knows This s = (s.now.schema ≡ shop_schema) × (version_of (map (columns_of 1) (s.now.trees 0)) ≡ This)
 Knows Missing s = (¬ HasVersion s.now.schema) ⊎ ((version_of (map (columns_of 1) (s.now.trees 0)) ≡ Missing) ⊎ ((version_of (map (columns_of 1) (s.now.trees 0)) ≡ This) × (¬ (s.now.schema ≡ shop_schema))))
 Knows First s = HasVersion s.now.schema × (version_of (map (columns_of 1) (s.now.trees 0)) ≡ First)
 Knows Other s = HasVersion s.now.schema × (version_of (map (columns_of 1) (s.now.trees 0)) ≡ Other)
 
--- they are those of version 1, and the first of them tells that
+-- the tables are those that version 1 has, and the first table says version 1
 abbrev pub IsFirst : State → Type 0
 IsFirst s = (s.now.schema ≡ version_1_schema) × (version_of (map (columns_of 1) (s.now.trees 0)) ≡ First)
 
--- they aren't a chain's of this version or of version 1
+-- the tables aren't a chain's of this version or of version 1
 abbrev pub IsNeither : State → Type 0
 IsNeither s = Knows Missing s ⊎ (Knows First s × (¬ (s.now.schema ≡ version_1_schema)))
 
--- an image of the two files, as it is read or as a crash left it, holds a database whose tables stand for these books
+-- an image of the two files, as read or as a crash left it, holds a database whose tables stand for the books
 pub record HoldsBooks (image : Image) (books : Books) : Type 0 where
   pub db : Trees
   pub holds : ∥ HoldsDatabase image db ∥₁
@@ -46,52 +47,54 @@ pub record HoldsBooks (image : Image) (books : Books) : Type 0 where
   pub sound : IsSound widest_rules books
   pub values : AreValues books
 
--- The files keep the books of a chain that is closed: what a close promises, and what an open asks. The books are sound, and where no wrong answer of the disk was
--- taken as true, whatever is found in the files, or a crash leaves of them, is a database whose tables stand for the books.
+-- The files keep the books of a closed chain: a close promises this, and an open requires it. The books are sound. If the disk was honest, anything that the
+-- files hold, or that a crash leaves of them, is a database whose tables stand for the books.
 pub record KeepsBooks {D : Type 0} (g : Ghosts D) (files : Files D) (books : Books) : Type 0 where
   pub sound : IsSound widest_rules books
   pub values : AreValues books
   pub left : AreClean g files.log files.db → HoldsOne g files (λ db. StandsFor db books)
 
--- The files keep the books of a chain that is closed, or those besides, where its store had failed: those before the request at which it failed, or after it.
+-- The files keep the books of a closed chain whose store may have failed: `books` are the books before the request at which it failed, `besides` the books
+-- after it. The files keep one of the two.
 pub record KeepsEither {D : Type 0} (g : Ghosts D) (files : Files D) (books besides : Books) : Type 0 where
   pub sound : IsSound widest_rules books
   pub values : AreValues books
   pub left : AreClean g files.log files.db → HoldsOne g files (StandsForEither books besides)
 
--- no database in the files has the tables of a chain, these and no other, standing for books
+-- no database in the files has exactly the tables of a chain and stands for books
 abbrev pub HoldsNoChain : Image → Type 0
 HoldsNoChain image = (db : Trees) → HoldsDatabase image db → IsDatabaseOf shop_schema db → (books : Books) → ¬ StandsFor db books
 
--- the files hold a database that has the tables of a chain, and the one row of the first tells this version
+-- the files hold a database that has the tables of a chain, and the one row of the first table says this version
 abbrev pub HasThisVersion : Image → Type 0
 HasThisVersion image = (db : Trees) × IsHeldIn image db × IsDatabaseOf shop_schema db × (version_of (map (columns_of 1) (db 0)) ≡ This)
 
--- no database in the files tells a version: it doesn't begin with the table that has it, or that hasn't its one row, or tells this version of other tables
+-- No database in the files says a version. It doesn't begin with the table of the version, or that table hasn't exactly its one row, or the table says this
+-- version of other tables.
 abbrev pub HasNoVersion : Image → Type 0
 HasNoVersion image = (db : Trees) → HoldsDatabase image db → (schema : Schema) × IsDatabaseOf schema db
     × ((¬ HasVersion schema) ⊎ ((version_of (map (columns_of 1) (db 0)) ≡ Missing) ⊎ ((version_of (map (columns_of 1) (db 0)) ≡ This) × (¬ (schema ≡ shop_schema)))))
 
--- the files hold a database that begins with the table that has the version, and its one row tells this
+-- the files hold a database that begins with the table of the version, and the table's one row says this version
 abbrev pub TellsVersion : KnownVersion → Image → Type 0
 TellsVersion known image =
     (db : Trees) × IsHeldIn image db × (schema : Schema) × IsDatabaseOf schema db × HasVersion schema × (version_of (map (columns_of 1) (db 0)) ≡ known)
 
--- it tells another version than this one
+-- the database says another version than this one
 abbrev pub HasOtherVersion : Image → Type 0
 HasOtherVersion image = TellsVersion First image ⊎ TellsVersion Other image
 
--- the files hold a database whose tables stand for these books
+-- the files hold a database whose tables stand for the books
 abbrev pub HoldsSoundly : Image → Books → Type 0
 HoldsSoundly image books = (db : Trees) × IsHeldIn image db × StandsFor db books
 
--- the files hold a database that has the tables of a chain and tells this version, and its tables stand for no sound books
+-- the files hold a database that has the tables of a chain and says this version, but its tables stand for no sound books
 abbrev pub HoldsDamage : Image → Type 0
 HoldsDamage image = (db : Trees) × IsHeldIn image db × IsDatabaseOf shop_schema db × (version_of (map (columns_of 1) (db 0)) ≡ This) × (¬ StandsSoundly db)
 
 -- ---- files of version 1, in which rentals had no terms
 
--- an image of the two files, as it is read or as a crash left it, holds a database whose tables stand for these books of version 1
+-- an image of the two files, as read or as a crash left it, holds a database whose tables stand for the books of version 1
 pub record HoldsVersion1Books (image : Image) (books : Books) : Type 0 where
   pub db : Trees
   pub holds : ∥ HoldsDatabase image db ∥₁
@@ -99,42 +102,42 @@ pub record HoldsVersion1Books (image : Image) (books : Books) : Type 0 where
   pub sound : IsSoundWithoutTerms widest_rules books
   pub values : AreValues books
 
--- the files keep the books of a chain of version 1 that is closed
+-- the files keep the books of a closed chain of version 1
 pub record KeepsVersion1Books {D : Type 0} (g : Ghosts D) (files : Files D) (books : Books) : Type 0 where
   pub sound : IsSoundWithoutTerms widest_rules books
   pub values : AreValues books
   pub left : AreClean g files.log files.db → HoldsOne g files (λ db. StandsForVersion1 db books)
 
--- a database whose tables are of version 1 and stand for the books, or are of this version and stand for the same with the terms of each rental
+-- a database whose tables are of version 1 and stand for the books; or its tables are of this version and stand for the books with the terms of each rental
 abbrev pub StandsInEither : Books → Trees → Type 0
 StandsInEither books db = StandsForVersion1 db books ⊎ StandsFor db (migrated books)
 
--- The files keep the books in the one version or the other: so they do where a migration was stopped.
+-- The files keep the books in one of the two versions. This is so after a migration was stopped.
 pub record KeepsInEither {D : Type 0} (g : Ghosts D) (files : Files D) (books : Books) : Type 0 where
   pub sound : IsSoundWithoutTerms widest_rules books
   pub values : AreValues books
   pub left : AreClean g files.log files.db → HoldsOne g files (StandsInEither books)
 
--- no database in the files has the tables of version 1, these and no other, standing for books
+-- no database in the files has exactly the tables of version 1 and stands for books
 abbrev pub HoldsNoVersion1 : Image → Type 0
 HoldsNoVersion1 image = (db : Trees) → HoldsDatabase image db → IsDatabaseOf version_1_schema db → (books : Books) → ¬ StandsForVersion1 db books
 
--- the files hold a database that has the tables of version 1, and the one row of the first tells that
+-- the files hold a database that has the tables of version 1, and the one row of the first table says version 1
 abbrev pub HasVersion1 : Image → Type 0
 HasVersion1 image = (db : Trees) × IsHeldIn image db × IsDatabaseOf version_1_schema db × (version_of (map (columns_of 1) (db 0)) ≡ First)
 
--- No database in the files tells one of the two versions: it doesn't begin with the table that has the version, or that hasn't its one row, or tells one of
--- the two of other tables.
+-- No database in the files says one of the two versions. It doesn't begin with the table of the version. Or that table hasn't exactly its one row, or says one
+-- of the two versions of other tables.
 abbrev pub HasNeitherVersion : Image → Type 0
 HasNeitherVersion image = (db : Trees) → HoldsDatabase image db → (schema : Schema) × IsDatabaseOf schema db
     × ((¬ HasVersion schema) ⊎ ((version_of (map (columns_of 1) (db 0)) ≡ Missing) ⊎ (((version_of (map (columns_of 1) (db 0)) ≡ This) × (¬ (schema ≡ shop_schema)))
     ⊎ ((version_of (map (columns_of 1) (db 0)) ≡ First) × (¬ (schema ≡ version_1_schema))))))
 
--- the files hold a database whose tables stand for these books of version 1, which are sound, with values in their ranges
+-- the files hold a database whose tables stand for the books of version 1, which are sound and have values in their ranges
 abbrev pub HoldsVersion1Soundly : Image → Books → Type 0
 HoldsVersion1Soundly image books = (db : Trees) × IsHeldIn image db × StandsSoundlyForVersion1 db books
 
--- the files hold a database that has the tables of version 1 and tells it, and its tables stand for no sound books
+-- the files hold a database that has the tables of version 1 and says version 1, but its tables stand for no sound books
 abbrev pub HoldsVersion1Damage : Image → Type 0
 HoldsVersion1Damage image =
     (db : Trees) × IsHeldIn image db × IsDatabaseOf version_1_schema db × (version_of (map (columns_of 1) (db 0)) ≡ First) × ((books : Books) → ¬ StandsSoundlyForVersion1 db books)

@@ -1,4 +1,4 @@
--- What making a chain leaves.
+-- What is left after a chain was made, or was to be made.
 use Rattle.std.specs.Prelude.{◌≡◌}
 use Rattle.sqlite_trees.specs.Tree.{Trees}
 use Rattle.sqlite.specs.State.{State}
@@ -9,11 +9,11 @@ use Rattle.shop_schema.specs.Shop.{StandsFor, first_books}
 use Rattle.chain_files.specs.declared.creation.FirstRows.{FirstRows}
 use Rattle.chain_files.specs.declared.creation.FirstRows.TheVariants.{OfOffice, OfOpening}
 
--- the books that the first rows of a chain stand for
+-- the books for which the first rows of a chain stand
 abbrev pub books_with : FirstRows → Books
 books_with (OfOffice office) = first_books office.now
 books_with OfOpening = opening_books
 
--- what the commit of a new chain may leave, in a database that had no table
+-- what the commit of a new chain may leave, if the database had no table
 abbrev pub LeavesMade : State → Books → Trees → Type 0
 LeavesMade old books db = old.now.schema ≡ no_schema → StandsFor db books

@@ -1,4 +1,4 @@
-//! How a chain's tables are made with their first rows, all of it in one transaction.
+//! Makes a chain's tables with their first rows, all in one transaction.
 
 ghost use Rattle.std.specs.Prelude.{◌≡◌, ◌≢◌, ◌↔◌, false, IsTrue, IfOk, OnOk, IfErr};
 ghost use Rattle.sqlite.specs.Held.{state};
@@ -19,7 +19,7 @@ use sqlite::{Alter, Connection, MemStore, Transaction};
 use sqlite_schema::schema::Schema;
 use std::alloc::Global;
 
-/// What a new chain has in its tables.
+/// The first rows in a new chain's tables.
 #[derive(Clone, Copy)]
 pub enum FirstRows<'a> {
     /// Head office's token, and no shared row.
@@ -28,7 +28,7 @@ pub enum FirstRows<'a> {
     OfOpening,
 }
 
-/// The values of the first rows are in their ranges: a law, so that nothing is done.
+/// Shows that the values of the first rows are in their ranges. The function has nothing to do: it is a law.
 pub fn first_values(first: &FirstRows<'_>)
     ensures { AreValues (books_with first.now) }
 {
@@ -55,7 +55,7 @@ fn fill<S: Alter>(tx: &mut Transaction<'_, S>, first: &FirstRows<'_>) -> Result<
     }
 }
 
-/// Makes the tables and the first rows in a database that has no table: all of it or nothing.
+/// Makes the tables and the first rows in a database that has no table. Either all is made or nothing.
 fn make<S: Alter>(conn: &mut Connection<S>, first: &FirstRows<'_>) -> Result<(), StoreFault>
     requires { conn.old.in_transaction ≡ false }
     ensures ended { conn.new.in_transaction ≡ false }
@@ -78,8 +78,8 @@ fn is_empty(schema: &Schema) -> bool
     schema.tables.is_empty() && schema.indexes.is_empty() && schema.views.is_empty()
 }
 
-/// Makes the tables and the first rows in a database that has no table: all of it or nothing. `Already` where it has
-/// one; then it isn't touched.
+/// Makes the tables and the first rows in a database that has no table. Either all is made or nothing. If the database
+/// has a table, returns `Already` and doesn't touch it.
 pub fn create<S: Alter>(conn: &mut Connection<S>, first: &FirstRows<'_>) -> Result<(), OpenFault>
     requires { conn.old.in_transaction ≡ false }
     ensures ended { conn.new.in_transaction ≡ false }
@@ -104,7 +104,7 @@ pub fn create<S: Alter>(conn: &mut Connection<S>, first: &FirstRows<'_>) -> Resu
     }
 }
 
-/// A database in memory with the tables and the first rows.
+/// Opens a database in memory with the tables and the first rows.
 pub fn in_memory(alloc: Global, first: &FirstRows<'_>) -> Result<Connection<MemStore>, OpenFault>
     ensures ended { IfOk result (λ conn. conn.in_transaction ≡ false) }
     ensures made { IfOk result (λ conn. Rests (state over_memory conn) (books_with first.now)) }

@@ -9,7 +9,7 @@ use std::fmt;
 /// Why there is no chain.
 #[derive(Clone, Copy, Debug)]
 pub enum OpenFault {
-    /// There is no memory left.
+    /// Out of memory.
     Memory,
     /// The store can hold no more.
     Size,
@@ -19,10 +19,11 @@ pub enum OpenFault {
     NotAChain,
     /// The files hold a chain of another version.
     OtherVersion,
-    /// The files hold a chain of this version, whose tables stand for no sound books.
+    /// The files hold a chain whose tables stand for no sound books. The chain is of this version, or of version 1 if
+    /// it was to be migrated.
     Damaged,
-    /// The files hold tables already, where a chain was to be made, or a chain of this version, where one of version
-    /// 1 was to be migrated.
+    /// A chain was to be made, but the files already hold tables. Or a chain of version 1 was to be migrated, but the
+    /// files already hold a chain of this version.
     Already,
 }
 
@@ -42,7 +43,7 @@ impl fmt::Display for OpenFault {
     }
 }
 
-/// Why there is no chain, by what the store answered.
+/// Returns the fault of opening for a fault of the store.
 pub fn named(fault: StoreFault) -> OpenFault
     ensures told { result ≡ open_fault_for fault }
     ensures store { is_store_fault result ≡ true }

@@ -1,4 +1,4 @@
-//! The database in two files: how it is opened, what it tells of its version, and how the files are given back.
+//! Opens the database in two files, reads its version, and gives the files back.
 
 ghost use Rattle.std.specs.Prelude.{◌≡◌, ◌≢◌, ◌⊎◌, true, false, Ok, IfOk, OnOk, IfErr, map};
 ghost use Rattle.sqlite.specs.Held.{IsNew, state};
@@ -20,7 +20,7 @@ use sqlite::{Alter, Connection, FileStore, Files, Options};
 use sqlite_disk::Disk;
 use std::alloc::Global;
 
-/// Opens the database in the files. A fault of the store gives them back.
+/// Opens the database in the files. If the store fails, the error has the files.
 pub fn connect<D: Disk + Drop>(
     alloc: Global,
     files: Files<D>,
@@ -43,7 +43,7 @@ pub fn connect<D: Disk + Drop>(
     }
 }
 
-/// Gives the files back. Nothing more is written, so the last commits may stand in the log alone.
+/// Closes the store and returns the files. Nothing more is written, so the last commits may be only in the log.
 pub fn give_back<D: Disk + Drop>(conn: Connection<FileStore<D>>) -> Files<D>
     ensures left { AreClean D.Disk result.log result.db → HoldsOne D.Disk result (file_state conn).may_leave }
     ensures clean { AreClean D.Disk result.log result.db → HasCleanDisk (file_state conn) }
@@ -52,7 +52,7 @@ pub fn give_back<D: Disk + Drop>(conn: Connection<FileStore<D>>) -> Files<D>
     conn.into_store().close()
 }
 
-/// The version that the first table tells, in a transaction that changes nothing.
+/// Reads the version in the first table, in a transaction that changes nothing.
 pub fn version_in<S: Alter>(conn: &mut Connection<S>) -> Result<KnownVersion, StoreFault>
     requires { conn.old.in_transaction ≡ false }
     ensures ended { conn.new.in_transaction ≡ false }
@@ -70,7 +70,7 @@ pub fn version_in<S: Alter>(conn: &mut Connection<S>) -> Result<KnownVersion, St
     found
 }
 
-/// Why the tables are no chain's of this version, where they aren't one's.
+/// Accepts tables of this version. Otherwise returns why the tables aren't a chain's of this version.
 pub fn verdict(known: Result<KnownVersion, StoreFault>) -> Result<(), OpenFault>
     ensures this { OnOk result (known ≡ Ok KnownVersion.This) }
     ensures none { IfErr result (λ e. e ≡ OpenFault.NotAChain → known ≡ Ok KnownVersion.Missing) }
@@ -87,8 +87,8 @@ pub fn verdict(known: Result<KnownVersion, StoreFault>) -> Result<(), OpenFault>
     }
 }
 
-/// Why the tables can't be migrated, where they aren't a chain's of version 1; `is_first` is whether they are those
-/// of version 1.
+/// Accepts tables of version 1. Otherwise returns why the tables can't be migrated. `is_first` says whether the schema
+/// is the schema of version 1.
 pub fn first_verdict(
     known: Result<KnownVersion, StoreFault>,
     is_first: Result<bool, StoreFault>,

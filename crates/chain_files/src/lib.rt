@@ -1,5 +1,5 @@
-//! The two files of a chain of shops: where they are, how the tables are made in them, found, migrated and given
-//! back, and of which version they are.
+//! The two files of a chain of shops: finds them at a path, makes the tables in them, reads their version, examines
+//! and migrates them, and gives them back.
 #![tactic(auto)]
 
 mod creation;

@@ -1,4 +1,4 @@
-//! How tables of version 1 become those of this version, all of it in one transaction.
+//! Turns tables of version 1 into tables of this version, all in one transaction.
 
 ghost use Rattle.std.specs.Prelude.{◌≡◌, ◌≢◌, false, OnOk, IfErr};
 ghost use Rattle.sqlite.specs.Held.{state};
@@ -19,8 +19,8 @@ use sql_rows::{StoreFault, fault_of};
 use sqlite::{Alter, Connection, Transaction};
 use std::alloc::Global;
 
-/// Makes the tables of version 1 those of this version, inside a transaction, and tells whether an audit finds these
-/// sound.
+/// Turns the tables of version 1 into tables of this version, inside a transaction. Returns whether an audit finds the
+/// new tables sound.
 fn migrate_inside<S: Alter>(alloc: Global, tx: &mut Transaction<'_, S>) -> Result<bool, StoreFault>
     ensures { DoesInside S.Store tx.old.conn tx.new.conn result
         MigratesInside }
@@ -30,8 +30,9 @@ fn migrate_inside<S: Alter>(alloc: Global, tx: &mut Transaction<'_, S>) -> Resul
     Ok(audit.sound)
 }
 
-/// Makes the tables of version 1 those of this version, each rental with the terms of its film as they stand: all of
-/// it or nothing. `Damaged` where an audit finds that they stand for no sound books; then nothing is changed.
+/// Turns the tables of version 1 into tables of this version. Each rental gets the current terms of its film. Either
+/// all is done or nothing. If an audit finds that the tables stand for no sound books, returns `Damaged` and changes
+/// nothing.
 pub fn migrate<S: Alter>(alloc: Global, conn: &mut Connection<S>) -> Result<(), OpenFault>
     requires { conn.old.in_transaction ≡ false }
     ensures ended { conn.new.in_transaction ≡ false }
@@ -64,7 +65,7 @@ pub fn migrate<S: Alter>(alloc: Global, conn: &mut Connection<S>) -> Result<(), 
     }
 }
 
-/// Whether the tables are a chain's of version 1, or why they can't be migrated. Nothing is written.
+/// Accepts the tables of a chain of version 1. Otherwise returns why they can't be migrated. Writes nothing.
 fn examine_first<S: Alter>(alloc: Global, conn: &mut Connection<S>) -> Result<(), OpenFault>
     requires { conn.old.in_transaction ≡ false }
     ensures ended { conn.new.in_transaction ≡ false }
@@ -86,10 +87,10 @@ fn examine_first<S: Alter>(alloc: Global, conn: &mut Connection<S>) -> Result<()
     first_verdict(known, is_first)
 }
 
-/// Makes the tables of a chain of version 1 those of this version, each rental with the terms of its film as they
-/// stand, or tells why that can't be done: `Already` where they are of this version, `NotAChain` where they are no
-/// chain's, `OtherVersion` where they are of neither version, `Damaged` where they stand for no sound books. Then
-/// nothing is written; where the store can't do its part, all may have been written, or nothing.
+/// Turns the tables of a chain of version 1 into tables of this version. Each rental gets the current terms of its
+/// film. Returns `Already` if the tables are of this version, `NotAChain` if they are no chain's, and `OtherVersion`
+/// if they are of neither version. Returns `Damaged` if they stand for no sound books. After these faults nothing is
+/// written. After a fault of the store, all may have been written, or nothing.
 pub fn migrate_first<S: Alter>(alloc: Global, conn: &mut Connection<S>) -> Result<(), OpenFault>
     requires { conn.old.in_transaction ≡ false }
     ensures ended { conn.new.in_transaction ≡ false }

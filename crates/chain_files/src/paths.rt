@@ -9,7 +9,7 @@ use sqlite_std_file::{File, OpenError};
 use std::fs::metadata;
 use std::io;
 
-/// The two files, or why they aren't opened.
+/// Opens the two files, or returns why they can't be opened.
 pub fn files_at(rt: &HostRuntime, path: &str) -> Result<Files<File>, OpenFault>
     ensures fresh { IfOk result (λ files. IsFresh true files.log × IsFresh false files.db) }
     ensures chain { IfErr result (λ e. e ≢ OpenFault.NotAChain) }
@@ -24,7 +24,7 @@ pub fn files_at(rt: &HostRuntime, path: &str) -> Result<Files<File>, OpenFault>
     }
 }
 
-/// Whether there is no file at the path.
+/// Returns whether there is no file at the path.
 pub fn is_missing(rt: &HostRuntime, path: &str) -> bool {
     match metadata(rt, path) {
         Err(error) => error.kind() == io::ErrorKind::NotFound,

@@ -1,4 +1,4 @@
-//! Whether a database has the tables of a chain, and of which version.
+//! Finds out the version of a chain's tables, if the tables are a chain's.
 
 ghost use Rattle.std.specs.Prelude.{◌≡◌, ◌≢◌, ◌⊎◌, false, IfOk, IfErr, OnOk};
 ghost use Rattle.sqlite.specs.Held.{state};
@@ -15,7 +15,7 @@ use sql_rows::StoreFault;
 use sqlite::{Alter, Connection};
 use std::alloc::Global;
 
-/// Whether the tables are a chain's, and of which version.
+/// Finds out whether the tables are a chain's, and their version.
 pub fn chain_version<S: Alter>(
     alloc: Global,
     conn: &mut Connection<S>,
@@ -40,8 +40,7 @@ pub fn chain_version<S: Alter>(
     Ok(found)
 }
 
-/// Whether the tables are a chain's of this version and stand for sound books, or why there is no chain. Nothing is
-/// written.
+/// Accepts tables of this version that stand for sound books. Otherwise returns why there is no chain. Writes nothing.
 pub fn examine<S: Alter>(alloc: Global, conn: &mut Connection<S>) -> Result<(), OpenFault>
     requires { conn.old.in_transaction ≡ false }
     ensures ended { conn.new.in_transaction ≡ false }

@@ -1,4 +1,4 @@
--- What head office asks, as a request of its caller.
+-- Head office's requests, as requests of a caller.
 use Rattle.shop_schema.proofs.Common.{◌≡◌, ◌≢◌, refl, inl, State, Limits, OfficeCommand, Verdict, Again, Refused, Accepted, office_verdict, Office, OfficeLook, office_text, office_done, if_accepted, Answer, Books, HeadOffice, IsSound, seen_office_ask, StoreFault, Failed}
 use Rattle.shop_types.specs.declared.request.OfficeAsk.{OfficeAsk}
 use Rattle.chain_caches.specs.Films.{AreRows, KnownFilms}
@@ -8,7 +8,7 @@ use Rattle.chain_requests.specs.OfficeReads.{TellsOffice}
 use Rattle.chain_requests.specs.Chains.{Rests, widest_rules}
 use Rattle.chain_requests.specs.Steps.{IsUndone, LeavesEitherOf}
 
--- head office's command goes by the verdict
+-- head office's command has the reply and the books that its verdict requires
 pub office_goes : (limits : Limits) (command : OfficeCommand) (books : Books)
     → GoesBy limits HeadOffice (Office command) (office_verdict (rules_of limits) books.catalogue command) (office_text command books.catalogue) (record books { catalogue = office_done command books.catalogue }) books
 office_goes limits command books = record { told = refl; left = by (office_verdict (rules_of limits) books.catalogue command) }

@@ -1,17 +1,17 @@
--- In a run each branch is told what its own machine says.
+-- In a run, each branch gets the replies of its own machine.
 use Rattle.shop_schema.proofs.Common.{◌≡◌, ◌∙◌, inl, inr, ℕ, List, [], ◌∷◌, true, map, refl, ap, Bool, filter, cases_Bool, and_parts, OfficeAsk, Rules, Reply, Answer, answer_of, Books, Event, Caller, is_counter, caller_in, after, replies_to, run, state_of, IsRun, counted_in, is_decided, is_store_failure, fails_for_good, alone, decided_failure, failure_undecided, list_all}
 use Rattle.shop_model.specs.Repeats.{marked_ones}
 use Rattle.chain_requests.specs.Branches.{answered_to, KeepsBranches}
 
--- which events of the counted history were the branch's, by the catalogue as it was when each came
+-- which events of the counted history were the branch's, by the catalogue at the time of each event
 abbrev are_of : Rules → (OfficeAsk → Books → Reply) → ℕ → List Event → Books → List Bool
 are_of rules look b events books = map (λ (it : Caller × Reply). is_counter b it.0) (run rules look events books)
 
--- the answers to the branch among the decisions
+-- those decisions that answer the branch
 abbrev answers_to : Rules → (OfficeAsk → Books → Reply) → ℕ → List Event → List Answer → Books → List Answer
 answers_to rules look b events answers books = marked_ones (are_of rules look b (counted_in events answers) books) (filter is_decided answers)
 
--- the texts of a caller's replies, among the texts of all
+-- a caller's replies, picked from the replies to all callers
 told_to : (b : ℕ) (all : List (Caller × Reply))
     → marked_ones (map (λ (it : Caller × Reply). is_counter b it.0) all) (map (λ (it : Caller × Reply). answer_of it.1) all) ≡ map answer_of (replies_to b all)
 told_to b [] = refl
@@ -20,7 +20,7 @@ told_to b (it ∷ all) = elim (cases_Bool (is_counter b it.0)) [
   | inr isnt ↦ rw isnt (told_to b all)
 ]
 
--- behind a failure nothing is decided
+-- after a failure, nothing is decided
 none_told : (rules : Rules) (b : ℕ) (events : List Event) (answers : List Answer) (books : Books) → list_all is_store_failure answers ≡ true → answered_to rules b events answers books ≡ []
 none_told rules b [] answers books all = refl
 none_told rules b (event ∷ events) [] books all = refl
@@ -28,7 +28,7 @@ none_told rules b (event ∷ events) (answer ∷ answers) books all =
     let h = and_parts (is_store_failure answer) (list_all is_store_failure answers) all in
     rw (failure_undecided answer h.0) (none_told rules b events answers books h.1)
 
--- told event by event, or by the run over the counted history, it is the same
+-- the branch gets the same answers, event by event or by the run over the counted history
 told_same : (rules : Rules) (look : OfficeAsk → Books → Reply) (b : ℕ) (events : List Event) (answers : List Answer) (books : Books) → fails_for_good answers ≡ true
     → answered_to rules b events answers books ≡ answers_to rules look b events answers books
 told_same rules look b [] answers books stays = refl

@@ -1,4 +1,4 @@
--- The rows of consignments stay such as the program can hold, where one is sent off and where one is received.
+-- If a consignment is sent or received, the rows of consignments stay such that the program can hold them.
 use Rattle.shop_schema.proofs.Common.{◌≡◌, ◌≤◌, ◌<◌, ◌+◌, ◌*◌, ◌^◌, ◌==◌, ◌&&◌, ℕ, zero, suc, List, [], ◌∷◌, ◌++◌, map, filter, not, cond, length, Bool, true, false, inl, inr, refl, ap, subst, ◌∙◌, arith, length-append, nat_le, nat_lt, if◌then◌else◌, AllByRecursion, flat_map, list_all, and_parts, cases_Bool, leb-true, nat_tests, All-append, All-map, All-push, All-weaker, all-filter, Row, arrived, mem, numbered_from, of, is_row, next, put_all, set_row, set_rows, total, Act, Command, Rules, here, Books, BookCopy, Line, Consignment, as_parcel, between, book_acted, book_done, checked, checked_line, come, is_consignment, new_consignment, put_state, rows_at, shop_of, under_way, unmarked, unpacked, is_parcel, IsSound, one, length_map, put_all_own, put_own, same_test, IsHeld, IsNumber, IsRow, IsCopy, IsLine, IsConsignment, IsAct, IsCommand, AreValues, FitsTables, by_table, AreRowValues, CopyRows}
 use Rattle.std.proofs.lemmas.List.Filters.{length-filter_both}
 use Rattle.sqlite_keyed.proofs.ListLemmas.{all-flat_map, filter-filter}
@@ -109,7 +109,7 @@ both_few p q xs =
     let few = filter_few (λ x. p x && q x) (filter p xs) in
     omega (arith, same, few)
 
--- where each parcel of a branch is one, the last consignment has few lines
+-- if each consignment of a branch is a parcel, the last consignment has at most 100 lines
 last_few : (b : ℕ) (cs : List Consignment) (c : Consignment) → (c.source == b) ≡ true
     → list_all is_parcel (map as_parcel (filter (λ (it : Consignment). it.source == b) (cs ++ c ∷ []))) ≡ true → length c.lines ≤ 100
 last_few b [] c own all =
@@ -193,7 +193,7 @@ module _ (rules : Rules) (b : ℕ) (command : Command) (books : Books) (branch :
           lasts = v.lasts;
         }
 
--- what an accepted command makes of books that are sound
+-- what an accepted command makes of sound books
 module _ (rules : Rules) (b : ℕ) (command : Command) (books : Books) (branch : IsNumber b) (is : IsCommand command) (held : IsHeld books) (sound : IsSound widest_rules books)
     (after : IsSound widest_rules (book_done rules b command books)) (fits : FitsTables rules command.act) where
   few_come : (source number : ℕ) (missing : List ℕ) → command.act ≡ model.Receive source number missing

@@ -1,8 +1,8 @@
--- Which answers tell that the store failed.
+-- Which answers say that the store failed.
 use Rattle.shop_schema.proofs.Common.{◌≡◌, ℕ, Bool, true, false, not, refl, bytes_eq, StoreFailed, Reply, Answer, answer_of, problem_text, is_decided, is_store_failure, decided_is}
 use Rattle.std.specs.Prelude.{◌==◌, ◌&&◌}
 
--- no decision does
+-- no decision says so
 pub decision_fine : (answer : Answer) → is_decided answer ≡ true → is_store_failure answer ≡ false
 decision_fine answer decided = fine answer.status (bytes_eq answer.body (problem_text StoreFailed)) decided
   where

@@ -8,7 +8,7 @@ use Rattle.chain_requests.specs.Chains.{Runs}
 use Rattle.shop_model.specs.Stops.{failing}
 use Rattle.chain_requests.proofs.Branches.{runs_keep}
 
--- once an answer before them was the store's failure, so are all of these
+-- if the store failed at an earlier answer, all later answers are failures of the store
 abbrev FailsOn : List Answer → List Answer → Type 0
 FailsOn answers more = has_failed answers ≡ true → list_all is_store_failure more ≡ true
 
@@ -18,7 +18,7 @@ or_then false before mid more now first second = rw first at second
 
 -- ---- the counted history
 
--- none of those counts by which the store failed
+-- no event at which the store failed counts
 none_counts : (events : List Event) (answers : List Answer) → list_all is_store_failure answers ≡ true → counted_in events answers ≡ []
 none_counts [] answers all = refl
 none_counts (event ∷ events) [] all = refl
@@ -108,7 +108,7 @@ module _ (old mid new : Holding) (events more : List Event) (answers others : Li
         second.at_failure sound e it ∙ ap (λ (l : Limits). after (rules_of l) e new.books) first.limits
   ]
 
--- what was run in two parts was run as one list
+-- a list that was run in two parts was run as one list
 pub runs_follow : (old mid new : Holding) (events more : List Event) (answers others : List Answer)
     → Runs events answers old mid → Runs more others mid new → Runs (events ++ more) (answers ++ others) old new
 runs_follow old mid new events more answers others first second = record {

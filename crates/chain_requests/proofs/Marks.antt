@@ -17,7 +17,7 @@ twice true true = refl
 twice true false = refl
 twice false b = refl
 
--- a row's own mark, against a mark of its number
+-- a row's own mark, compared with a mark that has its number
 own_weight : (mb rb mc rn b n : ℕ) → rb ≡ b → rn ≡ n → one ((mb == rb && mc == rn) && (mb == b && mc == n)) ≡ one (mb == b && mc == n)
 own_weight mb rb mc rn b n branch number = rw (branch, number) (twice (mb == b) (mc == n))
 
@@ -61,7 +61,7 @@ made_at mark books numbers = elim (cases_Bool (mark.copy == 0)) [
   | inr some ↦ let d = differ_if mark.copy 0 some in made_from mark 1 mark.copy books.copies (numbers.rows CopyRows mark.branch) (omega arith) (omega (arith, d))
 ]
 
--- whether a mark was made, by what was found of its number: a copy with that mark, one that came from another branch, or none
+-- whether a mark was made, by the copy under its number: a copy with the mark, a copy that came from another branch, or no copy
 pub made_of_row : (mark : Mark) (books : Books) (it : BookCopy) → HasNumbers books → it ∷ [] ≡ at mark.copy (of mark.branch books.copies) → is_mark mark it.mark ≡ nat_lt 0 (made (is_mark mark) books)
 made_of_row mark books it numbers found = rw (made_at mark books numbers, sym found) (by (is_mark mark it.mark))
   where

@@ -1,4 +1,4 @@
--- What one request makes of a chain.
+-- The effect of one request on a chain.
 use Rattle.shop_schema.proofs.Common.{◌⊎◌, false≢true, ◌≡◌, ◌≢◌, ◌∙◌, ◌≤◌, ℕ, List, Bool, true, false, inl, inr, refl, sym, ap, subst, Ok, Some, cases_Bool, Ghosts, state, HasCleanDisk, Film, Catalogue, Request, Sorry, Answer, answer_of, problem_answer, Books, Caller, known_caller, caller_of, reply_for, after_for, IsSound, office_look, is_store_failure, memory_failure, size_failure, failed_failure, IsHeld, StandsFor, Audit, Refusal, seen_caller, seen_refusal, seen_request, StoreFault}
 use Rattle.shop_model.specs.Refusals as named
 use Rattle.chain_caches.specs.Films.{AreRows}
@@ -22,7 +22,7 @@ use Rattle.chain_requests.proofs.Standing.{are_held, values_after, sound_after}
 pub never : {P : Type 0} (b : Bool) → b ≡ false → b ≡ true → P
 never b isnt is = absurd (false≢true (sym isnt ∙ is))
 
--- ---- what a refusal of the store answers
+-- ---- the answers to refusals of the store
 
 lacks : (caller : Caller) (request : Request) (answer : Answer) (old new : Holding) → (answer ≡ problem_answer named.Memory) ⊎ (answer ≡ problem_answer named.Size) → is_store_failure answer ≡ false
     → new ≡ old → old.is_failed ≡ false → Answers caller request answer old new
@@ -43,7 +43,7 @@ failed_books caller request old = elim (cases_Bool old.is_failed) [ inl was ↦ 
 failed_now : (caller : Caller) (request : Request) (old : Holding) → (failed_at caller request old).is_failed ≡ true
 failed_now caller request old = elim (cases_Bool old.is_failed) [ inl was ↦ rw was refl | inr fine ↦ rw fine refl ]
 
--- of a chain that had failed nothing changes
+-- a chain that had failed doesn't change
 stays_failed : (held : Holding) → held.is_failed ≡ true → held ≡ record held { is_failed = true }
 stays_failed held failed = subst (λ (b : Bool). held ≡ record held { is_failed = b }) failed refl
 
@@ -65,7 +65,7 @@ store_refuses caller request it old new (inl (inl memory, same, fine)) = rw memo
 store_refuses caller request it old new (inl (inr size, same, fine)) = rw size (lacks caller request _ old new (inr refl) size_failure same fine)
 store_refuses caller request it old new (inr (failed, same)) = rw failed (fails caller request old new same)
 
--- the store refuses before the request is known, and a crash may as well leave the books after it
+-- the store refuses before the request is known; a crash may leave the books after the request, too
 pub refused_takes : {S : Type 0} {g : Ghosts S} {old new : Chained S} {Q : Holding → Holding → Type 0} (it : Refusal) (who : Holding → Caller) (what : Holding → Request)
     → Takes g old new (IsStoreRefusal it) → ((before after : Holding) → IsStoreRefusalAt (who before) (what before) it before after → Q before after) → Takes g old new Q
 refused_takes {S} {g} {old} {new} {Q} it who what taken tell = record {
@@ -117,7 +117,7 @@ decided caller request d held fine reply same = record {
   at_failure = never _ (decided_fine (Sorry d));
 }
 
--- want of memory or room, at a request
+-- out of memory or room, at a request
 pub room_at : (caller : Caller) (request : Request) (it : Refusal) (before after : Holding) → (it ≡ StoreFailed → ⊥) → IsStoreRefusal it before after → IsStoreRefusalAt caller request it before after
 room_at caller request it before after other (inl lacks) = inl lacks
 room_at caller request it before after other (inr (failed, same)) = absurd (other failed)
@@ -125,11 +125,11 @@ room_at caller request it before after other (inr (failed, same)) = absurd (othe
 -- ---- a request
 
 module _ {S : Type 0} (g : Ghosts S) (old new : Chained S) (limits : new.limits ≡ old.limits) (same_callers : new.callers ≡ old.callers) (fine : old.is_failed ≡ false) where
-  -- what is known of films is what was, or less
+  -- the chain knows the same films as before, or fewer
   abbrev KnowsNoMore : Type 0
   KnowsNoMore = (films : List Film) → AreRows old.films films → AreRows new.films films
 
-  -- and of callers what was
+  -- the chain knows the same callers as before
   callers_stay : (catalogue : Catalogue) → AreCallers old.callers catalogue → AreCallers new.callers catalogue
   callers_stay catalogue known = subst (λ (es : KnownCallers). AreCallers es catalogue) (sym same_callers) known
 
@@ -162,7 +162,7 @@ module _ {S : Type 0} (g : Ghosts S) (old new : Chained S) (limits : new.limits 
 
   module _ (caller : Caller) (request : Request) (Given : Books → Type 0)
       (gives : (books : Books) → IsHeld books → AreRows old.films books.catalogue.films → AreCallers old.callers books.catalogue → Given books) (who : IsAsker caller) (asked : IsAsked request) (most : old.limits.commands ≤ 1_000_000) (fit : old.limits.copies ≤ 1_000_000) where
-    -- what it came to, of sound books
+    -- the outcome, for sound books
     abbrev CameTo : Answer → Type 0
     CameTo answer = (books : Books) → Rests (state g old.conn) books → Given books → IsSound widest_rules books
         → (answer ≡ told_to old.limits caller request books) × Rests (state g new.conn) (left_by old.limits caller request books)
@@ -206,7 +206,7 @@ module _ {S : Type 0} (g : Ghosts S) (old new : Chained S) (limits : new.limits 
         → (HasCleanDisk (state g new.conn) → IsMade old.limits caller request answer Given new.films (state g old.conn) (state g new.conn)) → Takes g old new (Answers caller request answer)
     made answer still clean is = came answer still clean (λ now books rests held sound. ((is now).reply books rests held, (is now).books books rests held, (is now).films books rests held))
 
-    -- it wasn't
+    -- the request was not answered
     pub unmade : (it : StoreFault) → KnowsNoMore → new.is_failed ≡ is_final it → (HasCleanDisk (state g new.conn) → HasCleanDisk (state g old.conn))
         → (HasCleanDisk (state g new.conn) → (it ≢ fault.Failed → IsUndone (state g old.conn) (state g new.conn)) × LeavesEitherOf old.limits caller request Given (state g old.conn) (state g new.conn))
         → Takes g old new (Answers caller request (problem_answer (seen_refusal (refusal_for it))))
@@ -251,7 +251,7 @@ module _ {S : Type 0} (g : Ghosts S) (old new : Chained S) (limits : new.limits 
   audited audit rows still clean told undone = looked (FindsAudit (Ok audit)) rows still clean undone
       (λ now books besides at after same. (audit_of_books (state g old.conn) audit (told now) books (at.rests fine) at.values at.sound, same, fine))
 
--- ---- a caller who is kept in mind
+-- ---- a caller whom the chain knows
 
 -- of a chain that hasn't failed
 pub known_already : {S : Type 0} (g : Ghosts S) (chain : Chained S) (token : List ℕ) (caller : Known) → chain.is_failed ≡ false

@@ -1,4 +1,4 @@
--- What a transaction leaves of a connection between two requests.
+-- The state in which a transaction leaves a connection between two requests.
 use Rattle.std.proofs.Common.{IfOk, IfErr}
 use Rattle.shop_schema.proofs.Common.{IfOk-weaker, on_ok_then, survives_begin, survives_more, false≢true, ◌≡◌, ◌≢◌, ◌∙◌, inl, inr, refl, sym, ap, subst, arith, ℕ, true, false, IsTrue, Ok, Err, Result, OnOk, MutBor, Ghosts, Trees, Database, survives_then, survives_weaker, Held, state, State, HasCleanDisk, IsRolledBack, KeepsCommit, Survives, AreKeyed, crash_new, dropped, Limits, Request, Answer, Books, Caller, StoreFault, Failed, seen_reply, IsHeld, shop_schema, StandsFor, Holds, Reads}
 use Rattle.sqlite.specs.declared.error.Error.{Error}
@@ -27,7 +27,7 @@ pub begun_does : {S X E : Type 0} {g : Ghosts S} (old : Held S) {tx mid : MutBor
     → DoesInside g tx mid r Says → DoesInside g (record tx { now = record old { in_transaction = true } }) mid r Says
 begun_does {g = g} old {tx = tx} {mid = mid} {r = r} {Says = Says} is one = subst (λ h. DoesInside g (record tx { now = h }) mid r Says) is one
 
--- what its end leaves and says, of the connection that came back
+-- what the end of the call leaves and says, for the connection that came back
 module _ {S : Type 0} (g : Ghosts S) (mid : Held S) {end : Held S} {of name : ℕ} (back : (new : Held S) × (name ≡ of → new ≡ end)) (same : of ≡ name) where
   pub left_back : {Leaves : Trees → Type 0} → Survives (state g mid) (state g end) Leaves → Survives (state g mid) (state g back.0) Leaves
   left_back {Leaves = Leaves} = subst (λ h. Survives (state g mid) (state g h) Leaves) (sym (back.1 (sym same)))
@@ -47,7 +47,7 @@ Settled {S} g = (s : S) (db : Trees) → IsTrue (g.view s).is_open → g.recover
 pub leaves_less : (old new : State) (P : Trees → Type 0) → Survives old new (λ _. ⊥) → Survives old new P
 leaves_less old new P survives = survives_weaker old new (λ _. ⊥) P (λ _ db none. absurd none) survives
 
--- and neither does a call behind it
+-- and a call after it leaves nothing new
 pub leaves_then : {P : Trees → Type 0} {old fin end : State} → Survives old fin P → Survives fin end (λ _. ⊥) → Survives old end P
 leaves_then {P} {old} {fin} {end} one two = survives_then old fin end _ _ P (λ _ db it. it) (λ _ db none. absurd none) one two
 
@@ -101,13 +101,13 @@ looks {g = g} old {mid = mid} {r = r} one is named back ending undone =
     let same = one.inside.same_reference ∙ named in
     rolled_back g old mid.now back.0 r _ did.inside.survives (λ clean. did.inside.kept clean refl) (λ clean. with_open r _ _ (on_ok_then r (λ shows. shows.was_open) (did.inside.lives clean refl)) (did.says clean)) (left_back g mid.now back same ending) (said_back g mid.now back same IsRolledBack undone)
 
--- what was found of the books, of those on which the connection rested
+-- what was found holds of the books on which the connection rested
 pub looks_found : {X E : Type 0} {old first mid new : State} {r : Result X E} {Told : X → Books → Type 0} → first.now ≡ old.now → Looks old new r (λ it. Reads first mid (Told it)) → HasCleanDisk new
     → IfOk r (λ it. (books : Books) → Rests old books → IsHeld books → Told it books)
 looks_found {old = old} {first = first} {r = r} same look clean =
     IfOk-weaker r _ _ (λ it found books rests held. (found.1 books (holds_as old first books same (rests.now found.0)) held).1) (look.says clean)
 
--- a look before it, and nothing in it
+-- a look before the transaction, and nothing in it
 pub looks_before : {S X E : Type 0} {g : Ghosts S} {old mid begun end : Held S} {r : Result X E} {of name : ℕ} → StaysSame g old mid r → begun ≡ record mid { in_transaction = true } → of ≡ name
     → (back : (new : Held S) × (name ≡ of → new ≡ end)) → Survives (state g begun) (state g end) (λ _. ⊥) → (HasCleanDisk (state g end) → IsRolledBack (state g begun) (state g end))
     → Looks (state g old) (state g back.0) r (λ _. HasCleanDisk (state g mid))
@@ -132,7 +132,7 @@ module _ {S : Type 0} (g : Ghosts S) (old mid end : Held S) where
 
 -- ---- a request
 
--- a crash leaves the books before the request or those after it
+-- a crash leaves the books before the request or the books after it
 pub either_of : (limits : Limits) (caller : Caller) (request : Request) {Given : Books → Type 0} {old end : State} → Survives old end (LeavesAfter limits caller request Given old) → HasCleanDisk end
     → LeavesEitherOf limits caller request Given old end
 either_of limits caller request survives clean books rests held db may = elim (survives.crash clean db may) [
@@ -190,11 +190,11 @@ module _ (limits : Limits) (caller : Caller) (request : Request) {Given : Books 
           films = λ books rests held. (so books rests held).1;
         }
 
-    -- what the commit leaves, whether or not it answers so
+    -- what the commit leaves, whether or not it reports success
     pub leaves_after : Survives (state g old) (state g end) (LeavesAfter limits caller request Given (state g old))
     leaves_after = crash_new g old mid.now end (LeavesAfter limits caller request Given (state g old)) (λ clean books rests held. (done clean books rests held).0.holds.stands) (begun_does old is one).inside.survives ending
 
--- a commit that failed, of a store that was still open at a later call, has done nothing
+-- if a commit failed, but the store was still open at a later call, the commit had no effect
 pub undone_after : {S X E : Type 0} {g : Ghosts S} (old fin end : Held S) {tx mid : MutBor (Held S)} {x : X} {Says : X → State → State → Type 0} {e : Error} {Leaves : Trees → Type 0} → tx.now ≡ record old { in_transaction = true }
     → DoesInside {E = E} g tx mid (Ok x) Says → Survives (state g mid.now) (state g fin) Leaves → Settled g → (HasCleanDisk (state g fin) → FailsToCommit (state g mid.now) (state g fin) e) → IsTrue (state g fin).is_open
     → (IsTrue (state g end).is_open → ((state g end).now ≡ (state g fin).committed) × ((state g end).committed ≡ (state g fin).committed)) → Survives (state g fin) (state g end) (λ _. ⊥) → HasCleanDisk (state g end)
@@ -224,7 +224,7 @@ undone_after {g = g} old fin end {mid = mid} {e = e} is one committing settled f
         }
     by (inr late) = absurd (false≢true (sym late.1 ∙ ((begun_does old is one).inside.lives clean_mid refl).mode))
 
--- what is said of each error is said of the one that came
+-- a statement about every error holds of the error that occurred
 pub of_any_error : {A E : Type 0} (r : Result A E) (P : E → Type 0) → ((e : E) → P e) → IfErr r P
 of_any_error (Ok x) P h = tt
 of_any_error (Err e) P h = h e

@@ -9,13 +9,13 @@ use Rattle.shop_model.specs.Stops.{failing}
 use Rattle.chain_requests.proofs.Branches.{runs_keep}
 use Rattle.chain_requests.proofs.Requests.{failed_same}
 
--- a store that had failed before, or fails now, has failed then
+-- a store that had failed before, or fails now, has failed after this request
 pub has_failed_then : (was before mid now last : Bool) → mid ≡ (was || before) → now ≡ last → (mid ≡ true → last ≡ true) → now ≡ (was || (before || last))
 has_failed_then true before mid now last so e stays = e ∙ stays so
 has_failed_then false true mid now last so e stays = e ∙ stays so
 has_failed_then false false mid now last so e stays = e
 
--- and goes on to fail
+-- and it fails at all later requests
 fails_later : (was before mid last : Bool) → mid ≡ (was || before) → (mid ≡ true → last ≡ true) → before ≡ true → last ≡ true
 fails_later true before mid last so stays did = stays so
 fails_later false before mid last so stays did = stays (so ∙ did)

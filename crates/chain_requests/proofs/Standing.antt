@@ -1,4 +1,4 @@
--- What is known of a chain's books stays so by a request.
+-- A request keeps what the chain knows of its books true.
 use Rattle.shop_schema.proofs.Common.{◌≤◌, ℕ, inl, inr, refl, cases_Bool, Limits, lacks, Command, OfficeCommand, Verdict, Again, Refused, Accepted, verdict, office_verdict, Request, Unread, Do, Look, Office, OfficeLook, if_accepted, office_done, Books, Caller, Counter, HeadOffice, Nobody, shop_of, book_done, branch_after, office_after, known_caller, IsSound, after_sound, IsHeld, IsNumber, IsCommand, IsKey, IsOfficeAct, AreValues}
 use Rattle.shop_schema.proofs.Values.{held_by_sound, acts_fit}
 use Rattle.shop_schema.proofs.OfficeActs.{office_values_done}

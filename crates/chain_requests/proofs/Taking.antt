@@ -1,4 +1,4 @@
--- What a chain comes to have, by one call after another.
+-- The books that a chain has after one call or several.
 use Rattle.shop_schema.proofs.Common.{Ghosts, Books}
 use Rattle.chain_requests.specs.Holding.{Chained, Holding, holding}
 use Rattle.chain_requests.specs.Chains.{Takes}
@@ -14,7 +14,7 @@ takes_still {S} {g} {chain} {P} is = record {
 pub takes_same : {S : Type 0} {g : Ghosts S} {chain : Chained S} {P : Holding → Holding → Type 0} → ((held : Holding) → P held held) → Takes g chain chain P
 takes_same {S} {g} {chain} {P} is = takes_still (λ books besides. is (holding chain books besides))
 
--- the same told otherwise
+-- a weaker statement holds, too
 pub takes_as : {S : Type 0} {g : Ghosts S} {old new : Chained S} {P Q : Holding → Holding → Type 0}
     → Takes g old new P → ((before after : Holding) → P before after → Q before after) → Takes g old new Q
 takes_as {S} {g} {old} {new} {P} {Q} taken tell = record {

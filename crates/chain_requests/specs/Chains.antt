@@ -1,4 +1,4 @@
--- What a chain promises of one request, and of a list of them.
+-- The contract of one request to a chain, and of a list of requests.
 use Rattle.std.specs.Prelude.{◌≡◌, ◌⊎◌, ◌||◌, ℕ, true, false, if◌then◌else◌, IsTrue, List, Some}
 use Rattle.std.specs.List.{list_all}
 use Rattle.sqlite_trees.specs.declared.store.Store.{Ghosts}
@@ -25,27 +25,28 @@ use Rattle.stock_csv.specs.Stock.{stock_of}
 use Rattle.branch_work.specs.Rules.{rules_of}
 use Rattle.chain_requests.specs.Holding.{Chained, Holding, holding}
 
--- the rules with the greatest limits: by these the books of any chain are sound, whatever limits it was opened with
+-- the rules with the greatest limits; by these rules the books of any chain are sound, whatever limits it was opened with
 abbrev pub widest_rules : Rules
 widest_rules = record { commands = 1000000; copies = 1000000; stock_of = stock_of }
 
--- ---- where a chain stands between two requests
+-- ---- the state of a chain between two requests
 
--- the tables stand for the books, all of it is committed, and a crash leaves it; of a connection that the store has shut only the last is said
+-- The tables stand for the books, all changes are committed, and a crash leaves the books. If the store has shut the connection, only what a crash leaves is
+-- known.
 pub record Rests (s : State) (books : Books) : Type 0 where
   pub now : IsTrue s.is_open → Holds s books
   pub committed : IsTrue s.is_open → s.committed ≡ s.now
   pub left : (db : Trees) → s.may_leave db → StandsFor db books
 
--- a database that stands for the books, or for those besides, which then are sound too, with values in their ranges
+-- a database that stands for the books; or one that stands for `besides`, which are sound and have values in their ranges
 abbrev pub StandsForEither : Books → Books → Trees → Type 0
 StandsForEither books besides db = StandsFor db books ⊎ (IsSound widest_rules besides × AreValues besides × StandsFor db besides)
 
--- once the store has failed, a crash leaves the books, or those besides
+-- once the store has failed: a crash leaves the books, or `besides`
 abbrev pub LeavesEither : State → Books → Books → Type 0
 LeavesEither s books besides = (db : Trees) → s.may_leave db → StandsForEither books besides db
 
--- behind a call that changes nothing the connection, where it is open, shows what it showed
+-- after a call that changes nothing, the connection shows what it showed before, if it is open
 abbrev pub StaysAsFound : State → State → Type 0
 StaysAsFound old new = old.now ≡ old.committed → IsTrue new.is_open → IsTrue old.is_open × (new.now ≡ old.now) × (new.committed ≡ old.committed)
 
@@ -53,8 +54,8 @@ StaysAsFound old new = old.now ≡ old.committed → IsTrue new.is_open → IsTr
 abbrev pub StandsSoundly : Trees → Type 0
 StandsSoundly db = (books : Books) × StandsFor db books × AreValues books × IsSound widest_rules books
 
--- the chain has these books: they are sound, the films that it knows are their rows, the callers that it knows have their tokens in them, and its tables
--- stand for them until the store fails; a crash may then leave those besides
+-- The chain has the books. They are sound; the films that the chain knows are their rows; the callers that it knows have their tokens in them. The tables
+-- stand for the books until the store fails. After the store failed, a crash may leave `besides`.
 pub record IsAt {S : Type 0} (g : Ghosts S) (chain : Chained S) (books besides : Books) : Type 0 where
   pub sound : IsSound widest_rules books
   pub values : AreValues books
@@ -64,7 +65,7 @@ pub record IsAt {S : Type 0} (g : Ghosts S) (chain : Chained S) (books besides :
   pub alone : chain.is_failed ≡ false → besides ≡ books
   pub left : chain.is_failed ≡ true → LeavesEither (state g chain.conn) books besides
 
--- where the disk gives back what was written: a chain that had some books comes to have books of which, with the first, this holds
+-- If the disk gives back what was written, a chain that had books before a call has books after it, and P holds of both.
 pub record Takes {S : Type 0} (g : Ghosts S) (old new : Chained S) (P : Holding → Holding → Type 0) : Type 0 where
   pub clean : HasCleanDisk (state g new.conn) → HasCleanDisk (state g old.conn)
   pub goes : HasCleanDisk (state g new.conn) → (books besides : Books) → IsAt g old books besides
@@ -72,13 +73,13 @@ pub record Takes {S : Type 0} (g : Ghosts S) (old new : Chained S) (P : Holding 
 
 -- ---- requests
 
--- The store fails at this request: a crash may leave the books after it too. Of a chain that had failed nothing changes.
+-- The store fails at this request: a crash may leave the books after the request, too. A chain that had failed doesn't change.
 abbrev pub failed_at : Caller → Request → Holding → Holding
 failed_at caller request old =
     if old.is_failed then old else record old { is_failed = true; besides = after_for (rules_of old.limits) (known_caller old.books.catalogue caller) request old.books }
 
--- One request of a caller: the books' step and its reply, or want of memory or room with the books as before, or the store fails. Once it has failed, it
--- goes on to fail.
+-- One request of a caller. Either the books make their step and the caller gets its reply, or memory or room ran out and the books stay, or the store fails.
+-- Once the store has failed, it fails at all later requests.
 pub record Answers (caller : Caller) (request : Request) (answer : Answer) (old new : Holding) : Type 0 where
   pub limits : new.limits ≡ old.limits
   pub failed : new.is_failed ≡ is_store_failure answer
@@ -86,11 +87,12 @@ pub record Answers (caller : Caller) (request : Request) (answer : Answer) (old 
   pub step : IsStep (rules_of old.limits) office_look (known_caller old.books.catalogue caller) request answer old.books new.books
   pub at_failure : is_store_failure answer ≡ true → new ≡ failed_at caller request old
 
--- an event, whoever asks
+-- an event, whoever the caller is
 abbrev pub AnswersEvent : Event → Answer → Holding → Holding → Type 0
 AnswersEvent event answer old new = Answers (caller_in event old.books) (event.request (caller_in event old.books)) answer old new
 
--- a list of events, answered one after another: the run's replies over the counted history, and its books; a command that comes again gets its first reply and changes nothing
+-- A list of events, answered one after another. The replies and the books are the run's, over the counted history. If a command is repeated, it gets its first
+-- reply and changes nothing.
 pub record Runs (events : List Event) (answers : List Answer) (old new : Holding) : Type 0 where
   pub limits : new.limits ≡ old.limits
   pub failed : new.is_failed ≡ (old.is_failed || has_failed answers)
@@ -101,6 +103,6 @@ pub record Runs (events : List Event) (answers : List Answer) (old new : Holding
   pub resent : Resends (rules_of old.limits) office_look events answers old.books new.books
   pub branches : KeepsBranches (rules_of old.limits) office_look events answers old.books new.books
 
--- a request that comes with a token
+-- an event with a token and a request
 abbrev pub event_of : List ℕ × Asked → Event
 event_of it = record { token = Some it.0; request = λ _. seen_request it.1 }

@@ -1,4 +1,4 @@
--- What the store answers in a decision's place.
+-- What the store answers instead of a decision.
 use Rattle.std.specs.Prelude.{◌≡◌, ◌⊎◌, true, false, Some, Bool, Result, Ok, Err, List, ℕ}
 use Rattle.shop_model.specs.Machine.{Request}
 use Rattle.shop_model.specs.Books.{Caller, caller_of}
@@ -13,16 +13,16 @@ use Rattle.chain_requests.specs.Holding.{Holding}
 use Rattle.chain_requests.specs.Chains.{failed_at}
 use Rattle.chain_requests.specs.Audits.{IsAuditOfBooks}
 
--- want of memory or room leaves the chain as it was; once the store has failed, it goes on to fail
+-- out of memory or room, the chain stays as it was; once the store has failed, it fails at all later calls
 abbrev pub IsStoreRefusal : Refusal → Holding → Holding → Type 0
 IsStoreRefusal refusal old new = (((refusal ≡ Memory) ⊎ (refusal ≡ Size)) × (new ≡ old) × (old.is_failed ≡ false)) ⊎ ((refusal ≡ StoreFailed) × (new ≡ record old { is_failed = true }))
 
--- the same at a request: where the store fails at it, a crash may leave the books after it too
+-- the same at a request: if the store fails at the request, a crash may leave the books after the request, too
 abbrev pub IsStoreRefusalAt : Caller → Request → Refusal → Holding → Holding → Type 0
 IsStoreRefusalAt caller request refusal old new =
     (((refusal ≡ Memory) ⊎ (refusal ≡ Size)) × (new ≡ old) × (old.is_failed ≡ false)) ⊎ ((refusal ≡ StoreFailed) × (new ≡ failed_at caller request old))
 
--- the caller of the token is found, and nothing changes; or the store refuses
+-- the token's caller is found, and nothing changes; or the store refuses
 abbrev pub FindsCaller : List ℕ → Result Known Refusal → Holding → Holding → Type 0
 FindsCaller token (Ok caller) old new = (seen_caller caller ≡ caller_of (Some token) old.books.catalogue) × (new ≡ old) × (old.is_failed ≡ false)
 FindsCaller token (Err refusal) old new = IsStoreRefusal refusal old new
@@ -36,7 +36,7 @@ FindsAudit (Err refusal) old new = IsStoreRefusal refusal old new
 abbrev pub IsOfStore : Refusal → Type 0
 IsOfStore refusal = (refusal ≡ Memory) ⊎ ((refusal ≡ Size) ⊎ (refusal ≡ StoreFailed))
 
--- how a fault of the store is told, and whether it is one for good
+-- the refusal for a fault of the store, and whether the fault is permanent
 abbrev pub refusal_for : StoreFault → Refusal
 refusal_for fault.Memory = Memory
 refusal_for fault.Size = Size

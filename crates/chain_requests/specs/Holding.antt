@@ -1,4 +1,4 @@
--- What a chain holds, as its callers see it.
+-- The state of a chain, as its callers see it.
 use Rattle.std.specs.Prelude.{ℕ, Bool, refl}
 use Rattle.std.specs.Coded.{Coded, code_by, coded×, coded_ℕ, coded_bool}
 use Rattle.sqlite.specs.Held.{Held, held_code}
@@ -7,7 +7,7 @@ use Rattle.chain_caches.specs.Callers.{KnownCallers, callers_code}
 use Rattle.shop_types.specs.LimitValues.{Limits}
 use Rattle.shop_model.specs.Books.{Books}
 
--- the limits, whether the store has failed, what is known of films and of callers, and the connection to the store
+-- the limits, whether the store has failed, the films and callers that the chain knows, and the connection to the store
 pub record Chained (S : Type 0) : Type 0 where
   pub limits : Limits
   pub is_failed : Bool
@@ -15,7 +15,7 @@ pub record Chained (S : Type 0) : Type 0 where
   pub callers : KnownCallers
   pub conn : Held S
 
--- its values are told apart by their parts
+-- two chains are the same if all their parts are
 abbrev pub chained_code : {S : Type 0} → Coded S → Coded (Chained S)
 chained_code {S} store =
     code_by ((ℕ × ℕ) × (Bool × (KnownFilms × (KnownCallers × Held S)))) (coded× (coded× coded_ℕ coded_ℕ) (coded× coded_bool (coded× entries_code (coded× callers_code (held_code store)))))
@@ -23,7 +23,8 @@ chained_code {S} store =
     (λ p. record { limits = record { commands = p.0.0; copies = p.0.1 }; is_failed = p.1.0; films = p.1.1.0; callers = p.1.1.1.0; conn = p.1.1.1.1 })
     (λ _. refl)
 
--- The same with the books of all branches in the place of the store and of what is known of films and callers. Once the store has failed, a crash leaves the books, or those besides; until then they are the books.
+-- The same state, with the books of all branches instead of the store and of the known films and callers. Once the store has failed, a crash leaves `books` or
+-- `besides`. Until then both are the same.
 pub record Holding : Type 0 where
   pub limits : Limits
   pub is_failed : Bool

@@ -12,7 +12,7 @@ use Rattle.shop_ledger.specs.declared.answered.Answered.{Answered}
 use Rattle.branch_work.specs.Works.{IsDone}
 use Rattle.catalogue_rows.specs.Found.{IsKeptFor}
 
--- it is done, beside what was found under the command's key
+-- the command is done, given what was found under its key
 abbrev pub WorksBeside : Option KeptFound → Limits → OfficeCommand → Answered → State → State → Type 0
 WorksBeside kept limits command it old new =
     (books : Books) → Holds old books → IsHeld books → IsKeptFor command kept books → IsDone limits HeadOffice (Office command) it new books

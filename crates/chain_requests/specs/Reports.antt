@@ -1,4 +1,4 @@
--- What is read outside any transaction, and the reply that shows it.
+-- Readings outside any transaction, and the replies that show them.
 use Rattle.std.specs.Prelude.{◌≡◌, ℕ, map, flat_map}
 use Rattle.sqlite.specs.State.{State}
 use Rattle.shop_model.specs.Rows.{numbered}
@@ -19,6 +19,6 @@ shown_by (OfBranch b list) books = listed b list books
 shown_by Sales books = RowsAre (map listed_store (flat_map (λ (it : ℕ × Branch). sales_by_store it.0 books.catalogue (shop_of it.0 books)) (numbered books.catalogue.branches)))
 shown_by Transit books = TransitIs (under_way books)
 
--- the answer shows it, of the books that the chain has
+-- the answer shows the reading of the books that the chain has
 abbrev pub ShowsReport : Report → Answer → State → Type 0
 ShowsReport report answer old = (books : Books) → Rests old books → IsHeld books → answer ≡ answer_of (Shows (shown_by report books))

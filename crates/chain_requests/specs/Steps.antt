@@ -1,4 +1,4 @@
--- What the transaction of a request leaves.
+-- The state that the transaction of a request leaves.
 use Rattle.std.specs.Prelude.{◌≡◌, ◌⊎◌, ⊤, ℕ, List, Some}
 use Rattle.sqlite_trees.specs.Tree.{Trees}
 use Rattle.sqlite.specs.State.{State}
@@ -46,21 +46,21 @@ IsAsked (Look ask) = ⊤
 IsAsked (Office command) = IsKey command.key × IsOfficeAct command.act
 IsAsked (OfficeLook ask) = ⊤
 
--- ---- what is known before it
+-- ---- what is known before the request
 
--- of the asker: a branch that is said to be known is there
+-- if the asking branch is said to be known, it is in the catalogue
 abbrev pub IsKnownFor : Asked → Catalogue → Type 0
 IsKnownFor (OfBranch b is_known request) catalogue = IsKnown is_known b catalogue
 IsKnownFor (OfOffice command) catalogue = ⊤
 
--- books that the tables can hold, of whose films these are known, and of whose catalogue this is
+-- the tables can hold the books, `films` are rows of the books, and `Known` holds of their catalogue
 abbrev pub IsHeldBy : (Catalogue → Type 0) → KnownFilms → Books → Type 0
 IsHeldBy Known films books = IsHeld books × AreRows films books.catalogue.films × Known books.catalogue
 
 -- ---- one request
 
--- inside the transaction it is done, or it asks for a reading, which is to be shown;
--- and the films that are known then are rows of the books after it, where of the books before it this was given
+-- Inside the transaction the request is done, or it asks for a reading, which is shown later. If `Given` held of the books before it, the films that are known
+-- after it are rows of the books after it.
 abbrev pub Works : Limits → Caller → Request → (Books → Type 0) → KnownFilms → Work Report → State → State → Type 0
 Works limits caller request Given after work old new =
     (books : Books) → Holds old books → Given books → HasCome shown_by limits caller request work new books × AreRows after (left_by limits caller request books).catalogue.films
@@ -75,7 +75,7 @@ pub record IsMade (limits : Limits) (caller : Caller) (request : Request) (answe
 abbrev pub IsUndone : State → State → Type 0
 IsUndone old new = (books : Books) → Rests old books → IsHeld books → Rests new books
 
--- a crash leaves the books before the request or those after it
+-- a crash leaves the books before the request or the books after it
 abbrev pub LeavesEitherOf : Limits → Caller → Request → (Books → Type 0) → State → State → Type 0
 LeavesEitherOf limits caller request Given old new =
     (books : Books) → Rests old books → Given books → (db : Trees) → new.may_leave db → StandsFor db books ⊎ StandsFor db (left_by limits caller request books)
@@ -84,6 +84,6 @@ LeavesEitherOf limits caller request Given old new =
 abbrev pub LeavesAfter : Limits → Caller → Request → (Books → Type 0) → State → Trees → Type 0
 LeavesAfter limits caller request Given old db = (books : Books) → Rests old books → Given books → StandsFor db (left_by limits caller request books)
 
--- the caller has the token, in whatever books the connection rests on
+-- the caller has the token, in any books on which the connection rests
 abbrev pub HasCaller : List ℕ → Caller → State → Type 0
 HasCaller token caller s = (books : Books) → Rests s books → IsHeld books → caller ≡ caller_of (Some token) books.catalogue

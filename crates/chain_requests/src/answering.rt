@@ -1,4 +1,4 @@
-//! What is asked, answered inside a transaction.
+//! Answers to requests inside a transaction.
 
 ghost use Rattle.std.specs.Prelude.{⊤, IfOk};
 ghost use Rattle.shop_model.specs.Books.{Counter, HeadOffice};
@@ -19,7 +19,7 @@ use sql_rows::StoreFault;
 use sqlite::{Alter, Transaction};
 use std::alloc::Global;
 
-/// Answers what is asked inside a transaction, or tells what is to be read outside it.
+/// Answers the request inside a transaction, or returns what is to be read outside the transaction.
 pub fn answer_inside<S: Alter>(
     alloc: Global,
     tx: &mut Transaction<'_, S>,
@@ -41,7 +41,7 @@ pub fn answer_inside<S: Alter>(
     }
 }
 
-/// The same of a branch's request.
+/// Answers a branch's request inside a transaction, or returns what is to be read outside it.
 fn branch_inside<S: Alter>(
     alloc: Global,
     tx: &mut Transaction<'_, S>,
@@ -61,7 +61,7 @@ fn branch_inside<S: Alter>(
     }
 }
 
-/// The same of head office's command.
+/// Answers head office's command inside a transaction.
 fn office_inside<S: Alter>(
     alloc: Global,
     tx: &mut Transaction<'_, S>,
@@ -73,7 +73,7 @@ fn office_inside<S: Alter>(
         (Works limits HeadOffice (Office (seen_office command.now)) (IsHeldBy (λ _. ⊤) films.old) films.new) }
     ensures decided { IfOk result TellsDecision }
 {
-    // Before anything is written: what is left stays true whether or not the command is done.
+    // This comes before any write: the films that stay known are right, whether or not the command is done.
     films.take_out_changed(&command.act);
     let done = answer_office(alloc, tx, limits, command)?;
     Ok(Work::Answered(done))

@@ -1,4 +1,4 @@
-//! What the tables answer: a branch's request, or a command of head office.
+//! The requests that the tables answer: a branch's request, or a command of head office.
 
 ghost use Rattle.shop_types.specs.Seen.{seen_request};
 ghost use Rattle.chain_requests.specs.Steps.{IsAsker, IsAsked, asker, asked_of};
@@ -9,17 +9,18 @@ use shop_types::{BranchNo, OfficeCommand, Request};
 /// A request, and who asks it.
 #[derive(Clone, Copy)]
 pub enum Asked<'a> {
-    /// A branch asks it, and it is told whether it is known that the branch is there.
+    /// A request of a branch. `is_known` says whether the branch is known to be there.
     OfBranch {
         branch: BranchNo,
         is_known: bool,
         request: &'a Request,
     },
-    /// Head office asks it.
+    /// A command of head office.
     OfOffice(&'a OfficeCommand),
 }
 
-/// Who asks, and the values of what is asked, are such as the tables can hold: a law, so that nothing is done.
+/// Shows that the tables can hold the caller and the values of the request. The function has nothing to do: it is a
+/// law.
 pub fn asked_values(asked: &Asked<'_>)
     ensures caller { IsAsker (asker asked.now) }
     ensures request { IsAsked (asked_of asked.now) }
@@ -37,7 +38,7 @@ pub fn asked_values(asked: &Asked<'_>)
     }
 }
 
-/// The same of a branch's request.
+/// Shows that the tables can hold the values of a branch's request.
 fn request_values(request: &Request)
     ensures { IsAsked (seen_request request.now) }
 {

@@ -1,4 +1,4 @@
-//! What an audit says of a chain's tables, in a transaction that changes nothing.
+//! Audits a chain's tables, in a transaction that changes nothing.
 
 ghost use Rattle.std.specs.Prelude.{◌≡◌, false, IfOk, true, Err};
 ghost use Rattle.sqlite.specs.Held.{state};
@@ -14,7 +14,7 @@ use sql_rows::StoreFault;
 use sqlite::{Alter, Connection};
 use std::alloc::Global;
 
-/// What an audit says of the tables, whatever they hold. The database stays as it was.
+/// Audits the tables, whatever they hold. The database stays as it was.
 pub fn read_audit<S: Alter>(alloc: Global, conn: &mut Connection<S>) -> Result<Audit, StoreFault>
     requires { conn.old.in_transaction ≡ false }
     ensures ended { conn.new.in_transaction ≡ false }
@@ -29,7 +29,7 @@ pub fn read_audit<S: Alter>(alloc: Global, conn: &mut Connection<S>) -> Result<A
     audit
 }
 
-/// What an audit says of the tables. Of a chain that has failed it is `Failed`, and the connection isn't used.
+/// Audits the tables. If the chain has failed, returns `Failed` and doesn't use the connection.
 pub fn audit_unless_failed<S: Alter>(
     alloc: Global,
     is_failed: bool,
@@ -48,8 +48,7 @@ pub fn audit_unless_failed<S: Alter>(
     read_audit(alloc, conn)
 }
 
-/// Whether the tables, which are those of a chain, stand for sound books: exactly where an audit of them says so.
-/// Nothing is written.
+/// Returns whether a chain's tables stand for sound books, as an audit of the tables says. Writes nothing.
 pub fn tables_are_sound<S: Alter>(
     alloc: Global,
     conn: &mut Connection<S>,

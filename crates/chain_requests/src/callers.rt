@@ -1,4 +1,4 @@
-//! Whose token it is, in a transaction that changes nothing.
+//! Finds the caller who has a token, in a transaction that changes nothing.
 
 ghost use Rattle.std.specs.Prelude.{◌≡◌, false, IfOk, Some, true, Err};
 ghost use Rattle.sqlite.specs.Held.{state};
@@ -15,7 +15,7 @@ use shop_types::{Caller, Token};
 use sql_rows::StoreFault;
 use sqlite::{Alter, Connection, Transaction};
 
-/// The caller whose token it is.
+/// Finds the caller who has the token.
 pub fn find_caller<S: Alter>(conn: &mut Connection<S>, token: &Token) -> Result<Caller, StoreFault>
     requires { conn.old.in_transaction ≡ false }
     ensures ended { conn.new.in_transaction ≡ false }
@@ -43,7 +43,7 @@ fn caller_in<S: Alter>(tx: &mut Transaction<'_, S>, token: &Token) -> Result<Cal
     }
 }
 
-/// The caller whose token it is. Of a chain that has failed it is `Failed`, and the connection isn't used.
+/// Finds the caller who has the token. If the chain has failed, returns `Failed` and doesn't use the connection.
 pub fn caller_unless_failed<S: Alter>(
     is_failed: bool,
     conn: &mut Connection<S>,

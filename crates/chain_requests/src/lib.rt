@@ -1,5 +1,5 @@
-//! Requests of a chain of shops, each in one transaction from its beginning to its commit: whose token it is, what a
-//! branch or head office asks, readings, and what an audit says.
+//! Requests of a chain of shops, each in one transaction from its beginning to its commit: finds the caller who has a
+//! token, does what a branch or head office asks, reads lists, and audits the tables.
 #![tactic(auto)]
 
 mod answering;

@@ -21,7 +21,7 @@ use sql_rows::{Bytes, StoreFault};
 use sqlite::{Alter, Transaction};
 use std::alloc::Global;
 
-/// Answers a command of head office, and tells whether there is anything to commit.
+/// Answers a command of head office. The result says whether there is anything to commit.
 pub(crate) fn answer_office<S: Alter>(
     alloc: Global,
     tx: &mut Transaction<'_, S>,
@@ -38,7 +38,8 @@ pub(crate) fn answer_office<S: Alter>(
     answer(alloc, tx, limits, command, kept, &form)
 }
 
-/// The same, beside what head office has under the command's key, and with the command's stored form.
+/// Answers a command of head office, given what head office has under the command's key, and the command's stored
+/// form.
 fn answer<S: Alter>(
     alloc: Global,
     tx: &mut Transaction<'_, S>,
@@ -66,7 +67,7 @@ fn answer<S: Alter>(
     }
 }
 
-/// The stored form of a command.
+/// Makes the stored form of a command.
 fn form_of(alloc: Global, command: &OfficeCommand) -> Result<Bytes, StoreFault>
     ensures { IfOk result (λ form. form ≡ office_command_form (seen_office command.now)) }
 {

@@ -1,5 +1,5 @@
-//! A reading of head office: lists, row by row outside any transaction, and where the copy of a mark is and what an
-//! audit says, each by a look inside one.
+//! Head office's readings. Lists are read row by row outside any transaction. The place of a mark's copy and an audit
+//! are each read inside a transaction.
 
 ghost use Rattle.std.specs.Prelude.{◌≡◌, nat_lt, false, IfOk};
 ghost use Rattle.sqlite.specs.Held.{state};
@@ -24,7 +24,7 @@ use sql_rows::StoreFault;
 use sqlite::{Alter, Connection, Transaction};
 use std::alloc::Global;
 
-/// The reply to a reading of head office. The database stays as it was.
+/// Makes the reply to a reading of head office. The database stays as it was.
 pub fn read_office<S: Alter>(
     alloc: Global,
     conn: &mut Connection<S>,
@@ -46,7 +46,7 @@ pub fn read_office<S: Alter>(
     }
 }
 
-/// What an audit says.
+/// Makes the reply to head office's request for an audit.
 fn tell_audit<S: Alter>(alloc: Global, conn: &mut Connection<S>) -> Result<Reply, StoreFault>
     requires { conn.old.in_transaction ≡ false }
     ensures ended { conn.new.in_transaction ≡ false }
@@ -63,7 +63,7 @@ fn tell_audit<S: Alter>(alloc: Global, conn: &mut Connection<S>) -> Result<Reply
     }
 }
 
-/// Where the copy of the mark is, in a transaction that changes nothing.
+/// Finds where the copy of the mark is, in a transaction that changes nothing.
 fn find_place<S: Alter>(
     alloc: Global,
     conn: &mut Connection<S>,
@@ -83,7 +83,8 @@ fn find_place<S: Alter>(
     told
 }
 
-/// The same inside a transaction: the branch of the mark is looked for first, then whether the mark was made.
+/// Finds where the copy of the mark is, inside a transaction. It looks for the mark's branch first, and then for the
+/// copy under the mark's number.
 fn place_in<S: Alter>(
     alloc: Global,
     tx: &mut Transaction<'_, S>,
@@ -106,8 +107,8 @@ fn place_in<S: Alter>(
     }
 }
 
-/// Whether the mark was made: the branch has a copy of that number, and the copy has that mark, as one that came from
-/// another branch hasn't.
+/// Returns whether the mark was made: the mark's branch has a copy with the mark's number, and the copy has this mark.
+/// A copy that came from another branch has another mark.
 fn is_made<S: Alter>(tx: &mut Transaction<'_, S>, mark: &Mark) -> Result<bool, StoreFault>
     ensures { DoesInside S.Store tx.old.conn tx.new.conn result
         (λ is. Finds (λ books. is ≡ nat_lt 0 (made (is_mark (seen_mark mark.now)) books))) }

@@ -7,7 +7,7 @@ ghost use Rattle.sqlite.specs.State.{HasCleanDisk, Survives};
 use sql_rows::query;
 use sqlite::{Alter, Connection};
 
-/// Whether the store was still open at the call.
+/// Returns whether the store was still open at the call.
 pub fn is_open<S: Alter>(conn: &mut Connection<S>) -> bool
     requires { conn.old.in_transaction ≡ false }
     ensures ended { conn.new.in_transaction ≡ false }

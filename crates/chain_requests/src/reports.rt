@@ -22,7 +22,7 @@ use sqlite::{Alter, Connection};
 use std::alloc::Global;
 use view_texts::{overdue_list, sales, view_text};
 
-/// What is read.
+/// A reading.
 #[derive(Clone, Copy)]
 pub enum Report {
     /// A list, for the branch.
@@ -33,7 +33,7 @@ pub enum Report {
     Transit,
 }
 
-/// The text of a branch's list.
+/// Reads a branch's list, as text.
 fn listed_text<S: Alter>(
     alloc: Global,
     conn: &mut Connection<S>,
@@ -53,7 +53,7 @@ fn listed_text<S: Alter>(
     }
 }
 
-/// The text of what is read.
+/// Makes the reading, as text.
 fn report_text<S: Alter>(
     alloc: Global,
     conn: &mut Connection<S>,
@@ -71,7 +71,7 @@ fn report_text<S: Alter>(
     }
 }
 
-/// The reply that shows what is read. The database stays as it was.
+/// Makes the reply that shows the reading. The database stays as it was.
 pub fn show<S: Alter>(
     alloc: Global,
     conn: &mut Connection<S>,
@@ -86,7 +86,7 @@ pub fn show<S: Alter>(
     ensures decided { IfOk result (λ reply. IsDecision (seen_reply reply)) }
 {
     let text = report_text(alloc, conn, report);
-    // What a failed query may have left is dropped, as a transaction's end drops it.
+    // This discards what a failed query may have left, as the end of a transaction does.
     conn.transaction().rollback();
     match text {
         Ok(text) => Ok(Reply::accepted(text)),

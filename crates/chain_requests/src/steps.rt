@@ -18,8 +18,7 @@ use sql_rows::{StoreFault, fault_of};
 use sqlite::{Alter, Connection};
 use std::alloc::Global;
 
-/// Answers what is asked in one transaction, whose commit is the last call to the store where the request changes
-/// anything.
+/// Answers the request in one transaction. If the request changes anything, the commit is the last call to the store.
 pub fn step<S: Alter>(
     alloc: Global,
     conn: &mut Connection<S>,
@@ -62,7 +61,7 @@ pub fn step<S: Alter>(
             return Err(fault);
         }
     };
-    // Of a store that a failed commit has shut, a crash may leave either.
+    // If a failed commit has shut the store, a crash may leave the books before or after the request.
     if is_open(conn) {
         Err(fault)
     } else {

@@ -1,4 +1,4 @@
--- Whether numbers are among others that were put in order, and what that tells of copies that are away or out.
+-- Lemmas about numbers among other numbers in order, and about copies that are away or out.
 use Rattle.shop_schema.proofs.Common.{◌≡◌, ◌≢◌, ◌∙◌, refl, sym, ap, inl, inr, arith, ℕ, zero, suc, ◌+◌, ◌<◌, ◌≤◌, Bool, true, false, not, List, [], ◌∷◌, length, map, filter, get_or, Result, Ok, Err, IsPermutation, None, subst, take, is_none, is_ok, MatchResult, nat_cmp, list_any, IsBinarySearchResult, IsSortedByKey, list_any_more, IsNonDecreasingBy-from_sort, list_any-IsPermutation, searched, cases_Bool, cases_lt, or-true, Row, is_of, is_row, lacks, mem, of, CopyState, Here, Sent, Scrapped, Copy, Rental, is_here, in_stock, keeps_out, is_away, HasNumbers, copy_is, Books, BookCopy, shop_of, unmarked, differ_test, equal_test, row_at, CopyRows}
 use Rattle.std.specs.Prelude.{◌==◌, ◌||◌, ◌&&◌}
 use Rattle.shop_ledger.proofs.Outs.{copies_of}
@@ -40,7 +40,7 @@ module _ (rising : List ℕ) (x : ℕ) where
     | inr high ↦ let above = none.2 k high lt in omega (arith, above, is)
   ]))
 
--- what a search tells, where they were put in order
+-- the result of a search in a list that was put in order
 pub told_by_search : (ns rising : List ℕ) (x : ℕ) (r : Result ℕ ℕ) → IsPermutation ns rising → IsSortedByKey (λ (n : ℕ). n) nat_cmp rising → IsBinarySearchResult (λ y. nat_cmp y x) rising r → is_ok r ≡ mem x ns
 told_by_search ns rising x r same sorted found =
     told_by rising x r (searched rising x r found (λ i j le lt. IsNonDecreasingBy-from_sort (λ (n : ℕ). n) rising sorted i j 0 le lt))
@@ -52,7 +52,7 @@ some_among ns [] i x lt is hit = absurd (omega (arith, lt))
 some_among ns (y ∷ ys) zero x lt is hit = let first : mem y ns ≡ true = subst (λ z. mem z ns ≡ true) is hit in rw first refl
 some_among ns (y ∷ ys) (suc i) x lt is hit = rw (some_among ns ys i x (omega (arith, lt)) is hit) (or-true (mem y ns))
 
--- none of one number more
+-- none of the numbers so far and of one number more is among the others
 pub none_among : (ns xs : List ℕ) (i x : ℕ) → i < length xs → x ≡ get_or xs i x → mem x ns ≡ false → list_any (λ y. mem y ns) (take i xs) ≡ false → list_any (λ y. mem y ns) (take (i + 1) xs) ≡ false
 none_among ns xs i x lt is miss none =
     list_any_more (λ y. mem y ns) xs i x lt ∙ (λ j. none j || mem (sym is j) ns) ∙ miss
@@ -105,7 +105,7 @@ out_among x rentals = sym (twice (list_any (keeps_out x) rentals)) ∙ kept_out 
 
 -- ---- listed copies
 
--- where none is unknown
+-- if none of the listed copies is unknown
 pub among_listed : (b : ℕ) (xs : List ℕ) (books : Books) (sent scrapped out : List ℕ) (away outs : Bool) → HasNumbers books → list_any (lacks (shop_of b books).copies) xs ≡ false
     → sent ≡ numbers_of b Sent books.copies → scrapped ≡ numbers_of b Scrapped books.copies → out ≡ copies_of (of b books.rentals)
     → away ≡ (list_any (λ x. mem x sent) xs || list_any (λ x. mem x scrapped) xs) → outs ≡ list_any (λ x. mem x out) xs

@@ -1,4 +1,4 @@
--- A copy is out by a rental where it isn't in stock.
+-- A copy is out by a rental exactly if it isn't in stock.
 use Rattle.shop_schema.proofs.Common.{◌≡◌, ◌∙◌, refl, sym, ap, inl, inr, ℕ, ◌+◌, Bool, true, false, not, List, [], ◌∷◌, Option, Some, None, is_some, option_to_list, list_any, cases_Bool, is_empty, Rental, keeps_out, in_stock}
 use Rattle.consign_finds.specs.Finds.{open_from}
 

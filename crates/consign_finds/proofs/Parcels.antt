@@ -31,7 +31,7 @@ few_lines : (lines : List ParcelLine) (P : List ParcelLine → Type 0) (few : Bo
 few_lines lines P true is = is
 few_lines lines P false is = tt
 
--- where each was read
+-- if each of the listed copies was read
 pub each_listed : (b : ℕ) (xs : List ℕ) (books : Books) (away outs : Bool) (lines : List ParcelLine) (told : Option (List ParcelLine))
     → ◌≡◌ {A = Bool × Bool × Bool × List (ℕ × Mark)} (false, away, outs, map seen_parcel_line lines) (listed_at b xs books) → told ≡ (if are_few lines then Some lines else None)
     → AreListed b xs (record { has_unknown = false; has_away = away; has_out = outs; lines = told }) books
@@ -40,7 +40,7 @@ each_listed b xs books away outs lines told is few = (
   rw few (few_lines lines (λ these. map seen_parcel_line these ≡ parts_at b xs books) (are_few lines) (ap (λ (p : Bool × Bool × Bool × List (ℕ × Mark)). p.3) is)),
 )
 
--- where one is unknown, no more is told
+-- if one of the listed copies is unknown, nothing more is found
 pub unknown_listed : (b : ℕ) (xs : List ℕ) (books : Books) → true ≡ list_any (lacks (shop_of b books).copies) xs
     → AreListed b xs (record { has_unknown = true; has_away = false; has_out = false; lines = None }) books
 unknown_listed b xs books is = (record { unknown = is; away = λ known. absurd (differ known); out = λ known. absurd (differ known) }, tt)
@@ -50,7 +50,7 @@ unknown_listed b xs books is = (record { unknown = is; away = λ known. absurd (
 
 -- ---- a consignment
 
--- without their numbers they are the list
+-- numbered lines without their numbers are the list
 unnumbered : {A B : Type 0} (g : A → B) (k : ℕ) (xs : List A) → map (λ (it : ℕ × A). g it.1) (numbered_from k xs) ≡ map g xs
 unnumbered g k [] = refl
 unnumbered g k (x ∷ xs) = ap (λ ys. g x ∷ ys) (unnumbered g (k + 1) xs)

@@ -1,4 +1,4 @@
-//! What is found of copies that are to be sent to another branch, and of a consignment that is to be received.
+//! Finds the copies that are to be sent to another branch, and a consignment that is to be received.
 #![tactic(auto)]
 
 ghost use Rattle.std.specs.Prelude.{◌≡◌, ℕ, [], ◌∷◌, false, not, map, IfOk};
@@ -25,7 +25,7 @@ use sql_rows::StoreFault;
 use sqlite::{Alter, Transaction};
 use std::alloc::Global;
 
-/// Whether the addressee is there, and what there is of the copies that are to be sent.
+/// Finds whether the addressee is there, and the copies that are to be sent.
 pub fn find_for_dispatch<S: Alter>(
     alloc: Global,
     tx: &mut Transaction<'_, S>,
@@ -46,7 +46,7 @@ pub fn find_for_dispatch<S: Alter>(
     })
 }
 
-/// What there is of the listed copies. Where one is unknown, the count of the branch's copies alone tells it.
+/// Finds the listed copies. Reads only the count of the branch's copies, if it shows that one of them is unknown.
 fn find_listed<S: Alter>(
     alloc: Global,
     tx: &mut Transaction<'_, S>,
@@ -70,7 +70,7 @@ fn find_listed<S: Alter>(
     }
 }
 
-/// What there is of the listed copies, all of which the branch has, each read by its number.
+/// Finds the listed copies, if the branch has all of them. Reads each by its number.
 fn find_each<S: Alter>(
     alloc: Global,
     tx: &mut Transaction<'_, S>,
@@ -99,8 +99,8 @@ fn find_each<S: Alter>(
     })
 }
 
-/// What there is of more listed copies than make a consignment, all of which the branch has: whether one is among all
-/// that are away, or among all that are out. None is read by its number, and no line is made.
+/// Finds the listed copies, if they are more than a consignment may have and the branch has all of them. Looks for each
+/// among all copies that are away, and among all copies that are out. Reads no copy by its number, and makes no line.
 fn find_among<S: Alter>(
     alloc: Global,
     tx: &mut Transaction<'_, S>,
@@ -124,7 +124,8 @@ fn find_among<S: Alter>(
     })
 }
 
-/// Whether one of the copies is among those numbers, which are put in order, so that each is found in few steps.
+/// Returns whether one of the copies is among the numbers. Puts the numbers in order, so that each copy is found in few
+/// steps.
 fn has_any(copies: &[CopyNo], numbers: Vec<CopyNo>) -> bool
     ensures { result ≡ list_any (λ copy. mem copy numbers.items) copies.now }
 {
@@ -138,7 +139,8 @@ fn has_any(copies: &[CopyNo], numbers: Vec<CopyNo>) -> bool
     false
 }
 
-/// The copy, and whether a customer has it. One that isn't there is a fault: the branch's count has it.
+/// Returns the copy, and whether a customer has the copy. Fails if the copy isn't there, since the branch's count
+/// includes it.
 fn find_one<S: Alter>(
     tx: &mut Transaction<'_, S>,
     branch: BranchNo,
@@ -155,7 +157,7 @@ fn find_one<S: Alter>(
     Ok((row, out.is_some()))
 }
 
-/// The line that the copy makes.
+/// Returns the line that the copy makes.
 fn copy_parcel(row: CopyRow) -> ParcelLine
     ensures { result ≡ copy_parcel row }
 {
@@ -165,7 +167,7 @@ fn copy_parcel(row: CopyRow) -> ParcelLine
     }
 }
 
-/// How many copies the branch has, and the consignment that is to be received.
+/// Finds how many copies the branch has, and the consignment that is to be received.
 pub fn find_for_receipt<S: Alter>(
     alloc: Global,
     tx: &mut Transaction<'_, S>,
@@ -191,7 +193,8 @@ pub fn find_for_receipt<S: Alter>(
     })
 }
 
-/// The consignment, where there is one of the key. More than 100 lines are a fault: no consignment has more.
+/// Returns the consignment with the key, if there is one. Fails if there are more than 100 lines, since no consignment
+/// has more.
 fn find_arrival<S: Alter>(
     alloc: Global,
     tx: &mut Transaction<'_, S>,
@@ -214,7 +217,7 @@ fn find_arrival<S: Alter>(
     }
 }
 
-/// The films and marks of the lines.
+/// Returns the films and marks of the lines.
 fn line_parcels(alloc: Global, rows: &[LineRow]) -> Result<Vec<ParcelLine>, StoreFault>
     ensures { IfOk result (λ lines. lines.items ≡ map line_parcel rows.now) }
 {

@@ -8,9 +8,10 @@ use Rattle.consign_store.specs.Parts.{Placed, placed_at, placed_in, all_placed, 
 use Rattle.consign_store.specs.Listed.{ListLine, shown_line, lines_of, list_lines}
 use Rattle.consign_store.proofs.Parts.{lines_are, lines_pass}
 use Rattle.consign_store.proofs.PairCounts.{picks_consignment}
+use Rattle.shop_schema.specs.Trees.{consignment_line_tree}
 
 abbrev pub with_lines : Join
-with_lines = left 37 (are_equal (col 2 1) (col 1 1) ∷ are_equal (col 2 2) (col 1 2) ∷ are_equal (col 2 3) (col 1 3) ∷ []) end
+with_lines = left consignment_line_tree (are_equal (col 2 1) (col 1 1) ∷ are_equal (col 2 2) (col 1 2) ∷ are_equal (col 2 3) (col 1 3) ∷ []) end
 
 abbrev pub list_shows : List Term
 list_shows = col 1 1 ∷ col 1 2 ∷ col 1 3 ∷ col 1 5 ∷ col 2 4 ∷ col 2 5 ∷ []
@@ -34,7 +35,7 @@ own_lines : (it : Consignment) (ls : List (ℕ × Line)) → map pair_of (map (p
 own_lines it [] = refl
 own_lines it (l ∷ ls) = ap (λ rest. l ∷ rest) (own_lines it ls)
 
--- where each key comes once, the lines of a consignment's key are its own
+-- if each key occurs once, the lines of a consignment's key are its own lines
 found_own : (cs : List Consignment) → ((s a : ℕ) → AreNumbered (λ (it : Consignment). it.source == s && it.addressee == a) (λ it. it.number) cs) → AllByRecursion (λ (it : Consignment). found cs it ≡ numbered it.lines) cs
 found_own cs counted = all_from {P = λ it. found cs it ≡ numbered it.lines} cs (λ it here. one it here)
   where
@@ -134,7 +135,7 @@ module _ (tests : List Term) (order : List (Term × Key)) (params : sql.Row) (p 
         either true = pushed (lines_of it (numbered it.lines)) (list_lines (filter p ds))
         either false = refl
 
-  -- ---- the order: by what tells consignments apart, then by line
+  -- ---- the order: by the order of consignments, then by line
 
   abbrev Climb : Output → Output → Type 0
   Climb a b = (is_eq (output_cmp q a b) ≡ false) × (is_lt (output_cmp q b a) ≡ false)

@@ -35,7 +35,7 @@ update_nothing p f same (x ∷ xs) = λ i. go (p x) i ∷ update_nothing p f sam
     go true = same x
     go false = refl
 
--- two updates of those that pass, who still do after the first
+-- two updates of the items that pass; they still pass after the first update
 module _ {X : Type 0} (p : X → Bool) (f : X → X) (stays : (x : X) → p (f x) ≡ p x) where
   pub update_twice : (g h : X → X) → ((x : X) → g (f x) ≡ h x) → (xs : List X) → update_where p g (update_where p f xs) ≡ update_where p h xs
   update_twice g h both [] = refl

@@ -15,7 +15,7 @@ abbrev pub Takes : ListKind → Page → Page → Option Listed → Listed → L
 Takes kind old new it now line done =
     HasTexts old (map (text_of kind) done) → HasTexts new (map (text_of kind) (take_line (done, it) line).0) × (◌≡◌ {A = Option Listed} (Some now) (take_line (done, it) line).1)
 
--- ---- one row more
+-- ---- one more row
 
 pub taken : (kind : ListKind) (old new : Page) (held was : Option Listed) (now : Listed) (given : List sql.Row) (row : sql.Row) → was ≡ held
     → ((line : ListLine) (done : List Listed) → row ≡ shown_line line → Takes kind old new was now line done)
@@ -51,7 +51,7 @@ ends_none kind page done it text none told on =
     let all : map (text_of kind) done ≡ map (text_of kind) (closed (done, it)) = ap (λ (o : Option Listed). map (text_of kind) (closed (done, o))) (sym none) in
     told (map (text_of kind) (closed (done, it))) (subst (HasTexts page) all on)
 
--- the whole list of consignments, where the rows are those of their lines
+-- the whole list of consignments, if the rows are the rows of their lines
 pub list_ends : (start new : ConsignmentPage) (given : List sql.Row) (text : Text) (kind : ListKind) (cs : List Consignment) → (start.kind ≡ kind) × HasConsignments start start [] → (HasConsignments start start [] → HasConsignments start new given)
     → given ≡ map shown_line (list_lines cs)
     → ((done : List Listed) → HasTexts new.page (map (text_of new.kind) done) → text ≡ array (map (text_of new.kind) (closed (done, option_map seen_listed new.consignment))))

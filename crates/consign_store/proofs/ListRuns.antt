@@ -1,4 +1,4 @@
--- Lines of consignments, of which neighbours belong together, and the texts of the lists.
+-- Lines of consignments, in which the lines of one consignment are neighbours, and the texts of the lists.
 use Rattle.shop_schema.proofs.Common.{append_assoc, ◌≡◌, ◌==◌, ◌&&◌, ◌+◌, ◌≤◌, ℕ, suc, Bool, true, false, cond, List, [], ◌∷◌, ◌++◌, map, filter, length, codes, decimal, Option, Some, None, refl, sym, ap, subst, ◌∙◌, arith, append-nil, nat_tests, numbered, numbered_from, IsCounted, AreNumbered, object, numbers_text, flag_text, Arrival, Parcel, Line, Consignment, as_arrival, as_parcel, arrivals_text, sent_text, same_test, filter_filter}
 use Rattle.shop_views.specs.Consignments.{Listed, arrival_text}
 use Rattle.shop_schema.proofs.Lists.{filter_twice}
@@ -46,7 +46,7 @@ all_listed (it ∷ cs) so_far =
     ap closed (run_append so_far (lines_of it (numbered it.lines)) (list_lines cs) ∙ ap (λ (s : Grouped). run_from s (list_lines cs)) (one_consignment it so_far it.lines))
     ∙ all_listed cs (closed so_far, Some (listed it)) ∙ append_assoc (closed so_far) (listed it ∷ []) (map listed cs)
 
--- ---- arrivals are numbered among those of one source
+-- ---- arrivals are numbered for each source
 
 pub arrivals_are : (earlier : List Arrival) (later : List Consignment)
     → ((s : ℕ) → IsCounted (length (filter (λ (other : Arrival). other.source == s) earlier) + 1) (map (λ (it : Consignment). it.number) (filter (λ (it : Consignment). it.source == s) later)))
@@ -67,7 +67,7 @@ arrivals_are earlier (it ∷ later) counted =
         rw is (subst (λ (k : ℕ). IsCounted k (map (λ (it : Consignment). it.number) (filter (λ (it : Consignment). it.source == s) later))) same all.1)
     next s false is = rw is (rw is at (counted s))
 
--- those sent among those to one addressee
+-- the consignments that were sent are numbered for each addressee
 pub parcels_are : (earlier : List Parcel) (later : List Consignment)
     → ((a : ℕ) → IsCounted (length (filter (λ (other : Parcel). other.addressee == a) earlier) + 1) (map (λ (it : Consignment). it.number) (filter (λ (it : Consignment). it.addressee == a) later)))
     → map bodies.sent_text (map listed later) ≡ sent_text earlier (map as_parcel later)
@@ -86,7 +86,7 @@ parcels_are earlier (it ∷ later) counted =
         rw is (subst (λ (k : ℕ). IsCounted k (map (λ (it : Consignment). it.number) (filter (λ (it : Consignment). it.addressee == a) later))) same all.1)
     next a false is = rw is (rw is at (counted a))
 
--- the numbers of the books are these
+-- the books number consignments so, and the texts of the arrivals are the same
 pub arrivals_text_is : (b : ℕ) (cs : List Consignment) → ((s a : ℕ) → AreNumbered (λ (it : Consignment). it.source == s && it.addressee == a) (λ it. it.number) cs)
     → map arrival_text (map listed (filter (λ (it : Consignment). it.addressee == b) cs)) ≡ arrivals_text [] (map as_arrival (filter (λ (it : Consignment). it.addressee == b) cs))
 arrivals_text_is b cs counted =

@@ -35,7 +35,7 @@ module _ (tests : List Term) (params : sql.Row) (p : Consignment → Bool) where
       (ascending_weaker (λ (x y : Consignment). x.place < y.place) _ (λ x y h. less x.place y.place h) (filter p books.consignments)
       (ascending-filter (λ (x y : Consignment). x.place < y.place) p books.consignments (places_rise books.consignments held.places)))
 
--- ---- those of which one column is the branch, which is `of` of a consignment; the premises are `refl`
+-- ---- the consignments that have the branch in one column, which is `of` of a consignment; the premises are `refl`
 
 module _ (at : ℕ) (of : Consignment → ℕ) (b : ℕ) where
   abbrev pub of_branch : List Term

@@ -1,17 +1,17 @@
--- The pairs of the books' own counts: their numbers are those of the consignments.
+-- In the books' own counts, the numbers of the pairs agree with the numbers of the consignments.
 use Rattle.shop_schema.proofs.Common.{all_weaker, append-nil, append_assoc, ◌≡◌, ◌≤◌, ◌<◌, ◌+◌, ◌^◌, ◌==◌, ◌&&◌, ℕ, suc, List, [], ◌∷◌, ◌++◌, map, filter, length, Bool, true, false, cond, refl, sym, ap, subst, ◌∙◌, arith, AllByRecursion, and_parts, nat_tests, length_push, all-filter, PicksOne, IsCounted, AreNumbered, Books, Consignment, is_consignment, between, one_more, same_if, equal_test, Pair, is_pair, count_pair, last_of, pairs_of, add_pair, counts_of, IsHeld, IsNumber, IsConsignment}
 use Rattle.std.specs.Prelude.{fold}
 use Rattle.shop_schema.proofs.Lists.{counted_once, filter_twice}
 use Rattle.consign_store.specs.Parts.{CountsPairOnce}
 
--- ---- a key comes once
+-- ---- a key occurs once
 
 pub picks_consignment : (s a n : ℕ) (cs : List Consignment) → AreNumbered (λ (it : Consignment). it.source == s && it.addressee == a) (λ it. it.number) cs → PicksOne (is_consignment s a n) cs
 picks_consignment s a n cs counted =
     subst (λ (l : List Consignment). length l ≤ 1) (sym (filter_twice (λ (it : Consignment). it.source == s && it.addressee == a) (λ it. it.number == n) cs))
     (counted_once (λ (it : Consignment). it.number) 1 (between s a cs) n counted)
 
--- ---- one consignment more
+-- ---- one more consignment
 
 pub pairs_push : (cs : List Consignment) (it : Consignment) → pairs_of (cs ++ it ∷ []) ≡ count_pair it.source it.addressee (pairs_of cs)
 pairs_push cs it = go [] cs
@@ -53,7 +53,7 @@ module _ (it : Consignment) where
       go true = length_push (between t b done) it
       go false = refl
 
-  -- two pairs are the same where one pair is both
+  -- a row that counts the pair counts another pair exactly if the two pairs are the same
   both_are : (t b : ℕ) (pair : Pair) → is_pair s a pair ≡ true → is_pair t b pair ≡ of_other t b
   both_are t b pair hit = let key = is_its s a pair hit in (λ i. (key.0 i == t) && (key.1 i == b))
 
@@ -140,7 +140,7 @@ module _ (it : Consignment) where
   all_grow : (done : List Consignment) (pairs : List Pair) → AllByRecursion (Within done) pairs → AllByRecursion (Within (done ++ it ∷ [])) pairs
   all_grow done = all_weaker (Within done) (Within (done ++ it ∷ [])) (λ pair few. let more = grows pair.source pair.addressee done in omega (arith, more, few))
 
-  -- where the pair is its own there is one more
+  -- if the pair is the consignment's own, there is one more consignment
   one_grown : (t b : ℕ) → t ≡ s → b ≡ a → (done : List Consignment) → length (between t b (done ++ it ∷ [])) ≡ length (between t b done) + 1
   one_grown t b source addressee done =
       let own : of_other t b ≡ true = (λ i. and_parts_of (equal_test s t (sym source)) (equal_test a b (sym addressee)) i) in
@@ -203,7 +203,7 @@ next_is_new s a books held =
     filter_twice (λ (it : Consignment). it.source == s && it.addressee == a) (λ it. it.number == n) books.consignments
     ∙ none_above 1 n (between s a books.consignments) (held.numbers.consignments s a) (omega arith)
 
--- ---- and they are such as one more is taken of
+-- ---- the counts of the pairs can be raised by one
 
 short_from : (k : ℕ) (cs : List Consignment) → k ≤ 2 ^ 32 → IsCounted k (map (λ (it : Consignment). it.number) cs) → AllByRecursion (λ (it : Consignment). it.number < 2 ^ 32) cs → k + length cs ≤ 2 ^ 32
 short_from k [] low counted all = omega (arith, low)

@@ -1,4 +1,4 @@
--- What the text that takes a pair's next number makes of the counts, and tells.
+-- How the statement that takes a pair's next number changes the counts, and what it returns.
 use Rattle.std.proofs.Common.{◌⊎◌}
 use Rattle.shop_schema.proofs.Common.{◌≡◌, ◌<◌, ◌+◌, ◌^◌, ◌&&◌, ◌||◌, ℕ, pos, List, [], ◌∷◌, ◌++◌, map, filter, Bool, true, false, cond, Some, inl, inr, refl, sym, ap, subst, ◌∙◌, arith, slice_get, map_push, Value, Null, Int, column, Term, lit, col, op2, Arith, Add, State, update_where, columns_of, HasRows, number_value, are_kept, number_test, number_tested, two_tested, same_number, MeansShowing, upserting, upserts_and_tells, shop_schema, pair_count_table, pair_columns, Pair, is_pair, count_pair, last_of, add_pair, IsShop, Tallies}
 use Rattle.sqlite_value.specs.Order as sql
@@ -13,6 +13,7 @@ use Rattle.consign_store.specs.declared.pairs.TheConstants.{UPSERT_PAIR}
 use Rattle.consign_store.specs.Parts.{CountsPairOnce}
 use Rattle.consign_store.proofs.ListLemmas.{unpicked}
 use Rattle.consign_store.proofs.PairCounts.{none_said}
+use Rattle.shop_schema.specs.Trees.{pair_count_tree}
 
 abbrev pair_terms : List Term
 pair_terms = lit Null ∷ col 0 0 ∷ col 0 1 ∷ lit (Int (pos 1)) ∷ []
@@ -20,7 +21,7 @@ pair_terms = lit Null ∷ col 0 0 ∷ col 0 1 ∷ lit (Int (pos 1)) ∷ []
 abbrev pair_set : List Term
 pair_set = col 1 0 ∷ col 1 0 ∷ col 1 1 ∷ col 1 2 ∷ op2 (Arith Add) (col 1 3) (lit (Int (pos 1))) ∷ []
 
--- behind two parameters
+-- the value that is shown, after two parameters
 abbrev pair_told : List Term
 pair_told = col 0 6 ∷ []
 
@@ -59,7 +60,7 @@ upsert_means : (s a : ℕ) (old new : State) (has : IsShop old)
 unfolding understood everything
 upsert_means s a old new has = record { names = _; is = refl; shows = refl; untimed = refl }
 
--- the row that has the key is the one that the clause meets
+-- the ON CONFLICT clause meets the row that has the key
 key_meets : (s a : ℕ) (id : Value) (r : sql.Row) → conflicts (Some (1 ∷ 2 ∷ [])) shop_schema.indexes pair_count_table (id ∷ pair_columns (first_pair s a)) r ≡ key_test s a (columns_of 3 r)
 unfolding everything
 key_meets s a id r = refl
@@ -96,7 +97,7 @@ pub tallies_pair : (old new : State) (s a : ℕ) (rows : List sql.Row) → Shown
 tallies_pair old new s a rows h row n some is counts books holds given =
     let it = upserts_and_tells shop_schema UPSERT_PAIR.now 20 pair_count_table 3 2 (1 ∷ 2 ∷ []) pair_terms pair_set pair_told (pair_params s a) (pair_columns (first_pair s a)) pair_columns (key_test s a) (is_pair s a)
     one_more raised_pair (λ vs. column vs 2 ∷ []) (λ pair. pair.last < 2 ^ 32) (key_tested s a) more_is more_kept old new holds.schema_is
-    (upsert_means s a old new holds.schema_is) (record { place = refl; uncounted = refl; unstamped = refl }) refl refl refl refl (λ id. refl) (key_meets s a) (own_rows old.now.trees 50)
+    (upsert_means s a old new holds.schema_is) (record { place = refl; uncounted = refl; unstamped = refl }) refl refl refl refl (λ id. refl) (key_meets s a) (own_rows old.now.trees pair_count_tree)
     (λ id r q. refl) (λ id r q. refl) (λ id r q. refl) (λ r. refl) (λ v vs. refl) (λ r. refl) rows h in
     let done = it.rows holds.keyed counts.pairs holds.stands.pairs given.small given.once in
     let told = by_end done in (
@@ -110,13 +111,13 @@ tallies_pair old new s a rows h row n some is counts books holds given =
         one_of : {x y : sql.Row} → Some x ≡ Some y → x ≡ y
         one_of e = cc
 
-    by_end : ((filter (is_pair s a) counts.pairs ≡ []) × HasRows 3 (new.now.trees 50) (map pair_columns counts.pairs ++ pair_columns (first_pair s a) ∷ []) × (rows ≡ (number_value 1 ∷ []) ∷ []))
-        ⊎ ((x : Pair) × (filter (is_pair s a) counts.pairs ≡ x ∷ []) × HasRows 3 (new.now.trees 50) (map pair_columns (update_where (is_pair s a) raised_pair counts.pairs)) × (rows ≡ (number_value (x.last + 1) ∷ []) ∷ []))
-        → HasRows 3 (new.now.trees 50) (map pair_columns (count_pair s a counts.pairs)) × (n ≡ last_of s a counts.pairs + 1)
+    by_end : ((filter (is_pair s a) counts.pairs ≡ []) × HasRows 3 (new.now.trees pair_count_tree) (map pair_columns counts.pairs ++ pair_columns (first_pair s a) ∷ []) × (rows ≡ (number_value 1 ∷ []) ∷ []))
+        ⊎ ((x : Pair) × (filter (is_pair s a) counts.pairs ≡ x ∷ []) × HasRows 3 (new.now.trees pair_count_tree) (map pair_columns (update_where (is_pair s a) raised_pair counts.pairs)) × (rows ≡ (number_value (x.last + 1) ∷ []) ∷ []))
+        → HasRows 3 (new.now.trees pair_count_tree) (map pair_columns (count_pair s a counts.pairs)) × (n ≡ last_of s a counts.pairs + 1)
     by_end (inl put) = (
-      subst (HasRows 3 (new.now.trees 50)) (sym (ap (map pair_columns) (put_last s a counts.pairs put.0) ∙ map_push pair_columns counts.pairs (first_pair s a))) put.1,
+      subst (HasRows 3 (new.now.trees pair_count_tree)) (sym (ap (map pair_columns) (put_last s a counts.pairs put.0) ∙ map_push pair_columns counts.pairs (first_pair s a))) put.1,
       first_told 1 put.2 ∙ sym (ap (λ (k : ℕ). k + 1) (none_said s a counts.pairs put.0)),
     )
     by_end (inr set) =
         let one = set_one s a counts.pairs set.0 set.1 in
-        (subst (λ (l : List Pair). HasRows 3 (new.now.trees 50) (map pair_columns l)) one.0 set.2, first_told (set.0.last + 1) set.3 ∙ ap (λ (k : ℕ). k + 1) (sym one.1))
+        (subst (λ (l : List Pair). HasRows 3 (new.now.trees pair_count_tree) (map pair_columns l)) one.0 set.2, first_told (set.0.last + 1) set.3 ∙ ap (λ (k : ℕ). k + 1) (sym one.1))

@@ -1,4 +1,4 @@
--- Lines that are put one after another behind those of their consignment.
+-- Lines that are put one after another at the end of their consignment.
 use Rattle.shop_schema.proofs.Common.{length-map, append_assoc, ◌≡◌, ◌+◌, ◌-◌, ◌<◌, ◌≤◌, ◌&&◌, ◌==◌, ℕ, List, [], ◌∷◌, ◌++◌, map, filter, length, Bool, true, false, cond, refl, sym, ap, subst, ◌∙◌, arith, append-nil, nat_le, AllByRecursion, nat_tests, filter-append, State, set_at, numbered_from, Books, Line, Consignment, is_consignment, checked, checked_line, same_test, Writes, HoldsWith}
 use Rattle.std.proofs.lemmas.List.{length-append}
 use Rattle.shop_model.specs.Rows.{update_where}
@@ -22,7 +22,7 @@ module _ (s a n : ℕ) where
       two : {x y : ℕ} {l : List ℕ} → ◌≡◌ {A = List ℕ} (x ∷ y ∷ l) (0 ∷ []) → ⊥
       two e = cc
 
-  -- the next line's number, behind those that were put
+  -- the next line's number, after the lines that were put
   pub next_line : (books : Books) (lines : List Line) (row : Placed) → row.source ≡ s → row.addressee ≡ a → row.number ≡ n → row.line ≡ length lines + 1 → HasNoLine s a n books → IsNextLine row (with_lines s a n lines books)
   next_line books lines row source addressee number line none =
       let here : map (λ (it : Consignment). length it.lines + 1) (filter its (with_lines s a n lines books).consignments) ≡ row.line ∷ [] =
@@ -31,7 +31,7 @@ module _ (s a n : ℕ) where
       (subst (λ (k : ℕ). map (λ (it : Consignment). length it.lines + 1) (filter (is_consignment row.source k n) (with_lines s a n lines books).consignments) ≡ row.line ∷ []) (sym addressee)
       (subst (λ (k : ℕ). map (λ (it : Consignment). length it.lines + 1) (filter (is_consignment k a n) (with_lines s a n lines books).consignments) ≡ row.line ∷ []) (sym source) here))
 
-  -- one line more
+  -- one more line is put at the end of the lines
   pub line_more : (books : Books) (lines : List Line) (row : Placed) → row.source ≡ s → row.addressee ≡ a → row.number ≡ n → with_line row (with_lines s a n lines books) ≡ with_lines s a n (lines ++ row.it ∷ []) books
   line_more books lines row source addressee number =
       (λ i. record books { consignments = update_where (is_consignment (source i) (addressee i) (number i)) (push_line row.it) (update_where its (put_behind lines) books.consignments) })
@@ -69,7 +69,7 @@ module _ (missing : List ℕ) where
   none_checked last at above [] = refl
   none_checked last at above (l ∷ ls) = let later : nat_le at last ≡ false = grind (arith, nat_tests) in rw later (ap (λ rest. l ∷ rest) (none_checked last (at + 1) (omega (arith, above)) ls))
 
-  -- one line more, at its place
+  -- setting one more line at its place gives the lines that are set up to `last + 1`
   one_checked : (last at m : ℕ) → 1 ≤ m → last + 2 ≡ at + m → (ls : List Line) → set_at m (put_state (state_at missing (last + 1))) (checked_from missing last at ls) ≡ checked_from missing (last + 1) at ls
   one_checked last at m low is [] = refl
   one_checked last at m low is (l ∷ ls) = go (m == 1) refl (λ lower next. one_checked last (at + 1) (m - 1) lower next ls)
@@ -138,7 +138,7 @@ module _ (missing : List ℕ) where
         → with_received s a n (with_checked_to s a n missing count books) ≡ record books { consignments = update_where keyed (checked missing) books.consignments }
     all_received count books is = ap (λ (cs : List Consignment). record books { consignments = cs }) (received_all count books.consignments (so_many count (filter keyed books.consignments) is).0)
 
--- ---- writes of which something is given
+-- ---- writes to books that fulfil a condition
 
 pub writes_given : (a b c : State) (Given Then : Books → Type 0) (f h : Books → Books) → ((books : Books) → Given books → Then (f books)) → Writes a b Given f → Writes b c Then h → Writes a c Given (λ books. h (f books))
 writes_given a b c Given Then f h goes one two = λ counts books holds given. two counts (f books) (one counts books holds given) (goes books given)

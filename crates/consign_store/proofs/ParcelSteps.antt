@@ -1,4 +1,4 @@
--- One step of a dispatch or of a receipt, and what the steps come to.
+-- One step of a dispatch or of a receipt, and what the steps result in.
 use Rattle.shop_schema.proofs.Common.{list_any, ◌≡◌, ◌+◌, ◌<◌, ◌≤◌, ◌==◌, ◌||◌, ℕ, Bool, false, List, [], ◌∷◌, ◌++◌, map, take, length, get_or, Option, Some, None, refl, sym, ap, subst, ◌∙◌, arith, ⊤, if◌then◌else◌, nat_tests, take_all, map_more, length-take-le, State, mem, Books, Line, LineState, is_consignment, checked, Writes, ParcelLine}
 use Rattle.std.proofs.lemmas.List.{length-map}
 use Rattle.shop_model.specs.Rows.{update_where}

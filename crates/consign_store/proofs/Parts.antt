@@ -152,7 +152,7 @@ module _ (s a n : ℕ) where
         go true hit = one_set it hit 1 k low (omega arith) it.lines
         go false miss = sym (none_set it miss (numbered it.lines))
 
--- a line that is put behind those of its consignment
+-- a line that is put after the other lines of its consignment
 module _ (row : Placed) where
   abbrev its : Consignment → Bool
   its = is_consignment row.source row.addressee row.number

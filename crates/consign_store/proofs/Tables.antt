@@ -7,7 +7,7 @@ module _ (counts : Counts) (books : Books) (cs : List Consignment) where
   abbrev pub now_books : Books
   now_books = record books { consignments = cs }
 
-  -- the two tables' rows, in place of those that were there
+  -- the two tables' rows in place of the old rows
   abbrev with_both : List sql.Row → List sql.Row → List (List sql.Row)
   with_both headers lines = with_rows 15 headers (with_rows 16 lines (rows_of counts books))
 

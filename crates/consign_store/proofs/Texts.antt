@@ -24,6 +24,7 @@ use Rattle.consign_store.proofs.ListLemmas.{map_stays, lists_stay}
 use Rattle.consign_store.proofs.Parts.{headers_are, lines_are, same_header, same_placed, headers_pass, picks_header, lines_pass, lines_rise, picks_placed, receive_header, headers_set, set_placed, lines_set, lines_put}
 use Rattle.consign_store.proofs.PairCounts.{picks_consignment}
 use Rattle.consign_store.proofs.Tables.{with_headers, with_its_lines, headers_changed, lines_changed}
+use Rattle.shop_schema.specs.Trees.{consignment_line_tree, consignment_tree, copy_tree}
 
 abbrev pub key_params : ℕ → ℕ → ℕ → sql.Row
 key_params s a n = number_value s ∷ number_value a ∷ number_value n ∷ []
@@ -38,15 +39,15 @@ placed_tested : (s a n : ℕ) (it : Placed) → has_key s a n (placed_columns it
 placed_tested s a n it = three_tested _ _ _ (number_tested it.source s) (number_tested it.addressee a) (number_tested it.number n)
 
 -- the two tables, as lists of the books
-headers_stand : (old : State) (books : Books) → StandsFor old.now.trees books → HasRows 5 (old.now.trees 34) (map header_columns (map header_of books.consignments))
-headers_stand old books s = subst (HasRows 5 (old.now.trees 34)) (headers_are books.consignments) s.consignments
+headers_stand : (old : State) (books : Books) → StandsFor old.now.trees books → HasRows 5 (old.now.trees consignment_tree) (map header_columns (map header_of books.consignments))
+headers_stand old books s = subst (HasRows 5 (old.now.trees consignment_tree)) (headers_are books.consignments) s.consignments
 
-lines_stand : (old : State) (books : Books) → StandsFor old.now.trees books → HasRows 8 (old.now.trees 37) (map placed_columns (all_placed books.consignments))
-lines_stand old books s = subst (HasRows 8 (old.now.trees 37)) (lines_are books.consignments) s.lines
+lines_stand : (old : State) (books : Books) → StandsFor old.now.trees books → HasRows 8 (old.now.trees consignment_line_tree) (map placed_columns (all_placed books.consignments))
+lines_stand old books s = subst (HasRows 8 (old.now.trees consignment_line_tree)) (lines_are books.consignments) s.lines
 
 -- ---- reads of headers
 
-select_header_means : Selects shop_schema SELECT_HEADER.now (plain_query 34 of_three (cols 1 1 5) [])
+select_header_means : Selects shop_schema SELECT_HEADER.now (plain_query consignment_tree of_three (cols 1 1 5) [])
 unfolding understood everything
 select_header_means = record { names = _; is = refl; plain = (refl, refl); unlisted = refl }
 
@@ -61,7 +62,7 @@ read_header seen old new s a n rows o h read = λ books holds held.
     let few = picks_header s a n cs (once_held s a n books held) in
     let found : rows ≡ map header_columns (filter (is_header s a n) (map header_of cs)) =
     selects_one shop_schema SELECT_HEADER.now 34 5 of_three (cols 1 1 5) [] select_header_means (key_params s a n) old new rows holds.schema_is h header_columns (map header_of cs)
-    (headers_stand old books holds.stands) (own_rows old.now.trees 34) (has_key s a n) (is_header s a n) (header_tested s a n) (λ r. refl) few in
+    (headers_stand old books holds.stands) (own_rows old.now.trees consignment_tree) (has_key s a n) (is_header s a n) (header_tested s a n) (λ r. refl) few in
     let short : length rows ≤ 1 = subst (λ (k : ℕ). k ≤ 1) (sym (ap length found ∙ length-map header_columns (filter (is_header s a n) (map header_of cs)))) few in (
       still_holds shop_schema StandsFor SELECT_HEADER.now _ old new select_header_means.plain rows h books holds,
       option_list seen o
@@ -83,7 +84,7 @@ read_place old new rows slice (Ok n) h same first =
 
 -- ---- reads of lines
 
-select_lines_means : Selects shop_schema SELECT_LINES.now (plain_query 37 of_three (cols 1 1 8) ((col 1 4, ascending Binary) ∷ []))
+select_lines_means : Selects shop_schema SELECT_LINES.now (plain_query consignment_line_tree of_three (cols 1 1 8) ((col 1 4, ascending Binary) ∷ []))
 unfolding understood everything
 select_lines_means = record { names = _; is = refl; plain = (refl, refl); unlisted = refl }
 
@@ -96,7 +97,7 @@ read_lines seen old new s a n rows all h read = λ books holds held.
     let rise = lines_rise s a n its (once_held s a n books held) in
     let found : rows ≡ map placed_columns (sort_by (by (λ (row : Placed). row.line)) (filter (is_within s a n) (all_placed cs))) =
     selects_sorted shop_schema SELECT_LINES.now 37 8 of_three (cols 1 1 8) 3 select_lines_means (key_params s a n) old new rows holds.schema_is h placed_columns (all_placed cs)
-    (lines_stand old books holds.stands) (own_rows old.now.trees 37) (has_key s a n) (is_within s a n) (placed_tested s a n) (λ r. refl) (λ row. row.line) (λ row. refl)
+    (lines_stand old books holds.stands) (own_rows old.now.trees consignment_line_tree) (has_key s a n) (is_within s a n) (placed_tested s a n) (λ r. refl) (λ row. row.line) (λ row. refl)
     (rise_differ (λ (row : Placed). row.line) _ (subst (IsAscending (λ (x y : Placed). x.line < y.line)) (sym mine) rise)) in (
       still_holds shop_schema StandsFor SELECT_LINES.now _ old new select_lines_means.plain rows h books holds,
       unmapped placed_columns same_placed _ _
@@ -109,7 +110,7 @@ read_lines seen old new s a n rows all h read = λ books holds held.
 abbrev pub mark_params : Mark → sql.Row
 mark_params mark = number_value mark.branch ∷ number_value mark.copy ∷ []
 
-select_copies_means : Selects shop_schema SELECT_COPIES.now (plain_query 25 (equals 0 (5 ∷ 6 ∷ [])) (cols 1 1 6) [])
+select_copies_means : Selects shop_schema SELECT_COPIES.now (plain_query copy_tree (equals 0 (5 ∷ 6 ∷ [])) (cols 1 1 6) [])
 unfolding understood everything
 select_copies_means = record { names = _; is = refl; plain = (refl, refl); unlisted = refl }
 
@@ -130,12 +131,12 @@ read_copies seen old new mark rows all h read kinds = λ books holds held.
     let p : Row BookCopy → Bool = λ row. is_mark mark row.it.mark in
     let found : IsPermutation (map copy_columns (filter p books.copies)) rows =
     selects_bag shop_schema SELECT_COPIES.now 25 6 (equals 0 (5 ∷ 6 ∷ [])) (cols 1 1 6) [] select_copies_means (mark_params mark) old new rows holds.schema_is h copy_columns books.copies
-    holds.stands.copies (own_rows old.now.trees 25) (λ vs. number_test 4 mark.branch vs && (number_test 5 mark.copy vs && true)) p (λ row. mark_tested mark row.it.mark 4 5 (copy_columns row) refl refl) (λ r. refl) in (
+    holds.stands.copies (own_rows old.now.trees copy_tree) (λ vs. number_test 4 mark.branch vs && (number_test 5 mark.copy vs && true)) p (λ row. mark_tested mark row.it.mark 4 5 (copy_columns row) refl refl) (λ r. refl) in (
       still_holds shop_schema StandsFor SELECT_COPIES.now _ old new select_copies_means.plain rows h books holds,
       seen_bag copy_columns (IsRow IsCopy) (same_row table.copies) seen (filter p books.copies) rows all (all-filter (IsRow IsCopy) p books.copies (held.values.rows CopyRows)) kinds found read,
     )
 
-select_marked_means : Selects shop_schema SELECT_MARKED.now (plain_query 37 (equals 0 (6 ∷ 7 ∷ [])) (cols 1 1 8) [])
+select_marked_means : Selects shop_schema SELECT_MARKED.now (plain_query consignment_line_tree (equals 0 (6 ∷ 7 ∷ [])) (cols 1 1 8) [])
 unfolding understood everything
 select_marked_means = record { names = _; is = refl; plain = (refl, refl); unlisted = refl }
 
@@ -145,7 +146,7 @@ read_marked seen old new mark rows all h read = λ books holds held.
     let p : Placed → Bool = λ row. is_mark mark row.it.mark in
     let found : IsPermutation (map placed_columns (filter p (all_placed books.consignments))) rows =
     selects_bag shop_schema SELECT_MARKED.now 37 8 (equals 0 (6 ∷ 7 ∷ [])) (cols 1 1 8) [] select_marked_means (mark_params mark) old new rows holds.schema_is h placed_columns (all_placed books.consignments)
-    (lines_stand old books holds.stands) (own_rows old.now.trees 37) (λ vs. number_test 5 mark.branch vs && (number_test 6 mark.copy vs && true)) p (λ row. mark_tested mark row.it.mark 5 6 (placed_columns row) refl refl) (λ r. refl) in (
+    (lines_stand old books holds.stands) (own_rows old.now.trees consignment_line_tree) (λ vs. number_test 5 mark.branch vs && (number_test 6 mark.copy vs && true)) p (λ row. mark_tested mark row.it.mark 5 6 (placed_columns row) refl refl) (λ r. refl) in (
       still_holds shop_schema StandsFor SELECT_MARKED.now _ old new select_marked_means.plain rows h books holds,
       seen_bag placed_columns (λ _. ⊤) (λ a b _ _. same_placed a b) seen (filter p (all_placed books.consignments)) rows all (all_of (λ _. ⊤) (λ _. tt) (filter p (all_placed books.consignments))) (all_of (λ _. ⊤) (λ _. tt) all) found read,
     )
@@ -166,7 +167,7 @@ puts_header old new it =
 abbrev received_terms : List Term
 received_terms = col 1 0 ∷ col 1 0 ∷ replaced 4 (lit (Int (pos 1))) (cols 1 1 5)
 
-update_received_means : Means shop_schema UPDATE_RECEIVED.now (Update 15 (record { lets = []; body = plain_query 34 of_three received_terms [] }))
+update_received_means : Means shop_schema UPDATE_RECEIVED.now (Update 15 (record { lets = []; body = plain_query consignment_tree of_three received_terms [] }))
 unfolding understood everything
 update_received_means = record { is = refl; plain = (refl, refl) }
 
@@ -177,14 +178,14 @@ pub sets_received : (old new : State) (s a n : ℕ) (count : ℕ) → ExecutesIn
 sets_received old new s a n count h counts = writes_by shop_schema (StandsWith counts) old new (IsOnce s a n) (with_received s a n) (λ has.
     sets_row shop_schema (StandsWith counts) UPDATE_RECEIVED.now 15 consignment_table 5 of_three received_terms (key_params s a n) header_columns
     (has_key s a n) (is_header s a n) columns_received (receive_header s a n) (header_tested s a n) (λ it. refl) (λ it. refl) old new has
-    update_received_means refl refl count h (own_rows old.now.trees 34) (λ r. refl) (λ r. refl) (λ r. refl) (λ r. refl) (λ v vs. refl) (IsOnce s a n) (with_received s a n)
+    update_received_means refl refl count h (own_rows old.now.trees consignment_tree) (λ r. refl) (λ r. refl) (λ r. refl) (λ r. refl) (λ v vs. refl) (IsOnce s a n) (with_received s a n)
     (λ books same st few sets.
     let cs = books.consignments in
     let its = is_consignment s a n in
-    let was : HasRows 5 (old.now.trees 34) (map header_columns (map header_of cs)) = subst (HasRows 5 (old.now.trees 34)) (headers_are cs) st.consignments in
+    let was : HasRows 5 (old.now.trees consignment_tree) (map header_columns (map header_of cs)) = subst (HasRows 5 (old.now.trees consignment_tree)) (headers_are cs) st.consignments in
     let now = sets (map header_of cs) was (picks_header s a n cs few) in
-    let rows : HasRows 5 (new.now.trees 34) (map consignment_columns (update_where its receive cs)) =
-    subst (HasRows 5 (new.now.trees 34)) (sym (headers_are (update_where its receive cs) ∙ ap (map header_columns) (headers_set s a n cs))) now in
+    let rows : HasRows 5 (new.now.trees consignment_tree) (map consignment_columns (update_where its receive cs)) =
+    subst (HasRows 5 (new.now.trees consignment_tree)) (sym (headers_are (update_where its receive cs) ∙ ap (map header_columns) (headers_set s a n cs))) now in
     headers_changed counts books (update_where its receive cs) old.now.trees new.now.trees (lists_stay line_rows its receive (λ it. refl) cs) same st rows))
 
 -- ---- writes of lines
@@ -217,7 +218,7 @@ of_line = equals 0 (1 ∷ 2 ∷ 3 ∷ 4 ∷ [])
 abbrev state_terms : List Term
 state_terms = col 1 0 ∷ col 1 0 ∷ replaced 7 (col 0 4) (cols 1 1 8)
 
-update_line_means : Means shop_schema UPDATE_LINE.now (Update 16 (record { lets = []; body = plain_query 37 of_line state_terms [] }))
+update_line_means : Means shop_schema UPDATE_LINE.now (Update 16 (record { lets = []; body = plain_query consignment_line_tree of_line state_terms [] }))
 unfolding understood everything
 update_line_means = record { is = refl; plain = (refl, refl) }
 
@@ -247,12 +248,12 @@ pub sets_line : (old new : State) (s a n k : ℕ) (state : LineState) (count : �
 sets_line old new s a n k state count low h counts = writes_by shop_schema (StandsWith counts) old new (IsOnce s a n) (with_state s a n k state) (λ has.
     sets_row shop_schema (StandsWith counts) UPDATE_LINE.now 16 consignment_line_table 8 of_line state_terms (line_params s a n k state) placed_columns
     (has_line s a n k) (is_placed s a n k) (columns_state state) (set_placed s a n k state) (line_tested s a n k) (λ row. refl) (kept_state state) old new has
-    update_line_means refl refl count h (own_rows old.now.trees 37) (λ r. refl) (λ r. refl) (λ r. refl) (λ r. refl) (λ v vs. refl) (IsOnce s a n) (with_state s a n k state)
+    update_line_means refl refl count h (own_rows old.now.trees consignment_line_tree) (λ r. refl) (λ r. refl) (λ r. refl) (λ r. refl) (λ v vs. refl) (IsOnce s a n) (with_state s a n k state)
     (λ books same st few sets.
     let cs = books.consignments in
     let its = is_consignment s a n in
-    let was : HasRows 8 (old.now.trees 37) (map placed_columns (all_placed cs)) = subst (HasRows 8 (old.now.trees 37)) (lines_are cs) st.lines in
+    let was : HasRows 8 (old.now.trees consignment_line_tree) (map placed_columns (all_placed cs)) = subst (HasRows 8 (old.now.trees consignment_line_tree)) (lines_are cs) st.lines in
     let now = sets (all_placed cs) was (picks_placed s a n k cs few) in
-    let rows : HasRows 8 (new.now.trees 37) (flat_map line_rows (update_where its (set_state k state) cs)) =
-    subst (HasRows 8 (new.now.trees 37)) (sym (lines_are (update_where its (set_state k state) cs) ∙ ap (map placed_columns) (lines_set s a n k state low cs))) now in
+    let rows : HasRows 8 (new.now.trees consignment_line_tree) (flat_map line_rows (update_where its (set_state k state) cs)) =
+    subst (HasRows 8 (new.now.trees consignment_line_tree)) (sym (lines_are (update_where its (set_state k state) cs) ∙ ap (map placed_columns) (lines_set s a n k state low cs))) now in
     lines_changed counts books (update_where its (set_state k state) cs) old.now.trees new.now.trees (map_stays consignment_columns its (set_state k state) (λ it. refl) cs) same st rows))

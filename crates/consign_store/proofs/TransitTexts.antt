@@ -63,7 +63,7 @@ shows_transit old new rows books shop h s held =
     old new rows books shop h s held.numbers.consignments (sorted_by goes_before open_ones) (sorted_bag goes_before open_ones)
     (sorted_up open_ones (ascending-filter Apart is_open books.consignments (keys_apart books.consignments held.numbers.consignments)))
 
--- each as the list of all has it
+-- both definitions of a consignment's text give the same text
 pub transit_are : (cs : List Consignment) → map bodies.transit_text (map listed cs) ≡ map transit_text (map (λ (it : Consignment). (it.source, it.addressee, it.number, map (λ line. line.film) it.lines)) cs)
 transit_are [] = refl
 transit_are (it ∷ cs) = ap (λ rest. bodies.transit_text (listed it) ∷ rest) (transit_are cs)

@@ -1,4 +1,4 @@
--- Lists of consignments, whose neighbouring rows belong together: what a join shows of them, and the consignments that its rows make.
+-- Defines lists of consignments: what a join shows of consignments, and which consignments its rows make. Neighbouring rows belong to one consignment.
 use Rattle.std.specs.Prelude.{◌≡◌, ◌==◌, ℕ, Bool, true, not, if◌then◌else◌, List, [], ◌∷◌, ◌++◌, map, filter, flat_map, Option, Some, None, option_map}
 use Rattle.serde_json.specs.Data.{Data}
 use Rattle.sqlite.specs.Values.{or_null}
@@ -26,7 +26,7 @@ shown_line line =
     number_value line.0.source ∷ number_value line.0.addressee ∷ number_value line.0.number ∷ flag_value line.0.received
     ∷ or_null (λ (l : ℕ × Line). number_value l.0) line.1 ∷ or_null (λ (l : ℕ × Line). number_value l.1.film) line.1 ∷ []
 
--- one row a line, and one where there is none
+-- one row for each line, or one row if there is no line
 abbrev pub lines_of : Consignment → List (ℕ × Line) → List ListLine
 lines_of it [] = (it, None) ∷ []
 lines_of it (l ∷ ls) = map (λ line. (it, Some line)) (l ∷ ls)
@@ -39,7 +39,7 @@ list_lines consignments = flat_map (λ (it : Consignment). lines_of it (numbered
 abbrev pub listed : Consignment → Listed
 listed it = record { source = it.source; addressee = it.addressee; number = it.number; received = it.received; films = map (λ (l : Line). l.film) it.lines }
 
--- the first line, or none: it begins a consignment
+-- a row with the first line, or with no line, begins a consignment
 abbrev pub is_first : Option (ℕ × Line) → Bool
 is_first None = true
 is_first (Some l) = l.0 == 1
@@ -51,7 +51,7 @@ films_of (Some l) = l.1.film ∷ []
 abbrev pub begun : ListLine → Listed
 begun line = record { source = line.0.source; addressee = line.0.addressee; number = line.0.number; received = line.0.received; films = films_of line.1 }
 
--- the consignments that are complete, and the one that more rows may belong to
+-- the consignments that are complete, and the consignment that more rows may belong to
 abbrev pub Grouped : Type 0
 Grouped = List Listed × Option Listed
 
@@ -85,14 +85,14 @@ text_of kind.Arrivals it = arrival_text it
 text_of kind.Sent it = sent_text it
 text_of kind.Transit it = transit_text it
 
--- the page has the complete consignments of these rows, and the last one is at hand
+-- the page has the texts of the rows' complete consignments, and `consignment` is the last one
 abbrev pub HasConsignments : ConsignmentPage → ConsignmentPage → List sql.Row → Type 0
 HasConsignments start it given =
     (it.kind ≡ start.kind)
     × ((lines : List ListLine) → given ≡ map shown_line lines
     → HasTexts it.page (map (text_of start.kind) (runs lines).0) × (option_map seen_listed it.consignment ≡ (runs lines).1))
 
--- what head office is shown of the consignments that aren't received, by sender, addressee and number: the list that `office_look Transit` has
+-- what head office is shown of the consignments that aren't received, by sender, addressee and number: the list of `office_look Transit`
 abbrev pub under_way : Books → List (ℕ × ℕ × ℕ × List ℕ)
 under_way books =
     map (λ (it : Consignment). (it.source, it.addressee, it.number, map (λ line. line.film) it.lines)) (sorted_by goes_before (filter (λ (it : Consignment). not it.received) books.consignments))

@@ -1,4 +1,4 @@
--- Whole consignments: what a dispatch adds, and what a receipt sets.
+-- Defines what a dispatch adds as a whole consignment, and what a receipt sets in one.
 use Rattle.std.specs.Prelude.{◌≡◌, ◌∷◌, ◌++◌, ◌+◌, ℕ, nat_le, if◌then◌else◌, false, List, [], map, filter, length}
 use Rattle.shop_model.specs.Rows.{update_where, mem}
 use Rattle.shop_model.specs.Books.{Books, Line, LineState, UnderWay, Arrived, Missing, Consignment, is_consignment}
@@ -13,7 +13,7 @@ sent_line line = record { film = line.film; mark = seen_mark line.mark; state = 
 abbrev pub IsNewKey : ℕ → ℕ → ℕ → Books → Type 0
 IsNewKey source addressee number books = filter (is_consignment source addressee number) books.consignments ≡ []
 
--- one consignment has the key, and it has so many lines
+-- one consignment has the key, and the consignment has `count` lines
 abbrev pub HasSoMany : ℕ → ℕ → ℕ → ℕ → Books → Type 0
 HasSoMany source addressee number count books = map (λ (it : Consignment). length it.lines) (filter (is_consignment source addressee number) books.consignments) ≡ count ∷ []
 
@@ -29,11 +29,11 @@ with_lines source addressee number lines books = record books { consignments = u
 abbrev pub sent_off : ℕ → ℕ → ℕ → ℕ → List Line → Consignment
 sent_off source addressee number place lines = record { source = source; addressee = addressee; number = number; place = place; received = false; lines = lines }
 
--- what becomes of a line, where these are missing
+-- the state of a line after a receipt with the given missing lines
 abbrev pub state_at : List ℕ → ℕ → LineState
 state_at missing line = if mem line missing then Missing else Arrived
 
--- the lines up to this one are set, and the others are as they were
+-- the lines up to `last` are set, and the others are as they were
 abbrev pub checked_from : List ℕ → ℕ → ℕ → List Line → List Line
 checked_from missing last at [] = []
 checked_from missing last at (l ∷ ls) = (if nat_le at last then record l { state = state_at missing at } else l) ∷ checked_from missing last (at + 1) ls

@@ -1,4 +1,4 @@
--- Consignments as their two tables have them, what the statements make of them, and of which books they may be run.
+-- Defines consignments as they are in their two tables, what the statements do to them, and for which books the statements may run.
 use Rattle.std.specs.Prelude.{◌≡◌, ◌<◌, ◌==◌, ◌&&◌, ◌+◌, ◌^◌, ℕ, Bool, true, List, [], ◌∷◌, ◌++◌, map, filter, flat_map, length}
 use Rattle.std.specs.List.{AllByRecursion}
 use Rattle.sqlite_value.specs.Order as sql
@@ -23,7 +23,7 @@ header_of it = record { source = it.source; addressee = it.addressee; number = i
 abbrev pub header_columns : Header → sql.Row
 header_columns it = number_value it.source ∷ number_value it.addressee ∷ number_value it.number ∷ number_value it.place ∷ flag_value it.received ∷ []
 
--- with no line
+-- a consignment with no line
 abbrev pub opened : Header → Consignment
 opened it = record { source = it.source; addressee = it.addressee; number = it.number; place = it.place; received = it.received; lines = [] }
 
@@ -67,7 +67,7 @@ is_placed source addressee number line it = is_within source addressee number it
 abbrev pub IsOnce : ℕ → ℕ → ℕ → Books → Type 0
 IsOnce source addressee number books = PicksOne (is_consignment source addressee number) books.consignments
 
--- one consignment has the key of the line, and the line's number is one more than it has lines
+-- one consignment has the line's key, and the line's number is one more than the count of the consignment's lines
 abbrev pub IsNextLine : Placed → Books → Type 0
 IsNextLine row books = map (λ (it : Consignment). length it.lines + 1) (filter (is_consignment row.source row.addressee row.number) books.consignments) ≡ row.line ∷ []
 
@@ -95,7 +95,7 @@ with_state source addressee number line state books =
 
 -- ---- counts
 
--- the pair has at most one row, and no row's count is so great that one more is no number of 64 bits
+-- the pair has at most one row, and the count of each row is below 2 ^ 32, so that one more fits 64 bits
 pub record CountsPairOnce (source addressee : ℕ) (counts : Counts) : Type 0 where
   pub once : PicksOne (is_pair source addressee) counts.pairs
   pub small : AllByRecursion (λ pair. pair.last < 2 ^ 32) counts.pairs

@@ -46,7 +46,7 @@ impl Stored for HeaderRow {
 }
 
 impl HeaderRow {
-    /// The columns in order, as parameters.
+    /// Returns the columns in order, as parameters.
     fn values(&self) -> [ValueRef<'static>; 5]
         ensures { bound result ≡ header_columns (seen_header self.now) }
     {
@@ -60,7 +60,7 @@ impl HeaderRow {
     }
 }
 
-/// The place in the first column of the first row, or 0 where there is no row.
+/// Returns the place in the first column of the first row, or 0 if there is no row.
 fn first_place(rows: &[Row]) -> Result<u64, StoreFault>
     ensures { IfOk result (IsFirstNumber rows.now) }
 {
@@ -75,8 +75,8 @@ fn first_place(rows: &[Row]) -> Result<u64, StoreFault>
 
 const SELECT_PLACE: &str = "SELECT place FROM consignment ORDER BY place DESC LIMIT 1";
 
-/// The place of the last consignment of the chain, or 0 where there is none. Places count from 1 without a gap, so it
-/// is how many there are.
+/// Returns the place of the last consignment of the chain, or 0 if there is none. Places count from 1 without a gap, so
+/// the last place is the count of consignments.
 pub fn last_place<S: Alter>(tx: &mut Transaction<'_, S>) -> Result<u64, StoreFault>
     ensures { DoesInside S.Store tx.old.conn tx.new.conn result
         (λ last. Finds (λ books. last ≡ length books.consignments)) }
@@ -88,7 +88,7 @@ pub fn last_place<S: Alter>(tx: &mut Transaction<'_, S>) -> Result<u64, StoreFau
 const SELECT_HEADER: &str =
     "SELECT source, addressee, number, place, received FROM consignment WHERE source = ?1 AND addressee = ?2 AND number = ?3";
 
-/// The consignment, without its lines, if there is one of the key.
+/// Returns the consignment of the key, without its lines, or none if there is no such consignment.
 pub fn header_at<S: Alter>(
     tx: &mut Transaction<'_, S>,
     key: &ConsignmentKey,
@@ -123,8 +123,8 @@ pub fn put_header<S: Alter>(tx: &mut Transaction<'_, S>, row: &HeaderRow) -> Res
 const UPDATE_RECEIVED: &str =
     "UPDATE consignment SET received = 1 WHERE source = ?1 AND addressee = ?2 AND number = ?3";
 
-/// Sets that the consignment is received. One that isn't there is not made. After a fault the transaction may be
-/// rolled back.
+/// Sets that the consignment is received. A consignment that isn't there is not made. After a fault the transaction
+/// may be rolled back.
 pub fn set_received<S: Alter>(
     tx: &mut Transaction<'_, S>,
     key: &ConsignmentKey,

@@ -1,8 +1,8 @@
-//! Which consignment.
+//! The key of a consignment.
 
 use shop_types::{BranchNo, ConsignmentNo};
 
-/// Which consignment: its number is among those of its sender to its addressee.
+/// The key of a consignment. The number counts the consignments of its sender to its addressee.
 #[derive(Clone, Copy)]
 pub struct ConsignmentKey {
     pub source: BranchNo,

@@ -1,7 +1,8 @@
-//! Consignments: their numbers, their places in the order of dispatch, their headers and their lines, one function a
-//! statement; whole consignments, as a dispatch adds one and a receipt sets it; and where the copies of a mark are.
-//! Each works inside a transaction of the caller's, and tells what it found or made of the books that the tables
-//! stand for. The lists of consignments are read row by row, outside any transaction.
+//! Reads and writes consignments: their numbers, their places in the order of dispatch, their headers and their lines.
+//! Each statement has one function. Other functions add a whole consignment at a dispatch, set one at a receipt, and
+//! find where the copies of a mark are. Each function works inside a transaction of the caller. Its contract says what
+//! it found or changed in the books that the tables stand for. The lists of consignments are read row by row, outside
+//! any transaction.
 #![tactic(auto)]
 
 mod headers;

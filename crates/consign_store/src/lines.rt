@@ -1,4 +1,4 @@
-//! The lines of consignments, each with its number there.
+//! The lines of consignments, each with its number in its consignment.
 
 ghost use Rattle.std.specs.Prelude.{◌≡◌, ◌<◌, ⊤, filter, flat_map, map};
 ghost use Rattle.sqlite.specs.Values.{bound};
@@ -18,7 +18,7 @@ use sqlite::types::{ToSql, ValueRef};
 use sqlite::{Alter, Row, Transaction};
 use std::alloc::Global;
 
-/// A line of a consignment, by its number there.
+/// A line of a consignment, with its number there.
 #[derive(Clone, Copy, Drop)]
 pub struct LineRow {
     pub key: ConsignmentKey,
@@ -51,7 +51,7 @@ impl Stored for LineRow {
 }
 
 impl LineRow {
-    /// The columns in order, as parameters.
+    /// Returns the columns in order, as parameters.
     fn values(&self) -> [ValueRef<'static>; 8]
         ensures { bound result ≡ placed_columns (seen_line self.now) }
     {
@@ -71,7 +71,7 @@ impl LineRow {
 const SELECT_LINES: &str =
     "SELECT source, addressee, number, line, film, origin_branch, origin_copy, state FROM consignment_line WHERE source = ?1 AND addressee = ?2 AND number = ?3 ORDER BY line";
 
-/// The lines of the consignment, in their order. After a fault the transaction may be rolled back.
+/// Returns the lines of the consignment, in their order. After a fault the transaction may be rolled back.
 pub fn lines_of<S: Alter>(
     alloc: Global,
     tx: &mut Transaction<'_, S>,
@@ -96,7 +96,7 @@ pub fn lines_of<S: Alter>(
 const INSERT_LINE: &str =
     "INSERT INTO consignment_line (source, addressee, number, line, film, origin_branch, origin_copy, state) VALUES (?1, ?2, ?3, ?4, ?5, ?6, ?7, ?8)";
 
-/// Adds the line behind those that its consignment has. After a fault the transaction may be rolled back.
+/// Adds the line after the lines that its consignment has. After a fault the transaction may be rolled back.
 pub fn put_line<S: Alter>(tx: &mut Transaction<'_, S>, row: &LineRow) -> Result<(), StoreFault>
     ensures { DoesInside S.Store tx.old.conn tx.new.conn result
         (λ _. Stores (IsNextLine (seen_line row.now)) (with_line (seen_line row.now))) }
@@ -107,7 +107,7 @@ pub fn put_line<S: Alter>(tx: &mut Transaction<'_, S>, row: &LineRow) -> Result<
 const UPDATE_LINE: &str =
     "UPDATE consignment_line SET state = ?5 WHERE source = ?1 AND addressee = ?2 AND number = ?3 AND line = ?4";
 
-/// Sets what became of the line. One that isn't there is not made. After a fault the transaction may be rolled back.
+/// Sets the state of the line. A line that isn't there is not made. After a fault the transaction may be rolled back.
 pub fn set_line<S: Alter>(
     tx: &mut Transaction<'_, S>,
     key: &ConsignmentKey,

@@ -1,5 +1,5 @@
-//! The lists of consignments, row by row, outside any transaction: neighbouring rows of one join belong to one
-//! consignment, and a first line begins the next.
+//! Reads the lists of consignments row by row, outside any transaction. Neighbouring rows of one join belong to one
+//! consignment, and a first line begins the next consignment.
 
 ghost use Rattle.std.specs.Prelude.{◌≡◌, List, [], ◌∷◌, ◌++◌, Option, Some, IfOk, OnOk, map, option_map, string_bytes};
 ghost use Rattle.serde_json.specs.View.{view};
@@ -27,7 +27,7 @@ use sqlite::types::ToSql;
 use sqlite::{Alter, Connection, Row};
 use std::alloc::{AllocError, Global};
 
-/// Which list of consignments is made.
+/// The kind of list of consignments.
 #[derive(Clone, Copy)]
 pub(crate) enum ListKind {
     Arrivals,
@@ -35,7 +35,7 @@ pub(crate) enum ListKind {
     Transit,
 }
 
-/// Whether the row begins a consignment: it has the first line or none.
+/// Returns whether the row begins a consignment, which is so if the row has the first line or no line.
 fn is_first(row: &Row) -> Result<bool, StoreFault>
     ensures { IfOk result (λ is. (line : ListLine) → row.now ≡ shown_line line → is ≡ is_first line.1) }
 {
@@ -46,7 +46,7 @@ fn is_first(row: &Row) -> Result<bool, StoreFault>
     }
 }
 
-/// The consignment of the row, with no film.
+/// Reads the consignment of the row, with no film.
 fn bare(alloc: Global, row: &Row) -> Result<ListedConsignment, StoreFault>
     ensures bare { IfOk result (λ it. (line : ListLine) → row.now ≡ shown_line line
         → record (seen_listed it) { films = films_of line.1 } ≡ begun line) }
@@ -61,7 +61,7 @@ fn bare(alloc: Global, row: &Row) -> Result<ListedConsignment, StoreFault>
     })
 }
 
-/// The consignment with the row's film.
+/// Adds the row's film to the consignment.
 fn with_film(it: ListedConsignment, row: &Row) -> Result<ListedConsignment, StoreFault>
     ensures { IfOk result (λ now. (line : ListLine) → row.now ≡ shown_line line
         → seen_listed now ≡ with_film (seen_listed it) line.1) }
@@ -76,7 +76,7 @@ fn with_film(it: ListedConsignment, row: &Row) -> Result<ListedConsignment, Stor
     Ok(it)
 }
 
-/// The consignment as the list has it.
+/// Makes the list's entry for the consignment.
 fn value_of(alloc: Global, kind: ListKind, it: &ListedConsignment) -> Result<Value, AllocError>
     ensures { IfOk result (λ v. IsRow (data_of kind) (text_of kind) (seen_listed it.now) (view v)) }
 {
@@ -87,7 +87,7 @@ fn value_of(alloc: Global, kind: ListKind, it: &ListedConsignment) -> Result<Val
     }
 }
 
-/// Puts the consignment last.
+/// Puts the consignment at the end of the page.
 fn add(
     alloc: Global,
     kind: ListKind,
@@ -101,8 +101,8 @@ fn add(
     page.add(&value)
 }
 
-/// The consignment of the row with the row's film. The one of the rows before, if the row begins another, goes on the
-/// page.
+/// Returns the consignment of the row with the row's film. If the row begins another consignment, the consignment of
+/// the rows before is put on the page.
 fn next(
     alloc: Global,
     kind: ListKind,
@@ -126,7 +126,7 @@ fn next(
     }
 }
 
-/// The list of consignments, so far, and the one that isn't on it yet.
+/// The list of consignments so far, and the consignment that isn't on it yet.
 #[derive(Drop)]
 pub(crate) struct ConsignmentPage {
     page: ListPage,
@@ -145,7 +145,7 @@ impl TakesRows for ConsignmentPage {
     }
 }
 
-/// The text of the list with the last consignment.
+/// Returns the text of the list with the last consignment.
 fn finish(taker: ConsignmentPage) -> Result<String, AllocError>
     ensures { IfOk result (λ s. (done : List Listed) → HasTexts taker.page (map (text_of taker.kind) done)
         → string_bytes s ≡ array (map (text_of taker.kind) (closed (done, option_map seen_listed taker.consignment)))) }
@@ -165,7 +165,7 @@ fn finish(taker: ConsignmentPage) -> Result<String, AllocError>
     }
 }
 
-/// The page of the kind with no consignment.
+/// Makes a page of the kind with no consignment.
 fn empty(alloc: Global, kind: ListKind) -> ConsignmentPage
     ensures { (result.kind ≡ kind) × HasConsignments result result [] }
 {
@@ -180,8 +180,8 @@ fn empty(alloc: Global, kind: ListKind) -> ConsignmentPage
 const SELECT_ARRIVALS: &str =
     "SELECT c.source, c.addressee, c.number, c.received, l.line, l.film FROM consignment AS c LEFT JOIN consignment_line AS l ON l.source = c.source AND l.addressee = c.addressee AND l.number = c.number WHERE c.addressee = ?1 ORDER BY c.place, l.line";
 
-/// The arrivals of the branch in the order of their dispatch, received ones too, as the text of a list. The database
-/// stays as it was, unless the store fails, which commits nothing.
+/// Returns the arrivals of the branch in the order of their dispatch, received ones too, as the text of a list. The
+/// database stays as it was, unless the store fails, which commits nothing.
 pub fn arrivals<S: Alter>(
     alloc: Global,
     conn: &mut Connection<S>,
@@ -200,8 +200,8 @@ pub fn arrivals<S: Alter>(
 const SELECT_SENT: &str =
     "SELECT c.source, c.addressee, c.number, c.received, l.line, l.film FROM consignment AS c LEFT JOIN consignment_line AS l ON l.source = c.source AND l.addressee = c.addressee AND l.number = c.number WHERE c.source = ?1 ORDER BY c.place, l.line";
 
-/// What the branch sent, in the order of dispatch, as the text of a list. The database stays as it was, unless the
-/// store fails, which commits nothing.
+/// Returns what the branch sent, in the order of dispatch, as the text of a list. The database stays as it was, unless
+/// the store fails, which commits nothing.
 pub fn sent<S: Alter>(
     alloc: Global,
     conn: &mut Connection<S>,
@@ -220,8 +220,8 @@ pub fn sent<S: Alter>(
 const SELECT_TRANSIT: &str =
     "SELECT c.source, c.addressee, c.number, c.received, l.line, l.film FROM consignment AS c LEFT JOIN consignment_line AS l ON l.source = c.source AND l.addressee = c.addressee AND l.number = c.number WHERE c.received = 0 ORDER BY c.source, c.addressee, c.number, l.line";
 
-/// All consignments of the chain that aren't received, by sender, addressee and number, as the text of a list. The
-/// database stays as it was, unless the store fails, which commits nothing.
+/// Returns all consignments of the chain that aren't received, by sender, addressee and number, as the text of a list.
+/// The database stays as it was, unless the store fails, which commits nothing.
 pub fn transit<S: Alter>(alloc: Global, conn: &mut Connection<S>) -> Result<String, StoreFault>
     ensures text { HasCleanDisk (state S.Store conn.new)
         → IfOk result (λ s. (books : Books) → Holds (state S.Store conn.old) books → IsHeld books → string_bytes s

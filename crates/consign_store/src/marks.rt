@@ -21,7 +21,8 @@ use std::alloc::Global;
 const SELECT_COPIES: &str =
     "SELECT branch, number, film, state, origin_branch, origin_copy FROM copy WHERE origin_branch = ?1 AND origin_copy = ?2";
 
-/// The copies of all branches that have the mark, in any order. After a fault the transaction may be rolled back.
+/// Returns the copies of all branches that have the mark, in any order. After a fault the transaction may be rolled
+/// back.
 pub fn copies_marked<S: Alter>(
     alloc: Global,
     tx: &mut Transaction<'_, S>,
@@ -43,7 +44,8 @@ pub fn copies_marked<S: Alter>(
 const SELECT_MARKED: &str =
     "SELECT source, addressee, number, line, film, origin_branch, origin_copy, state FROM consignment_line WHERE origin_branch = ?1 AND origin_copy = ?2";
 
-/// The lines of all consignments that have the mark, in any order. After a fault the transaction may be rolled back.
+/// Returns the lines of all consignments that have the mark, in any order. After a fault the transaction may be rolled
+/// back.
 pub fn lines_marked<S: Alter>(
     alloc: Global,
     tx: &mut Transaction<'_, S>,

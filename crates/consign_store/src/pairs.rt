@@ -15,7 +15,7 @@ use sql_rows::{StoreFault, query};
 use sqlite::types::ToSql;
 use sqlite::{Alter, Row, Transaction};
 
-/// The number in the first column of the first row. Where there is no row, the fault is `Failed`.
+/// Returns the number in the first column of the first row. Fails with `Failed` if there is no row.
 fn first_number(rows: &[Row]) -> Result<ConsignmentNo, StoreFault>
     ensures { IfOk result (λ n. TellsFirst (λ row m. column row 0 ≡ number_value m) rows.now (Some n)) }
 {
@@ -28,7 +28,7 @@ fn first_number(rows: &[Row]) -> Result<ConsignmentNo, StoreFault>
 const UPSERT_PAIR: &str =
     "INSERT INTO pair_count (source, addressee, last) VALUES (?1, ?2, 1) ON CONFLICT (source, addressee) DO UPDATE SET last = last + 1 RETURNING last";
 
-/// The next number of the pair, which counts the consignments of the sender to the addressee: the first brings the
+/// Takes the pair's next number, which counts the consignments of the sender to the addressee. The first call adds the
 /// pair's row. After a fault the transaction may be rolled back.
 pub fn take_pair<S: Alter>(
     tx: &mut Transaction<'_, S>,

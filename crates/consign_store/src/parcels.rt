@@ -73,7 +73,7 @@ fn has_line(lines: &[LineNo], line: u32) -> bool
     lines.iter().any(|it| it.get() == line)
 }
 
-/// Whether the line is among them.
+/// Returns whether the line is among `lines`.
 #[tactic(auto, using(crate::proofs::ParcelSteps::any_mem))]
 fn is_among(lines: &[LineNo], line: u32) -> bool
     ensures { result ≡ mem line lines.now }
@@ -81,7 +81,7 @@ fn is_among(lines: &[LineNo], line: u32) -> bool
     has_line(lines, line)
 }
 
-/// What becomes of the line at the receipt.
+/// Returns the state of the line after the receipt.
 fn state_after(missing: &[LineNo], line: LineNo) -> LineState
     ensures { seen_line_state result ≡ state_at missing.now line }
 {
@@ -92,8 +92,8 @@ fn state_after(missing: &[LineNo], line: LineNo) -> LineState
     }
 }
 
-/// Sets the first so many lines of the consignment: those that are missing, and the others, which arrived. After a
-/// fault the transaction may be rolled back.
+/// Sets the states of the consignment's first `count` lines. The lines in `missing` are missing, and the others
+/// arrived. After a fault the transaction may be rolled back.
 fn check_lines<S: Alter>(
     tx: &mut Transaction<'_, S>,
     key: &ConsignmentKey,
@@ -111,7 +111,7 @@ fn check_lines<S: Alter>(
     Ok(())
 }
 
-/// Sets that the consignment, which has so many lines, is received, and which of its lines are missing: the others
+/// Sets that the consignment, which has `count` lines, is received. The lines in `missing` are missing, and the others
 /// arrived. After a fault the transaction may be rolled back.
 pub fn mark_received<S: Alter>(
     tx: &mut Transaction<'_, S>,

@@ -23,7 +23,7 @@ fn is_copy_here(row: &CopyRow) -> bool
     matches!(row.state, CopyState::Here)
 }
 
-/// The first copy that is here.
+/// Returns the first copy that is here.
 fn first_here(rows: &[CopyRow]) -> Option<CopyRow>
     ensures { result ≡ find is_here rows.now }
 {
@@ -36,15 +36,15 @@ fn is_line_under_way(row: &LineRow) -> bool
     matches!(row.state, LineState::UnderWay)
 }
 
-/// The first line that is under way.
+/// Returns the first line that is under way.
 fn first_under_way(rows: &[LineRow]) -> Option<LineRow>
     ensures { result ≡ find is_under_way rows.now }
 {
     rows.iter().copied().find(|row| is_line_under_way(row))
 }
 
-/// Where the mark is, of which there is at most one copy that is here, and one line that is under way. After a fault
-/// the transaction may be rolled back.
+/// Returns where the mark is. At most one copy with the mark may be here, and at most one line with it under way. After
+/// a fault the transaction may be rolled back.
 pub fn place_of<S: Alter>(
     alloc: Global,
     tx: &mut Transaction<'_, S>,

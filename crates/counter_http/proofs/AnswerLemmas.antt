@@ -19,7 +19,7 @@ use Rattle.chain_requests.proofs.Requests.{never, store_refuses, fails, failed_s
 use Rattle.counter_http.specs.Events.{known_token, sender_of, AnswersMessage, AnswersNobody}
 use Rattle.counter_http.specs.Reads.{IsDecided, AnswersRead}
 
--- a text that is no request is told so, whoever sent it
+-- a text that is no request is refused, whoever sent it
 unread_reply : (rules : Rules) (meaning : Meaning) (message : Message) (caller : Caller) (d : Refusal) (books : Books)
     → reading_of meaning message caller ≡ Unread d
     → reply_for rules office_look caller (reading_of meaning message caller) books ≡ Sorry d
@@ -27,7 +27,7 @@ unread_reply rules meaning message (Counter b) d books e = ap (λ (r : Request).
 unread_reply rules meaning message HeadOffice d books e = ap (λ (r : Request). reply_for rules office_look HeadOffice r books) e
 unread_reply rules meaning message Nobody d books e = let same : NoCounter ≡ d = cc in ap (λ (r : Refusal). Sorry r) same
 
--- and changes nothing
+-- a text that is no request changes nothing
 unread_after : (rules : Rules) (meaning : Meaning) (message : Message) (caller : Caller) (d : Refusal) (books : Books)
     → reading_of meaning message caller ≡ Unread d
     → after_for rules caller (reading_of meaning message caller) books ≡ books
@@ -86,12 +86,12 @@ nobody_refused held fine request = record {
 pub nobody_failed : (held : Holding) → held.is_failed ≡ true → AnswersNobody (problem_answer StoreFailed) held held
 nobody_failed held failed request = fails Nobody request held held (failed_same Nobody request held failed)
 
--- who has the token sent the message
+-- the message's sender is who has the token
 pub sent_by : (message : Message) (token : List ℕ) (caller : Caller) (held : Holding) → known_token message.token ≡ Some token
     → caller ≡ caller_of (Some token) held.books.catalogue → caller ≡ sender_of message held
 sent_by message token caller held known found = found ∙ ap (λ (it : Option (List ℕ)). caller_of it held.books.catalogue) (sym known)
 
--- the chain answered a request of that caller, and they are the message's
+-- the chain answered this caller's request, and both are the message's
 pub asked_answers : (meaning : Meaning) (message : Message) (caller : Caller) (request : Request) (answer : Answer) (old mid new : Holding) → mid ≡ old
     → caller ≡ sender_of message old → request ≡ reading_of meaning message caller → Answers caller request answer mid new
     → AnswersMessage meaning message answer old new
@@ -101,13 +101,13 @@ asked_answers meaning message caller request answer old mid new same who what an
     let second : P old caller (reading_of meaning message caller) = subst (λ (r : Request). P old caller r) what first in
     subst (λ (c : Caller). P old c (reading_of meaning message c)) who second
 
--- what is read as a refusal is one of a decision
+-- a refusal that is read from a message is a decision
 pub reads_decided : {E : Type 0} (read : Result Reading E) (request : Request) → IfOk read (λ it. Reads it request) → IsDecided read
 reads_decided (Ok (Asked asked)) request reads = tt
 reads_decided (Ok (Refused refusal)) request reads = (reads.0, reads.1)
 reads_decided (Err e) request reads = tt
 
--- so by what was read the message is answered, where the chain that told the caller hadn't failed
+-- the answer to what was read is the answer to the message, if the chain that found the caller hadn't failed
 pub read_answers : {E : Type 0} (meaning : Meaning) (message : Message) (caller : Caller) (read : Result Reading E) (answer : Answer) (old mid new : Holding)
     → IfOk read (λ it. Reads it (reading_of meaning message caller)) → caller ≡ sender_of message old → mid ≡ old → old.is_failed ≡ false
     → AnswersRead caller read answer mid new → AnswersMessage meaning message answer old new

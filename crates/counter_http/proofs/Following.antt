@@ -1,4 +1,4 @@
--- One connection after another: what the chain ran over in each, it ran over in all.
+-- One connection after another: the chain ran over all of them as one history.
 use Rattle.shop_types.proofs.Common.{◌≡◌, ◌∙◌, List, [], ◌∷◌, ◌++◌, refl, ap, map-append, All-append, list_any-append, has_failed, is_store_failure}
 use Rattle.sqlite_trees.specs.declared.store.Store.{Ghosts}
 use Rattle.shop_model.proofs.Origins.{all_append}

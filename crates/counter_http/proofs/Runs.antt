@@ -42,6 +42,6 @@ run_one {S} {g} {meaning} {old} {new} e step told fails failed = record {
     still : old.is_failed ≡ true → new.is_failed ≡ true
     still was = ap (λ (x : Chained S). x.is_failed) (failed was) ∙ was
 
--- the same told otherwise of the run
+-- the same with another statement on the run
 pub ran_as : (Ran Ran' : List Exchange → Type 0) (read : List ℕ) (es : List Exchange) (rest : List ℕ) → HasRun Ran read es rest → ((es : List Exchange) → Ran es → Ran' es) → HasRun Ran' read es rest
 ran_as Ran Ran' read es rest x tell = record { splits = x.splits; ran = tell es x.ran }

@@ -1,4 +1,4 @@
--- A branch is sent what its own machine says, so the same wherever it sees the same.
+-- A branch is sent what its own machine answers. So it is sent the same whenever it sees the same.
 use Rattle.shop_types.proofs.Common.{◌∙◌, ap, sym, map, List, flat_map, State, Input, replies, Answer, answer_of, state_of}
 use Rattle.shop_types.specs.LimitValues.{Limits}
 use Rattle.shop_model.proofs.SameStates.{told_same}

@@ -18,9 +18,9 @@ use Rattle.counter_http.specs.declared.machine.TurnFault.TheVariants as turn
 use Rattle.counter_http.proofs.Runs.{ran_as}
 use Rattle.counter_http.proofs.Turns.{opened_may_answer, turn_none}
 
--- ---- where the turns end it
+-- ---- when the turns end the connection
 
--- why a connection that comes ends, where it does
+-- a new connection ends only if no request is allowed
 opened_ends : (most : ℕ) (end : End) → (opened most).ending ≡ Some end → (end ≡ Limit) × (most ≡ 0)
 opened_ends most end is = by_test (most == 0) refl is
   where
@@ -62,11 +62,11 @@ served_by most line end Ran input left output written x (empty, ends) = record {
 pub turns_serve : {S : Type 0} (g : Ghosts S) → TurnsServe g
 turns_serve {S} g meaning old new most line end input left output written x empty ends = served_by most line end _ input left output written x (empty, ends)
 
--- where none is allowed
+-- if no request is allowed
 pub served_none : (Ran : List Exchange → Type 0) (input output : Option (List ℕ)) → Ran [] → IsServed (record { replies = 0; end = Limit }) 0 Ran input input output output
 served_none Ran input output start = served_by 0 (opened 0) Limit Ran input input output output (turn_none (opened 0) Ran input output (opened_may_answer 0) start) (refl, refl)
 
--- ---- where a read or a write fails
+-- ---- when a read or a write fails
 
 opened_lives : (most : ℕ) → 0 < most → (opened most).ending ≡ None
 opened_lives most some = by_test (most == 0) refl
@@ -106,7 +106,7 @@ texts-snoc : (es : List Exchange) (e : Exchange) → texts (es ++ e ∷ []) ≡ 
 texts-snoc es e =
     flat_map-append (λ (x : Exchange). text_of x.answer) es (e ∷ []) ∙ ap (λ (l : List ℕ). texts es ++ l) (append-nil (text_of e.answer))
 
--- behind the exchanges before the last the connection goes on
+-- after the exchanges before the last one, the connection goes on
 goes_before : (ending : Option End) (most : ℕ) (front : List Exchange) (e : Exchange) (left : Option (List ℕ)) (rest last : List ℕ)
     → GoesOrEnds ending most (front ++ e ∷ []) left rest last → All GoesOn front × (length front < most)
 goes_before ending most front e left rest last is = by ending is
@@ -137,7 +137,7 @@ some_refusal : (fault : Fault) → fault_text fault ≡ [] → ⊥
 some_refusal BadHead e = some_text (problem_answer named.BadHead) e
 some_refusal TooLong e = some_text (problem_answer (named.Decision named.TooLong)) e
 
--- behind the reply to a text that is no message there is none to an exchange
+-- if the connection wrote no reply to a text that is no message, `told_of` leaves out the last request
 told_before : (ending : Option End) (most : ℕ) (es : List Exchange) (left : Option (List ℕ)) (rest last : List ℕ) → GoesOrEnds ending most es left rest last
     → last ≡ [] → (replies : ℕ) → told_of ending replies ≡ replies - 1
 told_before None most es left rest last is none replies = refl
@@ -156,7 +156,7 @@ write_fails most line Ran input left output written some x unfinished = by x.alo
     goes : GoesOrEnds line.ending most x.exchanges left line.inbox x.last
     goes = goes_by most line Ran input left output written some x
 
-    -- what is left to write, taken away
+    -- what was sent is all texts without what is left to write
     sent_is : (front : List ℕ) → texts x.exchanges ++ x.last ≡ front ++ line.unsent → x.sent ≡ front
     sent_is front is = append_cancel_right x.sent front line.unsent (sym x.splits ∙ is)
 
@@ -215,7 +215,7 @@ write_fails most line Ran input left output written some x unfinished = by x.alo
         }
     by (inr (inr (part, is))) = refused part is x.refused
 
--- ---- the same told otherwise of the run
+-- ---- the same with another statement on the run
 
 pub served_as : (served : Served) (most : ℕ) (Ran Ran' : List Exchange → Type 0) (input left output written : Option (List ℕ)) → IsServed served most Ran input left output written
     → ((es : List Exchange) → Ran es → Ran' es) → IsServed served most Ran' input left output written

@@ -24,7 +24,7 @@ MayAnswer line = (line.ending ≡ None → line.replies < line.most) × (length 
 pub opened_may_answer : (most : ℕ) → MayAnswer (opened most)
 opened_may_answer most = ((λ live. grind (arith, nat_tests)), omega arith)
 
--- 1 where the connection goes on
+-- 1 if the connection goes on
 abbrev pub live : Option End → ℕ
 live None = 1
 live (Some end) = 0
@@ -39,7 +39,7 @@ pub refused_is : (input : List ℕ) (fault : Fault) → IsReading input (NoMessa
 refused_is input BadHead x = x
 refused_is input TooLong x = x
 
--- what is left behind a message has room too
+-- what is left after a message has room too
 pub drop_near : (n : ℕ) (xs : List ℕ) → length xs ≤ ROOM → length (drop n xs) ≤ ROOM
 drop_near n xs near = omega (arith, length-drop n xs)
 
@@ -123,7 +123,7 @@ turn_answer old new Ran input output e empty live has near told one same goes ra
   kept = same;
 }
 
--- a text that is no message was told so
+-- a text that is no message was refused
 pub turn_refusal : (old : Line) (Ran : List Exchange → Type 0) (input output : Option (List ℕ)) (fault : Fault)
     → MayAnswer old → old.unsent ≡ [] → old.ending ≡ None → IsRefused fault old.inbox → Ran []
     → IsTurn old (record old { unsent = fault_text fault; ending = Some Refused }) Ran input input output output
@@ -151,7 +151,7 @@ HasMessages-join : (input mid rest : List ℕ) (ms ns : List Message) → HasMes
 HasMessages-join input mid rest [] ns none second = subst (λ (l : List ℕ). HasMessages l ns rest) none second
 HasMessages-join input mid rest (m ∷ ms) ns (after, has, first) second = (after, has, HasMessages-join after mid rest ms ns first second)
 
--- what was run of two stretches is run of both, where `Both` follows
+-- if `Both` follows from `First` and `Second`, it holds of two stretches together
 ran_then : (First Second Both : List Exchange → Type 0) (inbox one two mid rest : List ℕ) (es more : List Exchange)
     → HasRun First (inbox ++ one) es mid → HasRun Second (mid ++ two) more rest → (First es → Second more → Both (es ++ more))
     → HasRun Both (inbox ++ (one ++ two)) (es ++ more) rest
@@ -171,7 +171,7 @@ ends_behind after es more goes ends = (
   ends.4,
 )
 
--- behind exchanges after which the connection goes on, more of them
+-- if the connection goes on after some exchanges, more exchanges may follow
 goes_behind : (ending : Option End) (most n : ℕ) (es more : List Exchange) (left : Option (List ℕ)) (rest last : List ℕ)
     → All GoesOn es → length es < most → n ≡ most - length es → GoesOrEnds ending n more left rest last
     → GoesOrEnds ending most (es ++ more) left rest last
@@ -186,14 +186,14 @@ goes_behind (Some Limit) most n es more left rest last goes few is (all, eq, non
 goes_behind (Some Asked) most n es more left rest last goes few is (ends, le, none) = (ends_behind Asks es more goes ends, omega (arith, length-append es more), none)
 goes_behind (Some StoreFailed) most n es more left rest last goes few is (ends, le, none) = (ends_behind Fails es more goes ends, omega (arith, length-append es more), none)
 
--- more of what was left is written
+-- after more is written, what is left to write is still part of the last reply
 alone_still : (es : List Exchange) (last mid sent unsent : List ℕ) → mid ≡ sent ++ unsent → IsOfLast es last mid → IsOfLast es last unsent
 alone_still es last mid sent unsent parts (inl none) = inl none
 alone_still es last mid sent unsent parts (inr (inl (front, e, part, is, none, told))) =
     inr (inl (front, e, part ++ sent, is, none, told ∙ ap (λ (l : List ℕ). part ++ l) parts ∙ sym (append_assoc part sent unsent)))
 alone_still es last mid sent unsent parts (inr (inr (part, is))) = inr (inr (part ++ sent, is ∙ ap (λ (l : List ℕ). part ++ l) parts ∙ sym (append_assoc part sent unsent)))
 
--- and more is answered
+-- after more is answered, what is left to write is still part of the last reply
 alone_then : (es more : List Exchange) (last behind mid sent unsent : List ℕ) → mid ++ (texts more ++ behind) ≡ sent ++ unsent
     → (last ≡ []) ⊎ ((more ≡ []) × (behind ≡ [])) → IsOfLast es last mid → IsOfLast more behind unsent → IsOfLast (es ++ more) (last ++ behind) unsent
 alone_then es more last behind mid sent unsent parts order x y = by order y
@@ -210,7 +210,7 @@ alone_then es more last behind mid sent unsent parts order x y = by order y
         inr (inl (es ++ front, e, part, ap (λ (l : List Exchange). es ++ l) is ∙ sym (append_assoc es front (e ∷ [])), ap (λ (l : List ℕ). l ++ behind) none ∙ none_too, told))
     by (inl none) (inr (inr (part, is))) = inr (inr (part, ap (λ (l : List ℕ). l ++ behind) none ∙ is))
 
--- one after another: what both read, answered and wrote
+-- two turns one after another: what both read, answered and wrote
 pub turn_then : {old mid new : Line} {First Second Both : List Exchange → Type 0} {input left after output written later : Option (List ℕ)}
     → IsTurn old mid First input left output written → IsTurn mid new Second left after written later
     → ((es more : List Exchange) → First es → Second more → Both (es ++ more))
@@ -233,7 +233,7 @@ turn_then {old} {mid} {new} {First} {Second} {Both} {input} {left} {after} {outp
   kept = y.kept ∙ x.kept;
 }
   where
-    -- behind the reply to a text that is no message nothing is answered
+    -- after the reply to a text that is no message nothing is answered
     order : (x.last ≡ []) ⊎ (mid.ending ≡ Some Refused) → (x.last ≡ []) ⊎ ((y.exchanges ≡ []) × (y.last ≡ []))
     order (inl none) = inl none
     order (inr ends) = let stop = y.stopped Refused ends in inr (stop.2, stop.3)
@@ -260,7 +260,7 @@ turn_then {old} {mid} {new} {First} {Second} {Both} {input} {left} {after} {outp
         let has' = rw (none, nobody) at has in
         has' ∙ append-nil mid.inbox
 
-    -- where the first stretch ended the connection, the second does nothing; else its exchanges come behind those of the first
+    -- if the first stretch ended the connection, the second does nothing; else the second's exchanges follow the first's
     goes_by : (ending : Option End) → mid.ending ≡ ending → GoesOrEnds ending (old.most - old.replies) x.exchanges left mid.inbox x.last
         → GoesOrEnds new.ending (old.most - old.replies) (x.exchanges ++ y.exchanges) after new.inbox (x.last ++ y.last)
     goes_by None is (all, few, none) =
@@ -288,7 +288,7 @@ turn_then {old} {mid} {new} {First} {Second} {Both} {input} {left} {after} {outp
     joined u v w s t es more last behind p q order =
         ap (λ (l : List ℕ). u ++ l) (same_text es more last behind order) ∙ chained u v w s t (texts es ++ last) (texts more ++ behind) p q
 
--- a turn, told otherwise of its exchanges
+-- a turn, with another statement on its exchanges
 pub turn_as : {old new : Line} {Ran Ran' : List Exchange → Type 0} {input left output written : Option (List ℕ)} (x : IsTurn old new Ran input left output written)
     → Ran' x.exchanges → IsTurn old new Ran' input left output written
 turn_as {old} {new} {Ran} {Ran'} {input} {left} {output} {written} x ran = record {
@@ -309,7 +309,7 @@ turn_as {old} {new} {Ran} {Ran'} {input} {left} {output} {written} x ran = recor
   kept = x.kept;
 }
 
--- a turn in which nothing was answered, behind another
+-- a turn, and after it another in which nothing was answered
 pub turn_on : {old mid new : Line} {Ran : List Exchange → Type 0} {input left after output written later : Option (List ℕ)}
     → IsTurn old mid Ran input left output written → IsTurn mid new (λ es. es ≡ []) left after written later → IsTurn old new Ran input after output later
 turn_on {old} {mid} {new} {Ran} x y =

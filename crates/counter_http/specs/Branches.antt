@@ -13,16 +13,16 @@ use Rattle.chain_requests.specs.Branches.{answered_to, seen_by}
 use Rattle.chain_requests.specs.Chains.{Runs}
 use Rattle.counter_http.specs.Exchanges.{Exchange, events_of, answers_of, text_of}
 
--- the bytes sent to the branch: the replies to its own messages, one after another, but for those by which the store could not do its part
+-- The bytes sent to the branch: the replies to its own messages, one after another. The replies that say that the store couldn't do its part are left out.
 abbrev pub sent_to : Meaning → Rules → ℕ → List Exchange → Books → List ℕ
 sent_to meaning rules b exchanges books = flat_map text_of (answered_to rules b (events_of meaning exchanges) (answers_of exchanges) books)
 
--- what the branch saw of the messages that were answered: its own requests, head office's accepted commands and the consignments sent to it, in their order
+-- What the branch saw of the answered messages: its own requests, head office's accepted commands, and the consignments sent to the branch, in their order.
 abbrev pub seen_of : Meaning → Rules → ℕ → List Exchange → Books → List Input
 seen_of meaning rules b exchanges books = seen_by rules b (events_of meaning exchanges) (answers_of exchanges) books
 
--- Two chains agree on what concerns the branch: the limits, the catalogue and the branch's shop, in whatever order commands were kept, lots came and actors were
--- cast in each. The rows of both are numbered, as those of sound books are.
+-- Two chains agree on what concerns the branch: the limits, the catalogue and the branch's shop. Each may have kept commands, received lots and cast actors in
+-- an order of its own. The rows of both are numbered, as the rows of sound books are.
 pub record AgreeOn (b : ℕ) (one other : Holding) : Type 0 where
   pub limits : one.limits ≡ other.limits
   pub shop : SameState (state_of b one.books) (state_of b other.books)

@@ -5,7 +5,7 @@ use Rattle.chain_requests.specs.Holding.{Holding}
 use Rattle.chain_requests.specs.Chains.{Runs}
 use Rattle.counter_http.specs.Exchanges.{Exchange, events_of, answers_of}
 
--- what a chain ran over in one connection and then in another, it ran over as one history
+-- if a chain ran over one connection and then over another, it ran over both as one history
 abbrev pub ConnectionsAreOneHistory : Type 0
 ConnectionsAreOneHistory =
     (meaning : Meaning) (old mid new : Holding) (first more : List Exchange) → Runs (events_of meaning first) (answers_of first) old mid

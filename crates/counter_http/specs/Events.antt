@@ -10,11 +10,11 @@ use Rattle.counter_routes.specs.Readings.{reading_of}
 use Rattle.chain_requests.specs.Holding.{Holding}
 use Rattle.chain_requests.specs.Chains.{Answers, AnswersEvent}
 
--- a text that is no token is nobody's, as none is
+-- a text that is no token counts as no token
 abbrev pub known_token : Option (List ℕ) → Option (List ℕ)
 known_token token = option_and_then (λ digits. if is_token digits then Some digits else None) token
 
--- who asks shows in the token, and what is asked depends on who asks, and of head office on what its words mean
+-- The token says who asks. What is asked depends on who asks, and for head office on what its words mean.
 abbrev pub event_of : Meaning → Message → Event
 event_of meaning message = record { token = known_token message.token; request = reading_of meaning message }
 
@@ -22,8 +22,8 @@ event_of meaning message = record { token = known_token message.token; request =
 abbrev pub sender_of : Message → Holding → Caller
 sender_of message holding = caller_of (known_token message.token) holding.books.catalogue
 
--- The chain makes the books' step at the message and answers so, or lacks memory or room, or the store fails. Where the store had failed before, the answer is
--- its failure.
+-- The chain makes the books' step for the message and gives its answer, or lacks memory or room, or the store fails. If the store had failed before, the answer
+-- is its failure.
 abbrev pub AnswersMessage : Meaning → Message → Answer → Holding → Holding → Type 0
 AnswersMessage meaning message answer old new = AnswersEvent (event_of meaning message) answer old new
 

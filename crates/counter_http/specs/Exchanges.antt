@@ -26,7 +26,7 @@ text_of answer = reply_text answer.status answer.body
 abbrev pub messages_of : List Exchange → List Message
 messages_of exchanges = map (λ exchange. exchange.message) exchanges
 
--- what was asked, where head office's words have that meaning
+-- what the messages asked, if head office's words have this meaning
 abbrev pub events_of : Meaning → List Exchange → List Event
 events_of meaning exchanges = map (λ exchange. event_of meaning exchange.message) exchanges
 
@@ -42,8 +42,9 @@ pub record GoesOn (exchange : Exchange) : Type 0 where
   pub stays : exchange.message.closes ≡ false
   pub sound : is_store_failure exchange.answer ≡ false
 
--- The chain answers the messages, one after another; where none came, it is as it was, whatever its store is. Whatever the disk does, each answer is one of the
--- table, and the chain has failed exactly where one of them is the store's failure, or it had failed. Then it is as it was, its connection to the store too.
+-- The chain answers the messages, one after another. If no message came, the chain is as it was, whatever its store is. Whatever the disk does, each answer is
+-- one of the table. The chain has failed exactly if it had failed before, or one of the answers is the store's failure. A chain that had failed before is as it
+-- was, with its connection to the store, and each answer is the store's failure.
 pub record RunsOver {S : Type 0} (g : Ghosts S) (meaning : Meaning) (old new : Chained S) (exchanges : List Exchange) : Type 0 where
   pub takes : Takes g old new (Runs (events_of meaning exchanges) (answers_of exchanges))
   pub same : exchanges ≡ [] → new ≡ old
@@ -51,8 +52,8 @@ pub record RunsOver {S : Type 0} (g : Ghosts S) (meaning : Meaning) (old new : C
   pub fails : new.is_failed ≡ (old.is_failed || has_failed (answers_of exchanges))
   pub failed : old.is_failed ≡ true → (new ≡ old) × (list_all is_store_failure (answers_of exchanges) ≡ true)
 
--- What was read begins with the messages of the exchanges, and then a rest that isn't answered; and `Ran` is so of the exchanges. What is said of the bytes
--- doesn't wait for a disk that gives back what was written.
+-- What was read is the messages of the exchanges, and then a rest that isn't answered. `Ran` holds of the exchanges. The statement on the bytes holds whatever
+-- the disk does.
 pub record HasRun (Ran : List Exchange → Type 0) (read : List ℕ) (exchanges : List Exchange) (rest : List ℕ) : Type 0 where
   pub splits : HasMessages read (messages_of exchanges) rest
   pub ran : Ran exchanges

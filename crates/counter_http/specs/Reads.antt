@@ -1,4 +1,4 @@
--- What is answered to a caller by what was read of the message.
+-- What the chain answers to a caller, from what was read of the message.
 use Rattle.std.specs.Prelude.{◌≡◌, true, Result, Ok, Err, ⊤}
 use Rattle.shop_model.specs.Refusals as named
 use Rattle.shop_model.specs.Answers.{Answer, problem_answer}
@@ -16,13 +16,14 @@ HasFixedBody (Ok (Asked request)) = ⊤
 HasFixedBody (Ok (Refused refusal)) = has_fixed_body refusal ≡ true
 HasFixedBody (Err e) = ⊤
 
--- what is refused is refused by a decision, not by the store
+-- a refusal is a decision, not the store's
 abbrev pub IsDecided : {E : Type 0} → Result Reading E → Type 0
 IsDecided (Ok (Asked request)) = ⊤
 IsDecided (Ok (Refused refusal)) = (decision : named.Refusal) × (seen_refusal refusal ≡ named.Decision decision)
 IsDecided (Err e) = ⊤
 
--- a request is the caller's; what is none is refused, and for want of memory there is no answer: then the chain is as it was
+-- A request is answered as the caller's. A text that is no request is refused. If reading runs out of memory, the answer is `memory`. In the last two cases
+-- the chain is as it was.
 abbrev pub AnswersRead : {E : Type 0} → Caller → Result Reading E → Answer → Holding → Holding → Type 0
 AnswersRead caller (Ok (Asked request)) answer old new = Answers caller (seen_request request) answer old new
 AnswersRead caller (Ok (Refused refusal)) answer old new = (answer ≡ problem_answer (seen_refusal refusal)) × (new ≡ old)

@@ -17,13 +17,13 @@ use Rattle.counter_http.specs.declared.connection.ServeFault.TheVariants.{Read, 
 use Rattle.counter_http.specs.declared.machine.After.{After}
 use Rattle.counter_http.specs.declared.machine.After.TheVariants.{Goes, Asks, Fails}
 
--- what an exchange means for the connection; where the store failed, that is what ends it
+-- what an exchange means for the connection; if the store failed, its failure ends the connection
 abbrev pub IsAfter : After → Exchange → Type 0
 IsAfter Goes exchange = GoesOn exchange
 IsAfter Asks exchange = (is_store_failure exchange.answer ≡ false) × (exchange.message.closes ≡ true)
 IsAfter Fails exchange = is_store_failure exchange.answer ≡ true
 
--- the exchanges go on up to the last, which is of that kind
+-- the connection goes on after each exchange but the last, which is of this kind
 abbrev pub EndsWith : After → List Exchange → Type 0
 EndsWith after exchanges =
     (front : List Exchange) × (last : Exchange) × (exchanges ≡ front ++ last ∷ []) × All GoesOn front × IsAfter after last
@@ -38,7 +38,7 @@ abbrev pub IsRefused : Fault → List ℕ → Type 0
 IsRefused BadHead rest = IsBadHead rest
 IsRefused TooLong rest = IsTooLong rest
 
--- why the connection ended, behind these exchanges and at this rest of what was read; `last` is written behind their texts
+-- why the connection ended, after these exchanges and at this rest of what was read; `last` is written after the texts of the exchanges
 abbrev pub IsEnd : End → ℕ → List Exchange → Option (List ℕ) → List ℕ → List ℕ → Type 0
 IsEnd Closed most exchanges left rest last = All GoesOn exchanges × (length exchanges < most) × IsAtEnd left × (rest ≡ []) × (last ≡ [])
 IsEnd Cut most exchanges left rest last = All GoesOn exchanges × (length exchanges < most) × IsAtEnd left × (rest ≢ []) × IsCut rest × (last ≡ [])
@@ -57,8 +57,8 @@ fault_replies Limit = 0
 fault_replies Asked = 0
 fault_replies StoreFailed = 0
 
--- What was read is some messages and a rest, of no more bytes than a connection has room for. The chain ran over the messages, of which `Ran` tells, and the bytes
--- of its answers were written, in order, and behind them those for a text that is no message, where there was one.
+-- What was read is some messages and a rest, which has no more bytes than a connection has room for. `Ran` says how the chain ran over the messages. The bytes
+-- of its answers were written in order. If a text that is no message followed, the bytes of the reply to it were written last.
 pub record IsServed (served : Served) (most : ℕ) (Ran : List Exchange → Type 0) (input left output written : Option (List ℕ)) : Type 0 where
   pub read : List ℕ
   pub exchanges : List Exchange
@@ -71,7 +71,7 @@ pub record IsServed (served : Served) (most : ℕ) (Ran : List Exchange → Type
   pub count : served.replies ≡ length exchanges + fault_replies served.end
   pub ends : IsEnd served.end most exchanges left rest last
 
--- a read failed behind these exchanges, fewer than were allowed; the rest is the start of a message, and no whole one is left unanswered
+-- a read failed after these exchanges, fewer than were allowed; the rest is the start of a message, and no whole message is left unanswered
 pub record IsReadFault (replies most : ℕ) (Ran : List Exchange → Type 0) (input left output written : Option (List ℕ)) : Type 0 where
   pub read : List ℕ
   pub exchanges : List Exchange
@@ -85,7 +85,7 @@ pub record IsReadFault (replies most : ℕ) (Ran : List Exchange → Type 0) (in
   pub waits : IsCut rest
   pub goes : All GoesOn exchanges
 
--- A write failed: of the answer to one more message, at which the chain has acted, or of the reply to a text that is no message.
+-- A write failed, in the answer to one more message or in the reply to a text that is no message. The chain has acted on that message.
 -- What was written is a front of the replies, and `replies` counts the whole ones.
 pub record IsWriteFault (replies most : ℕ) (Ran : List Exchange → Type 0) (input left output written : Option (List ℕ)) : Type 0 where
   pub read : List ℕ
@@ -105,7 +105,7 @@ pub record IsWriteFault (replies most : ℕ) (Ran : List Exchange → Type 0) (i
   pub few : replies < most
   pub goes : All GoesOn exchanges
 
--- no fault comes behind as many requests as are allowed
+-- a read or a write fails only after fewer replies than are allowed
 abbrev pub IsFault : ServeFault → ℕ → (List Exchange → Type 0) → Option (List ℕ) → Option (List ℕ) → Option (List ℕ) → Option (List ℕ) → Type 0
 IsFault Memory most Ran input left output written = Ran [] × Keeps input left × Keeps output written
 IsFault (Read replies) most Ran input left output written = IsReadFault replies most Ran input left output written

@@ -1,4 +1,4 @@
--- A connection that goes on as far as its bytes reach: what some turns of it read, answer and write.
+-- What turns of a connection read, answer and write.
 use Rattle.std.specs.Prelude.{◌≡◌, ◌⊎◌, ℕ, ◌+◌, ◌-◌, ◌<◌, ◌≤◌, ◌==◌, if◌then◌else◌, List, [], ◌∷◌, ◌++◌, length, All, Option, Some, None}
 use Rattle.std.specs.Io.KnownBytes.{Consumes, Appends}
 use Rattle.http_messages.specs.Input.{IsCut}
@@ -12,8 +12,8 @@ use Rattle.counter_http.specs.declared.machine.Standing.TheVariants.{Reads, Writ
 use Rattle.counter_http.specs.declared.machine.TurnFault.{TurnFault}
 use Rattle.counter_http.specs.declared.machine.TurnFault.TheVariants.{Read, Write}
 
--- what a connection has of its own: the bytes that were read and not answered, those that are to be written yet, how many requests were answered,
--- how many may be, and why it ends behind what is to be written, where it does
+-- What a connection has of its own: the bytes that were read and not answered, and the bytes still to be written. It has also how many requests were answered,
+-- and how many may be. If the connection ends after the bytes still to be written, `ending` says why.
 pub record Line : Type 0 where
   pub inbox : List ℕ
   pub unsent : List ℕ
@@ -21,31 +21,32 @@ pub record Line : Type 0 where
   pub most : ℕ
   pub ending : Option End
 
--- a connection of which nothing is read yet; where no request may be answered, it ends before the first
+-- a connection before its first read; if no request may be answered, the connection ends before the first
 abbrev pub opened : ℕ → Line
 opened most = record { inbox = []; unsent = []; replies = 0; most = most; ending = if most == 0 then Some Limit else None }
 
--- behind these exchanges, of at most so many, the connection goes on, or ends as it says
+-- after these exchanges, at most `most`, the connection goes on, or ends for the given reason
 abbrev pub GoesOrEnds : Option End → ℕ → List Exchange → Option (List ℕ) → List ℕ → List ℕ → Type 0
 GoesOrEnds None most exchanges left rest last = All GoesOn exchanges × (length exchanges < most) × (last ≡ [])
 GoesOrEnds (Some end) most exchanges left rest last = IsEnd end most exchanges left rest last
 
--- behind which of so many requests there is a reply, where something is left to write: of the reply to a text that is no message, or of the last one
+-- If something is left to write, how many requests have their whole reply. What is left belongs to the reply to a text that is no message, or to the last
+-- request.
 abbrev pub told_of : Option End → ℕ → ℕ
 told_of (Some Refused) replies = replies
 told_of ending replies = replies - 1
 
--- what is left to write is of the last reply alone: the bytes of those before are written
+-- what is left to write is part of the last reply: the bytes of the earlier replies are written
 abbrev pub IsOfLast : List Exchange → List ℕ → List ℕ → Type 0
 IsOfLast exchanges last unsent =
     ((exchanges ≡ []) × (last ≡ []))
     ⊎ (((front : List Exchange) × (e : Exchange) × (part : List ℕ) × (exchanges ≡ front ++ e ∷ []) × (last ≡ []) × (text_of e.answer ≡ part ++ unsent))
     ⊎ ((part : List ℕ) × (last ≡ part ++ unsent)))
 
--- Some turns of a connection. They read some bytes; what was left of the earlier ones and these are the messages of the exchanges and a rest. `Ran` is so of
--- the exchanges. What was left to write, the texts of the answers and `last` (the reply to a text that is no message) are what they wrote and what is left now.
--- What is left is of the last reply, behind the others. Where the connection was to end, nothing more is read or answered. The rest is of no more bytes than a
--- connection has room for.
+-- Some turns of a connection. They read some bytes. The unanswered bytes of before and the new bytes are the messages of the exchanges and a rest. `Ran` holds
+-- of the exchanges. `last` is the reply to a text that is no message. What was left to write, the texts of the answers and `last` are together what the turns
+-- wrote and what is left now. What is left is part of the last reply. If the connection was to end, nothing more is read or answered. The rest has no more
+-- bytes than a connection has room for.
 pub record IsTurn (old new : Line) (Ran : List Exchange → Type 0) (input left output written : Option (List ℕ)) : Type 0 where
   pub read : List ℕ
   pub exchanges : List Exchange
@@ -63,15 +64,15 @@ pub record IsTurn (old new : Line) (Ran : List Exchange → Type 0) (input left 
   pub count : new.replies ≡ old.replies + length exchanges
   pub kept : new.most ≡ old.most
 
--- What the connection waits for behind a turn of at most so many requests. It waits for bytes only where no whole message is left, for its peer only where
--- something is to be written, and for its next turn only behind that many requests.
+-- What the connection waits for after a turn of at most `most` requests. It waits for bytes only if no whole message is left, and for its peer only if
+-- something is to be written. It waits for its next turn only after `most` requests.
 abbrev pub IsStanding : Standing → ℕ → Line → Line → Type 0
 IsStanding Reads most old new = (new.unsent ≡ []) × (new.ending ≡ None) × IsCut new.inbox
 IsStanding Writes most old new = 0 < length new.unsent
 IsStanding Ready most old new = (new.unsent ≡ []) × (new.ending ≡ None) × (new.replies ≡ old.replies + most)
 IsStanding (Ended end) most old new = (new.unsent ≡ []) × (new.ending ≡ Some end)
 
--- Where a turn fails. Writing fails only with something left to write, and reading only where each reply is written and no whole message is left.
+-- At what point a turn fails. A write fails only with something left to write. A read fails only if each reply is written and no whole message is left.
 abbrev pub IsTurnFault : TurnFault → Line → Type 0
 IsTurnFault Write new = 0 < length new.unsent
 IsTurnFault Read new = (new.unsent ≡ []) × (new.ending ≡ None) × IsCut new.inbox

@@ -1,4 +1,4 @@
--- Several connections together: each has its turns, among those of the others.
+-- Several connections together: the turns of each come between the turns of the others.
 use Rattle.std.specs.Prelude.{◌≡◌, ℕ, ◌+◌, List, [], ◌∷◌, ◌++◌, map, All, Option, Some}
 use Rattle.sqlite_trees.specs.declared.store.Store.{Ghosts}
 use Rattle.counter_routes.specs.Words.{Meaning}
@@ -8,7 +8,8 @@ use Rattle.counter_http.specs.Served.{IsServed, fault_replies}
 use Rattle.counter_http.specs.Standings.{Line, opened, IsTurn}
 use Rattle.counter_http.specs.declared.connection.End.{End}
 
--- a connection: how it was at first and is now, what was answered of it so far, and what its reader and its writer held at first and hold now
+-- A connection, as it was at first and as it is now. `exchanges` is what was answered of it so far. The rest is what its reader and its writer held at first,
+-- and what they hold now.
 pub record Till : Type 0 where
   pub first : Line
   pub line : Line
@@ -18,12 +19,12 @@ pub record Till : Type 0 where
   pub output : Option (List ℕ)
   pub written : Option (List ℕ)
 
--- its replies are those to its own messages, in order, whatever the others asked in between
+-- the connection got the replies to its own messages, in order, whatever the other connections asked in between
 abbrev pub IsTill : Till → Type 0
 IsTill till = IsTurn till.first till.line (λ es. es ≡ till.exchanges) till.input till.left till.output till.written
 
--- The whole is an interleaving of the lists: their elements, those of each in its order. There is none of no list, an empty list adds nothing, and what
--- one of them goes on with is what the whole goes on with.
+-- The whole is an interleaving of the lists: it has their elements, and keeps the order of each list. Without lists the whole is empty. An empty list adds
+-- nothing. If one list grows at its end, the whole grows by the same elements at its end.
 pub data Mixes : List (List Exchange) → List Exchange → Type 0 where
   nothing : Mixes [] []
   comes : (lists : List (List Exchange)) (whole : List Exchange) → Mixes lists whole → Mixes (lists ++ [] ∷ []) whole
@@ -37,7 +38,7 @@ pub record AreServed {S : Type 0} (g : Ghosts S) (meaning : Meaning) (old new : 
   pub ran : RunsOver g meaning old new whole
   pub each : All IsTill tills
 
--- a connection that comes, of which at most so many requests are answered
+-- a new connection, which may have at most `most` requests answered
 abbrev pub till_opened : ℕ → Option (List ℕ) → Option (List ℕ) → Till
 till_opened most input output = record {
   first = opened most;
@@ -49,7 +50,7 @@ till_opened most input output = record {
   written = output;
 }
 
--- the connection behind one more turn
+-- the connection after one more turn
 abbrev pub till_then : Till → List Exchange → Line → Option (List ℕ) → Option (List ℕ) → Till
 till_then till es line left written = record {
   first = till.first;
@@ -61,8 +62,8 @@ till_then till es line left written = record {
   written = written;
 }
 
--- However many connections come, and in whatever order they have their turns, the chain runs over an interleaving of what is answered of each, and each is
--- told the replies to its own messages, in order: it is so before the first, where one comes, and where one of them has one more turn.
+-- However many connections come, and in whatever order they have their turns, the chain runs over an interleaving of what is answered of each. Each gets the
+-- replies to its own messages, in order. This holds before the first connection, when one more comes, and after one more turn of any connection.
 pub record AreServedTogether {S : Type 0} (g : Ghosts S) : Type 0 where
   pub none : (meaning : Meaning) (chain : Chained S) → AreServed g meaning chain chain []
   pub comes : (meaning : Meaning) (old new : Chained S) (tills : List Till) (most : ℕ) (input output : Option (List ℕ))
@@ -72,7 +73,7 @@ pub record AreServedTogether {S : Type 0} (g : Ghosts S) : Type 0 where
       → (turn : IsTurn till.line line (RunsOver g meaning mid new) till.left left till.written written)
       → AreServed g meaning old new (front ++ till_then till turn.exchanges line left written ∷ back)
 
--- A connection that came to its end by turns, with nothing left to write, was served as `serve` says of one that is served alone.
+-- A connection that ended by turns, with nothing left to write, was served as `serve` promises for a connection that is served alone.
 abbrev pub TurnsServe : {S : Type 0} → Ghosts S → Type 0
 TurnsServe {S} g =
     (meaning : Meaning) (old new : Chained S) (most : ℕ) (line : Line) (end : End) (input left output written : Option (List ℕ))

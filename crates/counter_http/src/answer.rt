@@ -18,7 +18,7 @@ use shop_types::{Caller, NoMemory, OfficeWords, Refusal, Reply, Token};
 use sqlite::Alter;
 use std::alloc::Global;
 
-/// The token that came with the message, where it is one.
+/// Returns the token that came with the message, if it is a well-formed token.
 fn token_of(message: &Request<'_>) -> Option<Token>
     ensures { result ≡ known_token (message_of message.now).token }
 {
@@ -28,7 +28,7 @@ fn token_of(message: &Request<'_>) -> Option<Token>
     }
 }
 
-/// The chain's reply to somebody who sent no token, whatever is asked.
+/// Returns the chain's reply to somebody who sent no token, whatever is asked.
 fn answer_nobody<S: Alter>(chain: &Chain<S>) -> Reply
     ensures answered { (books besides : Books)
         → AnswersNobody (seen_reply result) (holding chain.now books besides) (holding chain.now books besides) }
@@ -42,7 +42,7 @@ fn answer_nobody<S: Alter>(chain: &Chain<S>) -> Reply
     }
 }
 
-/// The chain's reply to what a caller's message asks, as it was read.
+/// Returns the chain's reply to a caller's message, as it was read.
 fn answer_read<S: Alter>(
     chain: &mut Chain<S>,
     caller: &Caller,
@@ -63,8 +63,8 @@ fn answer_read<S: Alter>(
     }
 }
 
-/// The chain's reply to a message. Who sent it is looked for before what it asks, and what the store lacks is
-/// answered as such. A chain that has failed stays as it is: its store isn't asked.
+/// Returns the chain's reply to a message. Looks for the caller before it reads what the message asks. If the store
+/// can't do its part, the reply is its refusal. A chain that has failed stays as it is: its store isn't asked.
 pub fn answer<O: OfficeWords, S: Alter>(
     alloc: Global,
     chain: &mut Chain<S>,

@@ -11,11 +11,11 @@ use sqlite::Alter;
 use std::alloc::Global;
 use std::io::{Read, Write};
 
-/// Why a connection ended. Where several hold at one reply, the first of `StoreFailed`, `Refused`, `Asked` and
-/// `Limit` stands.
+/// Why a connection ended. If several reasons hold at one reply, it is the first of `StoreFailed`, `Refused`, `Asked`
+/// and `Limit`.
 #[derive(Clone, Copy)]
 pub enum End {
-    /// The input ended behind a whole request, or before the first.
+    /// The input ended after a whole request, or before the first.
     Closed,
     /// The input ended inside a request, which got no reply and changed nothing.
     Cut,
@@ -23,7 +23,7 @@ pub enum End {
     Asked,
     /// As many requests were answered as were allowed.
     Limit,
-    /// What came next is no message, and was told so.
+    /// What came next is no message, and was refused.
     Refused,
     /// The store failed at the last request.
     StoreFailed,
@@ -49,10 +49,10 @@ pub enum ServeFault {
 }
 
 /// Reads requests and writes the replies to them, until the input or the connection ends, or `max_requests` are
-/// answered; with 0 nothing is read. However the reader cuts its bytes, the replies are those to the messages of what
-/// it gives, in order. The memory for the connection is taken before the first byte is read, but for a request of
-/// more than 4,096 bytes. `words` reads the words that head office sends. Over a chain that has failed each reply is
-/// `store_failed`, and its store isn't asked.
+/// answered. With 0 nothing is read. However the reader cuts its bytes, the messages in them get their replies, in
+/// order. The connection takes its memory before the first byte is read, except for a request of more than 4,096 bytes.
+/// `words` reads the words that head office sends. Over a chain that has failed each reply is `store_failed`, and its
+/// store isn't asked.
 pub fn serve<R: Read, W: Write, O: OfficeWords, S: Alter>(
     alloc: Global,
     reader: &mut R,
@@ -101,7 +101,7 @@ pub fn serve<R: Read, W: Write, O: OfficeWords, S: Alter>(
     }
 }
 
-/// How many replies to a text that is no message a connection has that ended so.
+/// Returns how many replies to a text that is no message a connection got before this end: 0 or 1.
 fn refusals(end: End) -> u32
     ensures { result ≡ fault_replies end }
 {

@@ -1,5 +1,5 @@
-//! A counter's connection: requests come in as bytes of HTTP/1.1 (RFC 9112) in a profile of our own, and the replies
-//! of a chain go out.
+//! A counter's connection: reads requests as bytes of HTTP/1.1 (RFC 9112), in a profile of our own, and writes the
+//! replies of a chain.
 #![tactic(auto)]
 
 mod answer;

@@ -24,7 +24,7 @@ use std::alloc::{AllocError, Global};
 use std::io::{self, ErrorKind, Read, Write};
 use std::marker::Model;
 
-/// What a connection waits for behind a turn.
+/// What a connection waits for after a turn.
 #[derive(Clone, Copy)]
 pub enum Standing {
     /// More bytes: there is no whole request, each reply is written, and the reader would wait.
@@ -37,8 +37,8 @@ pub enum Standing {
     Ended(End),
 }
 
-/// What went wrong in a turn. What was read, answered and written until then is told as ever; the connection is of no
-/// more use.
+/// What went wrong in a turn. `Connection::advance` promises the same of what was read, answered and written until
+/// then. The connection is of no more use.
 #[derive(Clone, Copy, Debug)]
 pub enum TurnFault {
     /// The reader failed, or was interrupted without an end, or there was no memory for a long request. Each whole
@@ -114,7 +114,8 @@ fn fault_reply(fault: Fault) -> Reply
     }
 }
 
-/// Why a connection of which so many requests may still be answered ends behind the next of them, where it does.
+/// Returns why a connection ends after its next reply, or `None` if it goes on. `left` is how many requests may still
+/// be answered, this one included.
 fn ending_of(after: After, left: u32) -> Option<End>
     requires { 0 < left }
     ensures { (e : Exchange) (input : Option (List ℕ)) (rest : List ℕ) → IsAfter after e
@@ -128,7 +129,7 @@ fn ending_of(after: After, left: u32) -> Option<End>
     }
 }
 
-/// Why a connection ends at the end of its input, of which this rest isn't answered.
+/// Returns why a connection ends at the end of its input. `rest` is the part of the input that isn't answered.
 fn end_at(rest: &[u8]) -> End
     requires { IsCut rest.now }
     ensures { (most : ℕ) (left : Option (List ℕ)) → 0 < most → IsAtEnd left
@@ -142,8 +143,8 @@ fn end_at(rest: &[u8]) -> End
 }
 
 impl Connection {
-    /// Nothing is read yet, and so many requests may be answered; with 0 the connection ends before the first. The
-    /// memory for small requests is taken here.
+    /// Makes a connection that has read nothing, and may have `most` requests answered. With 0 it ends before the
+    /// first. Takes the memory for small requests.
     pub fn new(alloc: Global, most: u32) -> Result<Connection, AllocError>
         ensures { IfOk result (λ connection. connection ≡ opened most) }
     {
@@ -156,32 +157,32 @@ impl Connection {
         })
     }
 
-    /// How many requests were answered. The reply to a text that is no message doesn't count.
+    /// Returns how many requests were answered. The reply to a text that is no message doesn't count.
     pub fn replies(&self) -> u32
         ensures { result ≡ self.now.replies }
     {
         self.replies
     }
 
-    /// Whether no byte was read of a request that isn't answered.
+    /// Reports whether each byte that was read is part of an answered request.
     pub fn is_between(&self) -> bool
         ensures { IsTrue result ↔ (self.now.inbox ≡ []) }
     {
         self.inbox.bytes().is_empty()
     }
 
-    /// How many requests have their replies, where something is left to write.
+    /// If something is left to write, returns how many requests have their whole reply.
     pub(crate) fn told(&self) -> u32
         ensures { result ≡ told_of self.now.ending self.now.replies }
     {
         match self.ending {
-            // What is left is of the reply to a text that is no message.
+            // What is left is part of the reply to a text that is no message.
             Some(End::Refused) => self.replies,
             Some(_) | None => self.replies.saturating_sub(1),
         }
     }
 
-    /// Writes what is left of a reply, as far as the writer takes it. Whether nothing is left.
+    /// Writes what is left of a reply, as far as the writer takes it. Reports whether nothing is left.
     fn send<W: Write>(&mut self, writer: &mut W) -> io::Result<bool>
         ensures turn { (input : Option (List ℕ))
             → IsTurn self.old self.new (λ es. es ≡ []) input input (W.contents writer.old) (W.contents writer.new) }
@@ -194,7 +195,7 @@ impl Connection {
         self.unsent.flush(writer)
     }
 
-    /// Answers the next request, if it has come whole, or a text that is no message. Whether it did.
+    /// Answers the next request, if it has come whole, or a text that is no message. Reports whether it answered.
     fn answer_next<O: OfficeWords, S: Alter>(
         &mut self,
         alloc: Global,
@@ -233,7 +234,8 @@ impl Connection {
         }
     }
 
-    /// Reads some more bytes; none comes only at the end, which ends the connection. Whether the reader wouldn't wait.
+    /// Reads more bytes. If there are none, the input is at its end, which ends the connection. Returns false if the
+    /// reader would wait.
     fn read_more<R: Read>(&mut self, reader: &mut R) -> io::Result<bool>
         requires room { length self.old.inbox < ROOM }
         requires cut { IsCut self.old.inbox }
@@ -259,11 +261,11 @@ impl Connection {
         }
     }
 
-    /// A turn: goes on as far as the bytes reach. Writes what is left of a reply, answers what has come whole, at
-    /// most `most` requests, and reads, until the reader or the writer would wait (`ErrorKind::WouldBlock`) or the
-    /// connection ends. While a reply isn't wholly written, no further request is answered. `words` reads the words
-    /// that head office sends. Other connections may have their turns between two of this one. A chain that has
-    /// failed stays as it is.
+    /// Takes one turn: goes on as far as the bytes reach. Writes what is left of a reply, answers at most `most` whole
+    /// requests, and reads. The turn ends if the reader or the writer would wait (`ErrorKind::WouldBlock`), or with the
+    /// connection. While a reply isn't wholly written, no further request is answered. `words` reads the words that
+    /// head office sends. Other connections may have their turns between two of this one. A chain that has failed
+    /// stays as it is.
     pub fn advance<R: Read, W: Write, O: OfficeWords, S: Alter>(
         &mut self,
         alloc: Global,

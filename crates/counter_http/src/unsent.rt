@@ -26,7 +26,7 @@ impl Model for Unsent {
 }
 
 impl Unsent {
-    /// Nothing is left to write.
+    /// Holds no reply: nothing is left to write.
     pub fn new() -> Unsent
         ensures { result ≡ [] }
     {
@@ -37,7 +37,7 @@ impl Unsent {
         }
     }
 
-    /// The reply is to be written, in the place of what was.
+    /// Makes this reply the one to write, in the place of the one before.
     pub fn put(&mut self, reply: Reply)
         ensures { self.new ≡ text_of (seen_reply reply) }
     {
@@ -46,8 +46,8 @@ impl Unsent {
         self.body_at = 0;
     }
 
-    /// Writes as far as the writer takes it, and lets go of a reply that is wholly written. Whether nothing is left;
-    /// where something is, the writer would wait. At an error something is left too.
+    /// Writes as far as the writer takes it, and drops a reply that is wholly written. Reports whether nothing is left.
+    /// If something is, the writer would wait. At an error something is left too.
     pub fn flush<W: Write>(&mut self, writer: &mut W) -> io::Result<bool>
         ensures sent { (sent : List ℕ) × Appends (W.contents writer.old) (W.contents writer.new) sent
             × (self.old ≡ sent ++ self.new) }
@@ -62,7 +62,7 @@ impl Unsent {
         Ok(all)
     }
 
-    /// The same, and the reply is kept.
+    /// Does the same as `flush`, but keeps the reply.
     fn write_on<W: Write>(&mut self, writer: &mut W) -> io::Result<bool>
         ensures sent { (sent : List ℕ) × Appends (W.contents writer.old) (W.contents writer.new) sent
             × (self.old ≡ sent ++ self.new) }

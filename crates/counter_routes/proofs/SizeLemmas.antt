@@ -104,7 +104,7 @@ mutual
       at_most_then size members_size (length (json_tokens j)) n (λ d. of_members ms (put k d found))
       (λ d x. made_members ms (put k d found) n (omega (arith, h, x, both, put_size k d found))) (of_json j) (made_size j)
 
--- a document's tokens are those of its value
+-- a document has the same tokens as its value
 spelled : (ts : List Token) (o : Option (json.Json × List Token)) → json.value max_depth ts ≡ o → AtMost (λ j. length (json_tokens j)) (length ts) (option_and_then (λ p. json.if_last p.0 p.1) o)
 spelled ts None e = tt
 spelled ts (Some (j, [])) e =

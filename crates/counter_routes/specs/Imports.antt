@@ -8,15 +8,15 @@ use Rattle.shop_model.specs.Values.{Text, Import, Command}
 use Rattle.counter_routes.specs.Moments.{moment_of}
 use Rattle.counter_routes.specs.Bodies.{◌>>=◌, passing}
 
--- the key or the lot's name that the path's part behind its first `n` slashes is: neither is decoded, so that a `%` is of no name
+-- the key or the lot's name, which is the path's part after its first `n` slashes; the part isn't decoded, so no name has a `%`
 abbrev pub name_in : List ℕ → ℕ → Option Text
 name_in target n = option_and_then (passing is_key) (slice_get (parts target) n)
 
--- the number of the staff who gives it, behind the third slash
+-- the number of the staff who gives the import, after the third slash
 abbrev pub staff_in : List ℕ → Option ℕ
 staff_in target = option_and_then row_number_of (slice_get (parts target) 3)
 
--- the moment whose text the path's part behind its first `n` slashes is
+-- the moment whose text is the path's part after its first `n` slashes
 abbrev pub moment_in : List ℕ → ℕ → Option Moment
 moment_in target n = option_and_then moment_of (slice_get (parts target) n)
 

@@ -1,4 +1,4 @@
--- The looks of a counter: of each its route, and what the parts of its path say, which is all of it.
+-- Defines a counter's looks: the route of each, and what the parts of its path say. A look has nothing besides its path.
 use Rattle.std.specs.Prelude.{ℕ, List, [], ◌∷◌, slice_get, Option, Some, None, option_map, option_and_then, codes, if◌then◌else◌}
 use Rattle.std.specs.Str.{bytes_eq}
 use Rattle.http_messages.specs.Items.{parts}
@@ -29,7 +29,7 @@ get_entries =
     ∷ (codes "/views/{name}", route.View)
     ∷ []
 
--- the number of a row that the path's part behind its second slash is
+-- the number of a row, which is the path's part after its second slash
 abbrev pub number_in : List ℕ → Option ℕ
 number_in target = option_and_then row_number_of (slice_get (parts target) 2)
 
@@ -41,22 +41,22 @@ ask_in ask target = option_map ask (number_in target)
 abbrev pub threshold_of : List ℕ → Option ℕ
 threshold_of bytes = if bytes_eq bytes (codes "0") then Some 0 else row_number_of bytes
 
--- the threshold that the path's part behind its first `n` slashes is
+-- the threshold, which is the path's part after its first `n` slashes
 abbrev pub threshold_in : List ℕ → ℕ → Option ℕ
 threshold_in target n = option_and_then threshold_of (slice_get (parts target) n)
 
--- what a customer owes at a moment: the customer's number stands behind the second slash, the moment behind the third
+-- what a customer owes at a moment: the customer's number is after the second slash, and the moment after the third
 unfoldable pub balance_in : List ℕ → Option Ask
 balance_in target = do
   customer ← number_in target
   moment ← moment_in target 3
   Some (Balance customer moment)
 
--- what is overdue at the moment behind the second slash
+-- what is overdue at the moment after the second slash
 unfoldable pub overdue_in : List ℕ → Option Ask
 overdue_in target = option_map Overdue (moment_in target 2)
 
--- who is rewarded: the moment stands behind the second slash, the purchases behind the third, the cents behind the fourth
+-- who is rewarded: the moment is after the second slash, the purchases after the third, and the cents after the fourth
 unfoldable pub rewards_in : List ℕ → Option Ask
 rewards_in target = do
   moment ← moment_in target 2
@@ -88,6 +88,6 @@ view_of name = if bytes_eq name (codes "customer_list") then Some CustomerList
     else (if bytes_eq name (codes "sales_by_film_category") then Some SalesByCategory
     else None)))))
 
--- the view whose name stands behind the second slash
+-- the view whose name is after the second slash
 abbrev pub view_in : List ℕ → Option View
 view_in target = option_and_then view_of (slice_get (parts target) 2)

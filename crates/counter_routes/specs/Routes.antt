@@ -1,4 +1,4 @@
--- The routes of a counter's requests, and the one that a target has.
+-- Defines the routes of a counter's requests, and the route of a target.
 use Rattle.std.specs.Prelude.{ℕ, Bool, true, false, ◌&&◌, ◌==◌, not, List, [], ◌∷◌, Option, None, Result, Ok, Err, option_map, map, is_none, if◌then◌else◌}
 use Rattle.std.specs.List.{list_any}
 use Rattle.std.specs.Str.{is_utf8}
@@ -17,7 +17,7 @@ use Rattle.counter_routes.specs.Looks.{get_entries}
 abbrev pub Rows : Type 0
 Rows = RowsOf (RouteOf Route)
 
--- the rows with one route more, if its text reads
+-- the rows with one route more, if the route's text can be read
 abbrev pub with_route : Result Scan InsertError → Route → Rows → Rows
 with_route (Ok s) value rows = placed (s.pattern, route_from s value) rows
 with_route (Err e) value rows = rows
@@ -26,16 +26,16 @@ with_route (Err e) value rows = rows
 abbrev pub Entry : Type 0
 Entry = List ℕ × Route
 
--- the rows with these routes more
+-- the rows with the given routes more
 abbrev pub with_routes : Rows → List Entry → Rows
 with_routes rows [] = rows
 with_routes rows (p ∷ ps) = with_routes (with_route (parse_route p.0) p.1 rows) ps
 
--- the rows of these routes alone
+-- the rows of only the given routes
 unfoldable pub table : List Entry → Rows
 table ps = with_routes [] ps
 
--- the text reads, and conflicts with none of the rows
+-- the text can be read, and conflicts with none of the rows
 abbrev pub is_new : Result Scan InsertError → Rows → Bool
 is_new (Ok s) rows = is_none (nearest s.pattern rows)
 is_new (Err e) rows = false
@@ -44,7 +44,7 @@ abbrev pub are_new : Rows → List Entry → Bool
 are_new rows [] = true
 are_new rows (p ∷ ps) = is_new (parse_route p.0) rows && are_new (with_route (parse_route p.0) p.1 rows) ps
 
--- each text reads, and no two routes conflict
+-- each text can be read, and no two routes conflict
 unfoldable pub is_table : List Entry → Bool
 is_table ps = are_new [] ps
 

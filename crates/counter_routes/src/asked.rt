@@ -24,7 +24,7 @@ pub enum Reading {
     Refused(Refusal),
 }
 
-/// What a command's message asks: the command, or `bad_body` where the message writes none.
+/// Returns what a command's message asks: the command, or `bad_body` if the message writes none.
 fn read_command(command: Result<Command, Fault>) -> Result<Reading, NoMemory>
     ensures reading { (written : Option Written) → IfOk command (λ c. written ≡ Some (seen_command c))
         → IfErr command (λ fault. fault ≡ BadBody → written ≡ None)
@@ -40,7 +40,7 @@ fn read_command(command: Result<Command, Fault>) -> Result<Reading, NoMemory>
     }
 }
 
-/// What a look's message asks: the look, or `bad_body` where a part of the path is not of its form.
+/// Returns what a look's message asks: the look, or `bad_body` if a part of the path is not of its form.
 fn read_look(ask: Option<Ask>) -> Reading
     ensures { (asking : Option Asking) → option_map seen_ask ask ≡ asking → Reads result (look_or_bad asking) }
 {
@@ -50,7 +50,7 @@ fn read_look(ask: Option<Ask>) -> Reading
     }
 }
 
-/// What a view's message asks: the view, or `no_route` where no view has the name.
+/// Returns what a view's message asks: the view, or `no_route` if no view has the name.
 fn read_view(view: Option<View>) -> Reading
     ensures { (viewing : Option Viewing) → option_map seen_view view ≡ viewing
         → Reads result (view_or_no_route viewing) }
@@ -84,13 +84,13 @@ impl Routes {
         }
     }
 
-    /// What a message asks of that caller. It is refused with `no_counter` where nobody asks, with `too_long` where
-    /// the body has more than 65,536 bytes, with `no_route` where there is no such request for that caller or no view
-    /// of that name, and with `bad_body` where a part of the path or a JSON body is not of its form. A stock file is
-    /// kept as it came, whatever it says. Head office has one request: its words, sent by POST to `/office` as a JSON
-    /// list of texts. They ask for a command or for a reading over all branches. It is refused with `usage` where
-    /// `words` reads neither in them, or a file's name too, or what only the program can do. Only a counter's command
-    /// and head office's words take memory.
+    /// Returns what a message asks of that caller. The refusal is `no_counter` if nobody asks, and `too_long` if the
+    /// body has more than 65,536 bytes. It is `no_route` if there is no such request for that caller or no view of
+    /// that name. It is `bad_body` if a part of the path or a JSON body is not of its form. A stock file is kept as it
+    /// came, whatever it says. Head office has one request: its words, sent by POST to `/office` as a JSON list of
+    /// texts. They ask for a command or for a reading over all branches. The refusal is `usage` if `words` reads
+    /// neither in them, or a file's name too, or what only the program can do. Only a counter's command and head
+    /// office's words take memory.
     pub fn read<O: OfficeWords>(
         &self,
         alloc: Global,

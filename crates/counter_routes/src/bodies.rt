@@ -55,7 +55,7 @@ pub(crate) fn moment(value: &Value) -> Option<Moment>
     Moment::read(string(value, "at")?)
 }
 
-/// The number of a row that the value is.
+/// Returns the number of a row that the value is.
 fn row_number<const KIND: u8>(value: &Value) -> Option<RowNumber<KIND>>
     ensures { result ≡ row_number_in (view value.now) }
 {
@@ -65,7 +65,7 @@ fn row_number<const KIND: u8>(value: &Value) -> Option<RowNumber<KIND>>
     }
 }
 
-/// The number of a row that the member of that name is.
+/// Reads the number of a row from the member of that name.
 pub(crate) fn number<const KIND: u8>(value: &Value, name: &str) -> Result<RowNumber<KIND>, Fault>
     ensures ok { IfOk result (λ number. number_at name.now (view value.now) ≡ Some number) }
     ensures bad { IfErr result (λ fault. fault ≡ BadBody → number_at name.now (view value.now) ≡ None) }
@@ -74,7 +74,7 @@ pub(crate) fn number<const KIND: u8>(value: &Value, name: &str) -> Result<RowNum
     row_number(number).ok_or(Fault::BadBody)
 }
 
-/// The numbers of rows that the value lists.
+/// Reads the numbers of rows that the value lists.
 fn listed<const KIND: u8>(alloc: Global, value: &Value) -> Result<Vec<RowNumber<KIND>>, Fault>
     ensures ok { IfOk result (λ numbers. list_of_numbers (view value.now) ≡ Some numbers.items) }
     ensures bad { IfErr result (λ fault. fault ≡ BadBody → list_of_numbers (view value.now) ≡ None) }
@@ -88,7 +88,7 @@ fn listed<const KIND: u8>(alloc: Global, value: &Value) -> Result<Vec<RowNumber<
     Ok(numbers)
 }
 
-/// The list of numbers of rows that the member of that name is.
+/// Reads a list of numbers of rows from the member of that name.
 pub(crate) fn numbers<const KIND: u8>(
     alloc: Global,
     value: &Value,
@@ -101,7 +101,7 @@ pub(crate) fn numbers<const KIND: u8>(
     let list = value.get(name).ok_or(Fault::BadBody)?;
     match Numbers::new(listed(alloc, list)?) {
         Some(numbers) => Ok(numbers),
-        // No list is longer than the body that has it.
+        // No list is longer than its body.
         None => unreachable!(),
     }
 }
@@ -114,7 +114,7 @@ pub(crate) fn flag(value: &Value, name: &str) -> Result<bool, Fault>
     flag.as_bool().ok_or(Fault::BadBody)
 }
 
-/// The rental that a payment is of, or that it is of none, as a null says.
+/// Returns the rental that a payment is of, or that it is of none, as a null says.
 pub(crate) fn rental_or_none(value: &Value) -> Result<Option<RentalNo>, Fault>
     ensures ok { IfOk result (λ rental. rental_at (view value.now) ≡ Some rental) }
     ensures bad { IfErr result (λ fault. fault ≡ BadBody → rental_at (view value.now) ≡ None) }
@@ -135,7 +135,7 @@ fn cents(value: &Value) -> Option<Amount>
     }
 }
 
-/// What a payment is of.
+/// Returns what a payment is of.
 pub(crate) fn amount(value: &Value) -> Result<Amount, Fault>
     ensures ok { IfOk result (λ amount. amount_at (view value.now) ≡ Some amount) }
     ensures bad { IfErr result (λ fault. fault ≡ BadBody → amount_at (view value.now) ≡ None) }
@@ -155,7 +155,7 @@ pub(crate) fn text<const LOW: usize, const HIGH: usize>(
     Text::read(String::from_str(alloc, text)?).ok_or(Fault::BadBody)
 }
 
-/// The first name and the last.
+/// Returns the first name and the last.
 fn names(alloc: Global, value: &Value) -> Result<(T45, T45), Fault>
     ensures ok { IfOk result (λ names. names_at (view value.now) ≡ Some names) }
     ensures bad { IfErr result (λ fault. fault ≡ BadBody → names_at (view value.now) ≡ None) }
@@ -163,7 +163,7 @@ fn names(alloc: Global, value: &Value) -> Result<(T45, T45), Fault>
     Ok((text(alloc, value, "first")?, text(alloc, value, "last")?))
 }
 
-/// The address, the postal code and the telephone number.
+/// Returns the address, the postal code and the telephone number.
 fn contact(alloc: Global, value: &Value) -> Result<(T128, L45, L45), Fault>
     ensures ok { IfOk result (λ contact. contact_at (view value.now) ≡ Some contact) }
     ensures bad { IfErr result (λ fault. fault ≡ BadBody → contact_at (view value.now) ≡ None) }
@@ -192,7 +192,7 @@ pub(crate) fn person(alloc: Global, value: &Value) -> Result<Person, Fault>
     })
 }
 
-/// The value that a body writes.
+/// Returns the value that a body writes.
 pub(crate) fn value_of(alloc: Global, body: &[u8]) -> Result<Value, Fault>
     ensures ok { IfOk result (λ value. body_of body.now ≡ Some (view value)) }
     ensures bad { IfErr result (λ fault. fault ≡ BadBody → body_of body.now ≡ None) }

@@ -43,7 +43,7 @@ pub(crate) const POST_ROUTES: [Pattern; 9] = [
     Pattern("/scrap", Route::Command(CommandForm::Scrap)),
 ];
 
-/// How many members a body of the form has.
+/// Returns how many members a body of the form has.
 fn member_count(form: CommandForm) -> usize
     ensures { result ≡ member_count form }
 {
@@ -55,7 +55,7 @@ fn member_count(form: CommandForm) -> usize
     }
 }
 
-/// What a command of the form does, by the members that say it.
+/// Returns what a command of the form does, by the members that say it.
 fn act(alloc: Global, form: CommandForm, value: &Value) -> Result<Act, Fault>
     requires { size (view value.now) ≤ 65_537 }
     ensures ok { IfOk result (λ act. act_at form (view value.now) ≡ Some (seen_act act)) }
@@ -105,7 +105,7 @@ fn giver(value: &Value, count: usize) -> Result<(StaffNo, Moment), Fault>
     Ok((staff, at))
 }
 
-/// The command of the form that a value writes.
+/// Returns the command of the form that a value writes.
 #[tactic(auto, unfolding(crate::specs::Commands::command_in))]
 fn command(alloc: Global, form: CommandForm, value: &Value) -> Result<Command, Fault>
     requires { size (view value.now) ≤ 65_537 }
@@ -123,7 +123,7 @@ fn command(alloc: Global, form: CommandForm, value: &Value) -> Result<Command, F
     })
 }
 
-/// The command of the form that a body writes.
+/// Returns the command of the form that a body writes.
 pub(crate) fn body_command(alloc: Global, form: CommandForm, body: &[u8]) -> Result<Command, Fault>
     requires { length body.now ≤ 65_536 }
     ensures ok { IfOk result (λ command. written_in (command_in form) body.now ≡ Some (seen_command command)) }

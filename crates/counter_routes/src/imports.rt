@@ -27,7 +27,7 @@ fn staff(target: &[u8]) -> Option<StaffNo>
     StaffNo::read(part(target, 3)?)
 }
 
-/// The moment whose text the path's part behind its first `n` slashes is.
+/// Reads the moment from the path's part after its first `n` slashes.
 pub(crate) fn moment(target: &[u8], n: usize) -> Option<Moment>
     ensures { result ≡ moment_in target.now n }
 {
@@ -38,7 +38,7 @@ pub(crate) fn moment(target: &[u8], n: usize) -> Option<Moment>
     Moment::read(text)
 }
 
-/// The import that a path writes, of the file that the body is.
+/// Returns the import that a path writes, of the file that the body is.
 #[tactic(auto, unfolding(crate::specs::Imports::import_in))]
 pub(crate) fn import_command(alloc: Global, target: &[u8], body: &[u8]) -> Result<Command, Fault>
     requires { length body.now ≤ 65_536 }

@@ -9,17 +9,17 @@ use crate::paths::{Pattern, Route};
 use http_messages::part;
 use shop_types::{Ask, RowNumber, View};
 
-/// A number from 1 that is of no table's row.
+/// A number from 1 that isn't the number of a table's row.
 type NumberAlone = RowNumber<0>;
 
-/// The number of a row that the path's part behind its second slash is.
+/// Reads the number of a row from the path's part after its second slash.
 fn number_of<const KIND: u8>(target: &[u8]) -> Option<RowNumber<KIND>>
     ensures { result ≡ number_in target.now }
 {
     RowNumber::read(part(target, 2)?)
 }
 
-/// The number that the bytes write, which may be 0.
+/// Reads the number that the bytes write, which may be 0.
 fn threshold_written(digits: &[u8]) -> Option<u32>
     ensures { result ≡ threshold_of digits.now }
 {
@@ -30,14 +30,14 @@ fn threshold_written(digits: &[u8]) -> Option<u32>
     Some(number.get())
 }
 
-/// The threshold that the path's part behind its first `n` slashes is.
+/// Reads the threshold from the path's part after its first `n` slashes.
 fn threshold(target: &[u8], n: usize) -> Option<u32>
     ensures { result ≡ threshold_in target.now n }
 {
     threshold_written(part(target, n)?)
 }
 
-/// The look at a customer's balance that a path writes.
+/// Returns the look at a customer's balance that a path writes.
 #[tactic(auto, unfolding(crate::specs::Looks::balance_in))]
 fn balance_ask(target: &[u8]) -> Option<Ask>
     ensures { option_map seen_ask result ≡ balance_in target.now }
@@ -48,7 +48,7 @@ fn balance_ask(target: &[u8]) -> Option<Ask>
     })
 }
 
-/// The look at the overdue rentals that a path writes.
+/// Returns the look at the overdue rentals that a path writes.
 #[tactic(auto, unfolding(crate::specs::Looks::overdue_in))]
 fn overdue_ask(target: &[u8]) -> Option<Ask>
     ensures { option_map seen_ask result ≡ overdue_in target.now }
@@ -56,7 +56,7 @@ fn overdue_ask(target: &[u8]) -> Option<Ask>
     Some(Ask::Overdue(moment(target, 2)?))
 }
 
-/// The look at the rewards that a path writes.
+/// Returns the look at the rewards that a path writes.
 #[tactic(auto, unfolding(crate::specs::Looks::rewards_in))]
 fn rewards_ask(target: &[u8]) -> Option<Ask>
     ensures { option_map seen_ask result ≡ rewards_in target.now }
@@ -106,7 +106,7 @@ pub(crate) const GET_ROUTES: [Pattern; 12] = [
     Pattern("/views/{name}", Route::View),
 ];
 
-/// The look of the form that a path writes.
+/// Returns the look of the form that a path writes.
 pub(crate) fn look_asked(form: LookForm, target: &[u8]) -> Option<Ask>
     ensures { option_map seen_ask result ≡ look_in form target.now }
 {
@@ -125,7 +125,7 @@ pub(crate) fn look_asked(form: LookForm, target: &[u8]) -> Option<Ask>
     }
 }
 
-/// The view of that name.
+/// Returns the view of that name.
 fn view_named(name: &[u8]) -> Option<View>
     ensures { option_map seen_view result ≡ view_of name.now }
 {
@@ -150,7 +150,7 @@ fn view_named(name: &[u8]) -> Option<View>
     None
 }
 
-/// The view that a path names.
+/// Returns the view that a path names.
 pub(crate) fn view_asked(target: &[u8]) -> Option<View>
     ensures { option_map seen_view result ≡ view_in target.now }
 {

@@ -15,7 +15,7 @@ use serde_json::Value;
 use shop_types::{Line, LineAct, NoMemory, OfficeWords, Refusal, Request, Usage};
 use std::alloc::Global;
 
-/// The texts that a value lists.
+/// Returns the texts that a value lists.
 fn texts(alloc: Global, value: &Value) -> Result<Vec<String>, Fault>
     ensures ok { IfOk result (λ texts. list_of_texts (view value.now) ≡ Some (map string_bytes texts.items)) }
     ensures bad { IfErr result (λ fault. fault ≡ BadBody → list_of_texts (view value.now) ≡ None) }
@@ -29,7 +29,7 @@ fn texts(alloc: Global, value: &Value) -> Result<Vec<String>, Fault>
     Ok(texts)
 }
 
-/// The texts that a body lists.
+/// Returns the texts that a body lists.
 fn body_texts(alloc: Global, body: &[u8]) -> Result<Vec<String>, Fault>
     ensures ok { IfOk result (λ texts. texts_of body.now ≡ Some (map string_bytes texts.items)) }
     ensures bad { IfErr result (λ fault. fault ≡ BadBody → texts_of body.now ≡ None) }
@@ -37,8 +37,8 @@ fn body_texts(alloc: Global, body: &[u8]) -> Result<Vec<String>, Fault>
     texts(alloc, &value_of(alloc, body)?)
 }
 
-/// What a line asks of a chain: a command or a reading. A line that names a file, or that only the program can do,
-/// asks nothing.
+/// Returns what a line asks of a chain: a command or a reading. A line that names a file, or that only the program can
+/// do, asks nothing.
 fn line_request(line: Line) -> Option<Request>
     ensures { option_map seen_request result ≡ request_of_line (seen_line line) }
 {
@@ -54,7 +54,7 @@ fn line_request(line: Line) -> Option<Request>
     }
 }
 
-/// What the words ask: the command or the reading that they mean, or `usage` where they mean neither.
+/// Returns what the words ask: the command or the reading that they mean, or `usage` if they mean neither.
 fn read_words<O: OfficeWords>(words: &O, texts: &[String]) -> Result<Reading, NoMemory>
     ensures { IfOk result (λ reading. Reads reading
         (office_or_usage (request_of_words (O.meaning words.now) (map string_bytes texts.now)))) }
@@ -71,14 +71,14 @@ fn read_words<O: OfficeWords>(words: &O, texts: &[String]) -> Result<Reading, No
     }
 }
 
-/// Whether the message is one that head office may send: POST to the one target.
+/// Returns whether the message is one that head office may send: POST to the one target.
 fn is_to_office(message: &http_messages::Request<'_>) -> bool
     ensures { result ≡ asks_office (message_of message.now) }
 {
     message.posts && message.target == b"/office".as_slice()
 }
 
-/// What head office's message asks.
+/// Returns what head office's message asks.
 pub(crate) fn read_office<O: OfficeWords>(
     alloc: Global,
     words: &O,

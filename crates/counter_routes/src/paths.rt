@@ -79,7 +79,7 @@ pub struct Routes {
 }
 
 impl Routes {
-    /// The two routers, of the routes that are built so far.
+    /// Returns the two routers, of the routes that are built so far.
     pub fn new(alloc: Global) -> Result<Routes, NoMemory>
         ensures posts { IfOk result (λ routes. routes.posts ≡ table post_entries) }
         ensures gets { IfOk result (λ routes. routes.gets ≡ table get_entries) }
@@ -96,8 +96,8 @@ impl Routes {
         if posts { &self.posts } else { &self.gets }
     }
 
-    /// What a target asks for: bytes that are UTF-8, begin with a slash and have no question mark. There is no other
-    /// route.
+    /// Returns what a target asks for: bytes that are UTF-8, begin with a slash and have no question mark. There is no
+    /// other route.
     pub(crate) fn find(&self, posts: bool, target: &[u8]) -> Option<Route>
         ensures { result ≡ route_of posts target.now }
     {

@@ -84,7 +84,7 @@ headless input absent may = record {
   begins = open_at input absent may;
 }
 
--- bytes that cannot begin a head, in an input of 8,192 bytes and more, are a front of these
+-- if an input of at least 8,192 bytes with more bytes after it cannot begin a head, the input alone cannot begin one
 pub cannot_begin_front : (input more : List ℕ) → CannotBegin (input ++ more) → 8192 ≤ length input → CannotBegin input
 cannot_begin_front input more bad long =
     let w = front_in_window 8192 (input ++ more) bad.front bad.rest bad.parts bad.short in

@@ -41,7 +41,7 @@ written_more output mid written bytes before at n (sent, appends, parts) more =
       parts ∙ ap (λ (l : List ℕ). sent ++ l) rest ∙ sym (append_assoc sent (take n (drop at bytes)) (drop (at + n) bytes)),
     )
 
--- a part, and behind it the next
+-- one part is written, and the next part after it
 pub written_two : (output mid written : Option (List ℕ)) (head after body rest : List ℕ) → IsWritten output mid head after → after ≡ [] → IsWritten mid written body rest
     → IsWritten output written (head ++ body) (after ++ rest)
 written_two output mid written head after body rest (sent, appends, parts) none (sent_too, appends_too, parts_too) = (

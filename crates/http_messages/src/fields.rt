@@ -20,7 +20,7 @@ pub(crate) enum Found<'b> {
 }
 
 impl<'b> Found<'b> {
-    /// The same with a value more.
+    /// Returns what is found with one more value.
     fn and(self, value: &'b [u8]) -> Found<'b>
         ensures { (values : List (List ℕ))
             → IsFound self.entry values → IsFound result (values ++ value.now ∷ []) }
@@ -51,7 +51,7 @@ fn find<'b>(bytes: &'b [u8], headers: &[HeaderSpan], name: &[u8]) -> Found<'b>
     found
 }
 
-/// The number that 1 to 19 digits give, which fits 64 bits.
+/// Returns the number that 1 to 19 digits give, which fits 64 bits.
 fn size_of_value(value: &[u8]) -> Option<u64>
     ensures { result ≡ size_in (value.now ∷ []) }
 {
@@ -80,7 +80,7 @@ fn is_get_method(method: &[u8]) -> bool
     method == b"GET".as_slice()
 }
 
-/// The size of the body, where the head isn't refused.
+/// Returns the size of the body, if the head isn't refused.
 pub(crate) fn size_of_body(bytes: &[u8], method: &[u8], headers: &[HeaderSpan]) -> Option<u64>
     requires { All (IsHeaderWithin (length bytes.now)) headers.now }
     ensures { result ≡ size_of_pairs method.now (map (header_bytes bytes.now) headers.now) }

@@ -44,16 +44,16 @@ fn closes(item: &[u8]) -> bool
     trimmed(item).eq_ignore_ascii_case(b"close")
 }
 
-/// Whether one of the comma-separated items of a `connection` field's value is `close`, in any case
-/// (RFC 9110, section 7.6.1).
+/// Returns whether one of the comma-separated items of a `connection` field's value is `close`, in any case (RFC 9110,
+/// section 7.6.1).
 pub(crate) fn lists_close(value: &[u8]) -> bool
     ensures { result ≡ says_close value.now }
 {
     value.split(|byte| *byte == b',').any(|item| closes(item))
 }
 
-/// The part of a path behind its first `n` slashes and before the next one: of `/film/7` the part 1
-/// is `film`, and the part 0 is empty. There is none where the path has fewer than `n` slashes.
+/// Returns the part of a path after its first `n` slashes and before the next slash. For `/film/7`
+/// part 1 is `film`, and part 0 is empty. If the path has fewer than `n` slashes, returns none.
 ///
 /// Nothing is decoded: a `%` stands for itself, by our own profile.
 pub fn part(path: &[u8], n: usize) -> Option<&[u8]>

@@ -47,18 +47,18 @@ pub enum Fault {
     TooLong,
 }
 
-/// What the bytes so far are.
+/// The outcome of reading the bytes so far.
 #[derive(Clone, Copy)]
 pub enum Reading<'b> {
-    /// A whole request, and the count of its bytes: the next one begins behind them.
+    /// A whole request, and the count of its bytes. The next request begins after them.
     Whole(Request<'b>, usize),
     /// The start of a request, or no byte at all.
     More,
-    /// Nothing that follows can make a request of these bytes.
+    /// No bytes that follow can complete these bytes to a request.
     Refused(Fault),
 }
 
-/// What follows a head.
+/// Reads what follows a head.
 fn read_body<'b>(
     input: &'b [u8],
     window: &'b [u8],

@@ -5,9 +5,9 @@ ghost use Rattle.std.specs.Io.KnownBytes.{Appends};
 
 use std::io::{self, ErrorKind, Write};
 
-/// Writes the bytes from `at` on, as far as the writer takes them, and moves `at` behind what is written.
+/// Writes the bytes from `at` on, as far as the writer takes them, and moves `at` past the written bytes.
 ///
-/// Whether all is written; where not, the writer would wait. At an error something is left to write too.
+/// Returns whether all bytes are written. If not, the writer would block. At an error bytes are left to write too.
 pub fn write_part<W: Write>(writer: &mut W, bytes: &[u8], at: &mut usize) -> io::Result<bool>
     ensures sent { (sent : List ℕ) × Appends (W.contents writer.old) (W.contents writer.new) sent
         × (drop at.old bytes.now ≡ sent ++ drop at.new bytes.now) }

@@ -1,4 +1,4 @@
-//! What was asked last, what was told, and what is wanted of it.
+//! What was asked last, what came back, and what the row wants to come back.
 ghost use Rattle.std.specs.Prelude.{◌≡◌, OnOk};
 
 use crate::fault::Fault;
@@ -8,21 +8,21 @@ use std::io::{self, Write};
 use std::marker::Model;
 use std::mem;
 
-/// What was sent, told or written; what was written to standard error; and how it ended: `closed 1`, or `status 2` of a
-/// program. Also what is wrong first.
+/// What was sent, answered or written; what was written to standard error; and how it ended: `closed 1`, or `status 2`
+/// of a program. Keeps also the first fault.
 #[derive(Drop)]
 pub struct Texts {
     pub out: Vec<u8>,
     pub err: Vec<u8>,
     end: Vec<u8>,
-    /// How many replies stand in `out`, where they are put there one by one.
+    /// How many replies are in `out`, if they are put there one by one.
     replies: u32,
     /// How many bytes a connection's writer has room for in `out`.
     room: usize,
     fault: Fault,
 }
 
-/// Its texts: so those who hold one aren't checked over its parts.
+/// Its texts. So the holder of a `Texts` isn't checked over its parts.
 impl Model for Texts {
     ghost use Rattle.std.specs.Prelude.{ℕ, List};
 
@@ -43,7 +43,7 @@ impl Texts {
         }
     }
 
-    /// Nothing is told, and a connection's writer has room for so much. What is wrong stays.
+    /// Empties the texts, and sets the room of a connection's writer. Keeps the fault.
     pub fn clear(&mut self, room: usize) {
         self.out.clear();
         self.err.clear();
@@ -52,7 +52,7 @@ impl Texts {
         self.room = room;
     }
 
-    /// It ended with that word, and so many replies or that status.
+    /// Sets how it ended: with this word, and so many replies or this status.
     pub fn ends(&mut self, word: &str, count: u32) {
         self.end.clear();
         let is_put = self.end.extend_from_slice(word.as_bytes()).is_ok()
@@ -79,8 +79,8 @@ impl Texts {
         self.err.as_slice()
     }
 
-    /// Puts what was sent or written (`out`), or what was written to standard error (`err`); or it ended so, whatever
-    /// was said of that before.
+    /// Adds what was sent or written (`out`), or what was written to standard error (`err`). With another word,
+    /// replaces how it ended.
     pub fn puts(&mut self, word: &str, bytes: &[u8]) {
         let put = match word {
             "out" => self.out.extend_from_slice(bytes),
@@ -93,7 +93,7 @@ impl Texts {
         self.needs(put.is_ok(), "no memory");
     }
 
-    /// One reply more, of which there is room for so much.
+    /// Adds one more reply, cut at the end of the room.
     fn replies(&mut self, status: &str, body: &[u8]) {
         self.replies = self.replies.saturating_add(1);
         let replies = self.replies;
@@ -103,7 +103,7 @@ impl Texts {
         self.ends("closed", replies);
     }
 
-    /// What was sent goes there, and what stood there comes here.
+    /// Swaps what was sent with `out`.
     pub fn swap_out(&mut self, out: &mut Vec<u8>) {
         mem::swap(&mut self.out, out);
     }
@@ -112,26 +112,26 @@ impl Texts {
         matches!(self.fault, Fault::Nothing)
     }
 
-    /// What is wrong first.
+    /// Returns the first fault.
     pub fn fault(&self) -> Fault {
         self.fault
     }
 
-    /// That is wrong, if nothing was before.
+    /// Records the fault, if there was none before.
     pub fn fails(&mut self, fault: Fault) {
         if let Fault::Nothing = self.fault {
             self.fault = fault;
         }
     }
 
-    /// The line can't be played unless that holds.
+    /// Records that the line can't be played, unless `holds`.
     pub fn needs(&mut self, holds: bool, text: &'static str) {
         if !holds {
             self.fails(Fault::Line(text));
         }
     }
 
-    /// The files aren't opened, for the fault of that name, or are where there is none.
+    /// Records that the files weren't opened, for the fault of this name. An empty name means that they were opened.
     pub fn opens(&mut self, name: &'static str) {
         if !name.is_empty() {
             self.fails(Fault::Opening(name));
@@ -157,13 +157,13 @@ impl Write for Texts {
 pub enum Kind {
     /// Nothing is compared.
     Nothing,
-    /// What takes no further lines.
+    /// No further line says what is wanted.
     Audit,
     Connection,
     Program,
 }
 
-/// What was asked last, whose texts are being compared.
+/// What was asked last, with the texts to compare.
 #[derive(Drop)]
 pub struct Asked {
     pub kind: Kind,
@@ -183,7 +183,7 @@ impl Asked {
         }
     }
 
-    /// Something else is asked.
+    /// Begins another exchange.
     pub fn begin(&mut self, kind: Kind, room: usize) {
         self.kind = kind;
         self.told.clear(room);
@@ -191,8 +191,9 @@ impl Asked {
         self.count = self.count.saturating_add(1);
     }
 
-    /// A line says more of what is wanted: of a connection a reply, whose status is the word, or `end`; and of a
-    /// program `out`, `err`, `status`, or `usage`, by which status 2 is wanted, and some text on standard error.
+    /// Reads a line that says more of what is wanted. For a connection it is a reply, with the word as its status, or
+    /// `end`. For a program it is `out`, `err`, `status` or `usage`. `usage` wants status 2 and some text on standard
+    /// error.
     pub fn wants(&mut self, alloc: Global, word: &str, line: &str) {
         let kind = self.kind;
         let told = &mut self.told;
@@ -224,7 +225,7 @@ impl Asked {
         told.fails(fault);
     }
 
-    /// Whether what was told is what is wanted: all bytes of it.
+    /// Succeeds only if what came back is what is wanted, in all bytes.
     pub fn settle(&self) -> Result<(), Fault>
         ensures out { OnOk result (self.now.told.0 ≡ self.now.wanted.0) }
         ensures end { OnOk result (self.now.told.1 ≡ self.now.wanted.1) }
@@ -242,8 +243,8 @@ impl Asked {
         Ok(())
     }
 
-    /// Compares what was asked last, where nothing is wrong and a line with this first word says no more of it: where
-    /// it differs, that is wrong.
+    /// Compares what was asked last, unless there is a fault or a line with this first word says more of it. Records a
+    /// difference as a fault.
     pub fn compare(&mut self, word: &str) {
         let kind = self.kind;
         if matches!(kind, Kind::Nothing) || says_more(word) || !self.told.is_well() {
@@ -258,7 +259,7 @@ impl Asked {
         }
     }
 
-    /// The place of the first byte that differs, from 1 on.
+    /// Returns the place of the first byte that differs, counted from 1.
     pub fn difference(&self) -> usize {
         let mut at = 1usize;
         for (a, b) in self.told.out().iter().zip(self.wanted.out()) {

@@ -1,4 +1,4 @@
-//! The chain of the row that is played, and what is to happen to it.
+//! The chain of the row that is played, and what a row does with it.
 use crate::asked::Texts;
 use crate::stage::{Calls, Deed, Image, MANY, NEVER, Opening, Stage, WHOLE};
 use crate::stops::{flip, resume_at_each, sweep, trial};
@@ -23,11 +23,11 @@ pub enum Held {
 pub struct Chain<S: Stage> {
     pub stage: S,
     pub held: Held,
-    /// What its files hold, where it is closed.
+    /// What the chain's files hold, if it is closed.
     pub files: Image,
 }
 
-/// As of names.
+/// Says nothing of the value. So its holder isn't checked over its parts.
 impl<S: Stage> Model for Chain<S> {
     ghost use Rattle.std.specs.Prelude.{⊤};
 
@@ -52,7 +52,7 @@ impl<S: Stage> Chain<S> {
         }
     }
 
-    /// Closes the chain, whose files fail no more.
+    /// Closes the chain. Its files fail no more.
     pub fn rest(&mut self, told: &mut Texts) {
         match self.held {
             Held::Closed => return,
@@ -64,21 +64,21 @@ impl<S: Stage> Chain<S> {
         self.held = Held::Closed;
     }
 
-    /// Has a chain in the files.
+    /// Opens, migrates or makes a chain in the files.
     pub fn open(&mut self, opening: Opening, calls: Calls, held: Held, told: &mut Texts) {
         let name = self.stage.open(opening, &self.files, calls);
         told.opens(name);
         self.held = held;
     }
 
-    /// Closes the chain, and does that with the tables in its files.
+    /// Closes the chain, and does the deed with the tables in its files.
     pub fn change(&mut self, alloc: Global, deed: Deed<'_>, told: &mut Texts) {
         self.rest(told);
         S::tables(alloc, deed, &mut self.files, told);
     }
 
-    /// A new chain: `demo`, `files`, `first` (of version 1), `empty`, `stocked` (with the first lot and the first
-    /// customer) or `limits COMMANDS COPIES`.
+    /// Begins a new chain: `demo`, `files`, `first` (of version 1), `empty`, `stocked` (with the first lot and the
+    /// first customer) or `limits COMMANDS COPIES`.
     pub fn begin(&mut self, alloc: Global, words: &str, told: &mut Texts) {
         let (word, limits) = words.split_once(' ').unwrap_or((words, ""));
         self.held = Held::Closed;
@@ -105,7 +105,7 @@ impl<S: Stage> Chain<S> {
         }
     }
 
-    /// Has a chain in the files refused, for the fault of that name.
+    /// Expects that the files aren't opened, for the fault of this name.
     pub fn refuse(&mut self, opening: Opening, fault: &str, told: &mut Texts) {
         self.rest(told);
         let name = self.stage.open(opening, &self.files, NEVER);
@@ -116,7 +116,7 @@ impl<S: Stage> Chain<S> {
         let _ = self.stage.close(&mut self.files, told);
     }
 
-    /// Closes the chain's files, and has a chain in them.
+    /// Closes the chain's files, and opens a chain in them.
     pub fn open_again(&mut self, opening: Opening, told: &mut Texts) {
         match (self.held, opening) {
             (Held::Open, Opening::Opened) => {
@@ -129,7 +129,7 @@ impl<S: Stage> Chain<S> {
         }
     }
 
-    /// Stops a connection, or an opening, at each call of copies of the disks.
+    /// Stops a connection, or an opening, at each call of the disks, on copies of the files.
     pub fn sweep(
         &mut self,
         alloc: Global,
@@ -148,7 +148,7 @@ impl<S: Stage> Chain<S> {
         );
     }
 
-    /// Puts the chain on a log that fails so many calls before the connection is answered.
+    /// Puts the chain on a disk of the log that fails so many calls before the connection would be answered.
     pub fn fail(&mut self, alloc: Global, fewer: u32, input: &[u8], told: &mut Texts) {
         self.rest(told);
         let mut tried = Image::new(alloc);
@@ -165,8 +165,8 @@ impl<S: Stage> Chain<S> {
         self.open(Opening::Opened, Calls { log, ..NEVER }, Held::Failing, told);
     }
 
-    /// Stops the chain at each call of copies of the disks while it answers the requests as values. What is answered
-    /// behind each stop is told.
+    /// Stops the chain at each call of the disks, on copies of the files, while it answers the requests as values. Puts
+    /// what is answered after each stop into `told`.
     pub fn resume(&mut self, alloc: Global, input: &[u8], told: &mut Texts) {
         self.rest(told);
         let mut wanted = Vec::new(alloc);
@@ -176,7 +176,7 @@ impl<S: Stage> Chain<S> {
         told.err.clear();
     }
 
-    /// Changes the byte behind a text: `TEXT BYTE`.
+    /// Changes the last byte of a text in the database's file: `TEXT BYTE`.
     pub fn flip(&mut self, alloc: Global, line: &str, told: &mut Texts) {
         let (text, byte) = line.rsplit_once(' ').unwrap_or((line, ""));
         let byte = byte.bytes().next().unwrap_or(0);

@@ -7,11 +7,11 @@ pub enum Fault {
     Nothing,
     /// The line can't be played.
     Line(&'static str),
-    /// The files aren't opened, for the fault of that name.
+    /// The files weren't opened, for the fault of this name.
     Opening(&'static str),
-    /// What was sent or told differs from what is wanted.
+    /// What was sent or answered differs from what is wanted.
     Out,
-    /// It ended in another way.
+    /// The connection or the program ended in another way.
     End,
     /// The program wrote something else to its standard error.
     Err,

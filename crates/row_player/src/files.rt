@@ -7,11 +7,11 @@ use std::fs::read_to_string;
 use std::marker::Model;
 use std::process::ExitCode;
 
-/// What came of rows.
+/// The outcome of all rows so far.
 #[derive(Drop)]
 struct Sum {
     rows: u32,
-    /// How many rows are wrong, as they are to be.
+    /// How many rows have a fault, as they are meant to.
     wrong: u32,
     exchanges: u32,
     is_well: bool,
@@ -19,7 +19,7 @@ struct Sum {
     seen: String,
 }
 
-/// As of names.
+/// Says nothing of the value. So its holder isn't checked over its parts.
 impl Model for Sum {
     ghost use Rattle.std.specs.Prelude.{⊤};
 
@@ -37,13 +37,13 @@ struct Playing<'t> {
     line: usize,
     name: &'t str,
     is_wrong: bool,
-    /// How often rounds are still to be played, the line that begins them, and what stands behind it.
+    /// How many rounds are still to be played, the line that begins them, and the text after that line.
     left: u32,
     begun: usize,
     rounds: &'t str,
 }
 
-/// Says where and why a row stops, with what was told where that is it.
+/// Prints where and why a row stops. If what came back differs from what is wanted, prints it too.
 fn complain(rt: &HostRuntime, asked: &Asked, playing: &Playing<'_>, line: usize) {
     let (path, name) = (playing.path, playing.name);
     let fault = asked.told.fault();
@@ -69,7 +69,7 @@ fn complain(rt: &HostRuntime, asked: &Asked, playing: &Playing<'_>, line: usize)
 }
 
 impl Sum {
-    /// Sees the name of a row, which no other row may have.
+    /// Notes the name of a row. No other row may have the same name.
     fn see(&mut self, name: &str, asked: &mut Asked) {
         let told = &mut asked.told;
         let is_name = !name.is_empty() && !name.contains(' ');
@@ -81,7 +81,7 @@ impl Sum {
         told.needs(is_put, "no memory");
     }
 
-    /// Counts the row that ended, and says what came of it.
+    /// Counts the row that ended, and prints its outcome.
     fn add(&mut self, rt: &HostRuntime, asked: &mut Asked, playing: &Playing<'_>, line: usize) {
         let (name, count) = (playing.name, asked.count);
         match (asked.told.is_well(), playing.is_wrong) {
@@ -101,7 +101,7 @@ impl Sum {
     }
 }
 
-/// Ends the row that was played, if there is one, and says what came of it. Behind `rounds` without `done` it is wrong.
+/// Ends the row that was played, if there is one, and prints its outcome. `rounds` without `done` is a fault.
 fn end<S: Stage>(rt: &HostRuntime, row: &mut Row<'_, S>, playing: &Playing<'_>, sum: &mut Sum) {
     let mut line = row.at;
     if row.asked.told.is_well() {
@@ -189,7 +189,7 @@ fn play_lines<S: Stage>(
     row.clear();
 }
 
-/// Plays the files in this order, and tells what came of each row and of all.
+/// Plays the files in this order, and prints the outcome of each row and of all.
 pub fn play_all<S: Stage>(rt: &HostRuntime, stage: S, paths: &[String]) -> ExitCode {
     let mut row = Row::new(rt, stage);
     let mut sum = Sum {

@@ -1,5 +1,5 @@
-//! The player of rows: what their lines say, and the order in which they are played on a chain and a program that are
-//! handed in.
+//! The player of rows: reads what their lines say, and plays them in order on a chain and a program that the caller
+//! passes in.
 #![tactic(auto)]
 
 mod asked;

@@ -1,4 +1,4 @@
-//! What is said of what comes next: how requests come, standard input, and what tills do.
+//! What lines say of what comes next: how requests come, standard input, and what tills do.
 use crate::asked::Texts;
 use crate::stage::{Come, How, WHOLE};
 use crate::texts::{is_status, number, put_bytes, put_quoted, put_reply, put_request};
@@ -6,20 +6,21 @@ use crate::tills::{Step, What};
 use std::alloc::Global;
 use std::marker::Model;
 
-/// What happens to the chain that the next requests come to.
+/// What happens to the chain that gets the next requests.
 #[derive(Clone, Copy)]
 pub enum Way {
     /// Nothing.
     Plain,
-    /// Its log fails so many calls before they are answered.
+    /// The disk of its log fails so many calls before the requests would be answered.
     Failing(u32),
-    /// It is stopped at each call of copies of the disks first. So is an opening.
+    /// Before the requests, it is stopped at each call of the disks, on copies of the files. So is an opening.
     Swept,
-    /// It is stopped at each call of copies of the disks, and they come as values before that and behind it.
+    /// It is stopped at each call of the disks, on copies of the files. The requests come as values before the stop and
+    /// after it.
     Stopped,
 }
 
-/// What is said of what comes next.
+/// What lines say of what comes next.
 #[derive(Drop)]
 pub struct Next {
     pub way: Way,
@@ -28,12 +29,12 @@ pub struct Next {
     pub is_said: bool,
     /// Standard input of the next run.
     pub input: Vec<u8>,
-    /// What tills do that weren't served yet, and how many come.
+    /// The steps of the tills that aren't served yet, and how many tills come.
     pub steps: Vec<Step>,
     pub comers: u32,
 }
 
-/// As of names.
+/// Says nothing of the value. So its holder isn't checked over its parts.
 impl Model for Next {
     ghost use Rattle.std.specs.Prelude.{⊤};
 
@@ -43,7 +44,7 @@ impl Model for Next {
 }
 
 impl Next {
-    /// Nothing is said.
+    /// Says nothing of what comes next.
     pub fn new(alloc: Global) -> Next {
         Next {
             way: Way::Plain,
@@ -55,8 +56,8 @@ impl Next {
         }
     }
 
-    /// A till comes (`comes`), so many milliseconds pass (`passes COUNT`), or a till does something, or something has
-    /// to come of it (`till NUMBER WORD REST`).
+    /// Adds a step: a till comes (`comes`), so many milliseconds pass (`passes COUNT`), or a till does or gets
+    /// something (`till NUMBER WORD REST`).
     fn step(&mut self, alloc: Global, word: &str, line: &str, told: &mut Texts) {
         let (count, line) = line.split_once(' ').unwrap_or((line, ""));
         let (does, rest) = line.split_once(' ').unwrap_or((line, ""));
@@ -96,7 +97,7 @@ impl Next {
         told.needs(is_put, "no memory");
     }
 
-    /// A line says something of what comes next.
+    /// Reads a line that says something of what comes next.
     pub fn says(&mut self, alloc: Global, word: &str, rest: &str, told: &mut Texts) {
         match word {
             "comes" | "passes" | "till" => return self.step(alloc, word, rest, told),

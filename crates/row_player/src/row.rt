@@ -1,4 +1,4 @@
-//! One row as it is played, line by line.
+//! Plays one row, line by line.
 use crate::asked::{Asked, Kind, Texts};
 use crate::chain::{Chain, Held};
 use crate::names::Names;
@@ -13,7 +13,7 @@ use std::marker::Model;
 /// The log beside the row's own file.
 const LOG: &str = "worked_rows.db-wal";
 
-/// A row, and what is said of what comes next. What is wrong first stands in what was told.
+/// A row, and what its lines say of what comes next. The first fault is in `asked.told`.
 #[derive(Drop)]
 pub struct Row<'t, S: Stage> {
     rt: &'t HostRuntime,
@@ -25,7 +25,7 @@ pub struct Row<'t, S: Stage> {
     pub at: usize,
 }
 
-/// As of names.
+/// Says nothing of the value. So its holder isn't checked over its parts.
 impl<'t, S: Stage> Model for Row<'t, S> {
     ghost use Rattle.std.specs.Prelude.{⊤};
 
@@ -34,7 +34,7 @@ impl<'t, S: Stage> Model for Row<'t, S> {
     ghost view = { λ _. tt };
 }
 
-/// Has the chain asked what a line says.
+/// Asks the chain what a line says.
 fn ask<S: Stage>(
     alloc: Global,
     chain: &mut Chain<S>,
@@ -74,8 +74,8 @@ fn ask<S: Stage>(
     chain.stage.serve(sent, &how, told);
 }
 
-/// Opens the chain again, migrates or makes it. An opening that has to be refused is an exchange: its fault is compared.
-/// So is any migration, and the making of a chain.
+/// Opens the chain again, migrates it or makes it. An opening that has to be refused is an exchange: its fault is
+/// compared. Any migration, and the making of a chain, is an exchange too.
 fn open<S: Stage>(
     alloc: Global,
     chain: &mut Chain<S>,
@@ -106,7 +106,7 @@ fn open<S: Stage>(
     chain.open_again(opening, told);
 }
 
-/// What an audit of the tables says is an exchange: its text is compared.
+/// Audits the tables. The audit is an exchange: its text is compared.
 fn audit<S: Stage>(alloc: Global, chain: &mut Chain<S>, asked: &mut Asked, word: &str, body: &str) {
     let deed = match word {
         "custody" => Deed::Custody,
@@ -216,7 +216,7 @@ impl<'t, S: Stage> Row<'t, S> {
         }
     }
 
-    /// Another file begins.
+    /// Begins another file.
     pub fn begin_file(&mut self) {
         self.names = Names::new(self.rt.alloc());
         self.at = 0;
@@ -235,7 +235,7 @@ impl<'t, S: Stage> Row<'t, S> {
         let _ = remove_file(self.rt, LOG);
     }
 
-    /// The row ends.
+    /// Ends the row.
     pub fn end(&mut self) {
         let asked = &mut self.asked;
         asked.compare("");
@@ -248,8 +248,8 @@ impl<'t, S: Stage> Row<'t, S> {
         told.needs(next.steps.is_empty(), "the tills aren't served");
     }
 
-    /// Plays a line, by its number, its first word and what stands behind it, where nothing is wrong. What was asked
-    /// before is compared first, where the line says no more of it.
+    /// Plays a line, given by its number, its first word and the text after that word. Does nothing if there is a
+    /// fault. First compares what was asked before, unless the line says more of it.
     pub fn play(&mut self, at: usize, word: &str, rest: &str) {
         let asked = &mut self.asked;
         asked.compare(word);

@@ -1,4 +1,4 @@
-//! What rows are played on: the product's chain and its program, as few calls as rows need.
+//! What rows are played on: the product's chain and its program, by the few calls that rows need.
 use crate::asked::Texts;
 use crate::tills::Tills;
 use std::alloc::Global;
@@ -6,14 +6,14 @@ use std::io::{self, ErrorKind, Read};
 use std::marker::Model;
 use std::mem;
 
-/// How requests come, and are answered.
+/// How requests come and are answered.
 #[derive(Clone, Copy)]
 pub enum Come {
-    /// As bytes of a connection, which is served alone.
+    /// As bytes of a connection that is served alone.
     Alone,
-    /// As bytes of a connection, which is served by turns that answer so many requests each.
+    /// As bytes of a connection that is served by turns, each with so many requests.
     ByTurns(u32),
-    /// As values: with their tokens, or as those of that branch.
+    /// As values: with their tokens, or as requests of this branch.
     AsValues(Option<u32>),
 }
 
@@ -23,7 +23,7 @@ pub struct How {
     pub come: Come,
     pub(crate) pieces: usize,
     pub(crate) cut: usize,
-    /// Whether the reader fails where its input is cut.
+    /// Whether the reader fails at the point where its input is cut.
     pub(crate) breaks: bool,
     /// How many requests the connection may have.
     pub most: u32,
@@ -48,7 +48,7 @@ pub struct Pieces<'b> {
 }
 
 impl<'b> Pieces<'b> {
-    /// The bytes, as they come.
+    /// Returns a reader that gives the bytes in pieces, as `how` says.
     pub fn new(bytes: &'b [u8], how: &How) -> Pieces<'b> {
         Pieces {
             bytes: &bytes[..how.cut.min(bytes.len())],
@@ -70,7 +70,8 @@ impl Read for Pieces<'_> {
     }
 }
 
-/// What the files of a chain hold, and what was put before that: what a closed chain left, and what a crash leaves of it.
+/// What the files of a chain hold, and what was put there before. After `Stage::close` these are what the closed chain
+/// left, and what a crash leaves of it.
 #[derive(Drop)]
 pub struct Image {
     log: Vec<u8>,
@@ -79,7 +80,7 @@ pub struct Image {
     db_before: Vec<u8>,
 }
 
-/// As of names.
+/// Says nothing of the value. So its holder isn't checked over its parts.
 impl Model for Image {
     ghost use Rattle.std.specs.Prelude.{⊤};
 
@@ -89,7 +90,7 @@ impl Model for Image {
 }
 
 impl Image {
-    /// Files with nothing in them.
+    /// Makes files with nothing in them.
     pub fn new(alloc: Global) -> Image {
         Image {
             log: Vec::new(alloc),
@@ -107,13 +108,13 @@ impl Image {
         self.db.as_slice()
     }
 
-    /// What was put before is what the files hold, and the other way round.
+    /// Swaps what the files hold with what was put before.
     pub fn turn(&mut self) {
         mem::swap(&mut self.log, &mut self.log_before);
         mem::swap(&mut self.db, &mut self.db_before);
     }
 
-    /// Has the files hold these bytes.
+    /// Puts these bytes into the files. Keeps what they held as what was put before.
     pub fn put(&mut self, log: &[u8], db: &[u8], told: &mut Texts) {
         self.turn();
         self.log.clear();
@@ -123,7 +124,7 @@ impl Image {
         told.needs(is_put, "no memory");
     }
 
-    /// Has the database's file hold that byte at the place, and gives the one that stood there.
+    /// Puts the byte at the place in the database's file, and returns the byte that was there.
     pub(crate) fn swap_byte(&mut self, place: usize, byte: u8) -> u8 {
         match self.db.get_mut(place) {
             Some(it) => mem::replace(it, byte),
@@ -136,7 +137,7 @@ impl Image {
     }
 }
 
-/// Behind how many calls of each file's disk that disk fails, or how many calls it had.
+/// After how many calls the disk of each file fails, or how many calls it had.
 #[derive(Clone, Copy)]
 pub struct Calls {
     pub log: u64,
@@ -152,78 +153,78 @@ pub const NEVER: Calls = Calls {
 /// More calls of a disk than an opening and a connection take.
 pub const MOST_CALLS: u64 = 4000;
 
-/// The disks fail behind more calls than are made.
+/// The disks fail only after more calls than are made.
 pub(crate) const MANY: Calls = Calls {
     log: MOST_CALLS,
     db: MOST_CALLS,
 };
 
-/// How a chain comes to be in files.
+/// How the player gets a chain in files.
 #[derive(Clone, Copy)]
 pub enum Opening {
-    /// It is there, and opened.
+    /// The files hold a chain, which is opened.
     Opened,
-    /// The same, with these limits of commands and copies.
+    /// The files hold a chain, which is opened with these limits of commands and copies.
     Limited(u32, u32),
-    /// It is there in the version before, and migrated.
+    /// The files hold a chain of the version before, which is migrated.
     Migrated,
-    /// It is made in files with nothing in them.
+    /// A chain is made in files with nothing in them.
     Made,
-    /// The chain that is there is closed, and opened on the same disks.
+    /// The open chain is closed, and opened again on the same disks.
     Again,
 }
 
 /// What is done with the tables in files.
 #[derive(Clone, Copy)]
 pub enum Deed<'t> {
-    /// They are made, with the opening rows.
+    /// The tables are made, with the opening rows.
     Fill,
-    /// Those of version 1 are made, with head office's token and no other row.
+    /// The tables of version 1 are made, with head office's token and no other row.
     First,
-    /// A statement.
+    /// A statement is run.
     Statement(&'t str),
-    /// All that stands in the log alone is copied into the database's file.
+    /// All that is in the log alone is copied into the database's file.
     CopyIn,
-    /// An audit of them, sound or not, which is told.
+    /// The tables are audited, sound or not. The audit's text comes back.
     Audit,
-    /// One of custody alone.
+    /// Only custody is audited.
     Custody,
 }
 
-/// The chain that rows talk to, one at a time and in two files on disks in memory; and the program that they run. What
-/// can't be done is told as what is wrong.
+/// The chain that rows talk to, one at a time and in two files on disks in memory, and the program that they run. What
+/// can't be done becomes a fault in `told`.
 pub trait Stage: Drop {
-    /// Has a chain in copies of the files, on disks that fail behind so many calls: the name is empty. Or the name of
-    /// the fault by which there is none.
+    /// Opens, migrates or makes a chain in copies of the files, on disks that fail after so many calls. Returns an
+    /// empty name, or the name of the fault if there is no chain.
     fn open(&mut self, opening: Opening, files: &Image, calls: Calls) -> &'static str;
 
-    /// Closes the chain, if there is one, and puts what is left of its files, or of those in which there is none; and
-    /// before that, so that `turn` gives it, what a crash leaves of them. How many calls were made, where the disks
-    /// were to fail behind `MOST_CALLS`.
+    /// Closes the chain, if there is one, and puts what its files hold then into `files`. If no chain was opened, puts
+    /// what the files hold that failed to open. Before that, puts what a crash leaves, so that `turn` gives it. Returns
+    /// how many calls were made, if the disks were to fail after `MOST_CALLS`.
     fn close(&mut self, files: &mut Image, told: &mut Texts) -> Calls;
 
-    /// Serves a connection to which these bytes come so, or has their requests read and answered as values: what is
-    /// sent back is all that is told, and how it ends.
+    /// Serves a connection that gets these bytes as `how` says, or reads their requests and answers them as values.
+    /// Puts all that is sent back, and how it ends, into `told`.
     fn serve(&mut self, input: &[u8], how: &How, told: &mut Texts);
 
-    /// Serves so many tills side by side, each waited for so many milliseconds, or else at a port of its choice, as
-    /// the program does: the status.
+    /// Serves so many tills side by side, and waits so many milliseconds for each. Without milliseconds, serves them at
+    /// a port of its choice, as the program does. Returns the status.
     fn listen(&mut self, tills: &Tills<'_>, comers: u32, millis: Option<u32>) -> u8;
 
-    /// Of how many films the chain knows what they are.
+    /// Returns the number of films that the chain has cached.
     fn known_films(&self) -> usize;
 
-    /// Does that with the tables in the files. What is said of them is told.
+    /// Does the deed with the tables in the files. Puts an audit's text into `told`.
     fn tables(alloc: Global, deed: Deed<'_>, files: &mut Image, told: &mut Texts);
 
-    /// Has the requests read, and put as values to a chain over copies of the files, whose disks fail behind so many
-    /// calls: the replies before it is stopped are told in `out`, and those to the same requests behind that in `err`.
-    /// Whether it is opened.
+    /// Reads the requests, and puts them as values to a chain over copies of the files, on disks that fail after so
+    /// many calls. Puts the replies before the stop into `out`, and the replies to the same requests after it into
+    /// `err`. Reports whether the chain was opened.
     fn resume(alloc: Global, input: &[u8], files: &Image, calls: Calls, told: &mut Texts) -> bool;
 
-    /// Makes the calls of that name, which no request makes.
+    /// Makes the calls of this name, which no request makes.
     fn call(alloc: Global, name: &str, told: &mut Texts);
 
-    /// Runs the program with these words and what stands on standard input: the status.
+    /// Runs the program with these words and this standard input. Returns the status.
     fn run(rt: &HostRuntime, words: &[String], input: &[u8], told: &mut Texts) -> u8;
 }

@@ -8,7 +8,7 @@ use std::alloc::Global;
 const AUDIT: &[u8] =
     b"POST /office HTTP/1.1\r\ncounter-token: 00000000000000000000000000000000\r\ncontent-length: 9\r\n\r\n[\"audit\"]";
 
-/// The same, and branch 1 asks for the balance of its first customer.
+/// Head office asks for the audit, and branch 1 asks for the balance of its first customer.
 const AUDIT_AND_BALANCE: &[u8] =
     b"POST /office HTTP/1.1\r\ncounter-token: 00000000000000000000000000000000\r\ncontent-length: 9\r\n\r\n[\"audit\"]GET /balance/1/9999-01-01T00:00:00 HTTP/1.1\r\ncounter-token: 11111111111111111111111111111111\r\n\r\n";
 
@@ -16,7 +16,7 @@ const AUDIT_AND_BALANCE: &[u8] =
 const NEW_AUDIT: &[u8] =
     b"POST /office HTTP/1.1\r\ncounter-token: 0123456789abcdef0123456789abcdef\r\ncontent-length: 9\r\n\r\n[\"audit\"]";
 
-/// The reply where the store has failed.
+/// The reply of a chain whose store has failed.
 const FAILED: &str =
     "HTTP/1.1 503 Service Unavailable\r\ncontent-type: application/json\r\ncontent-length: 26\r\n\r\n{\"refused\":\"store_failed\"}";
 
@@ -28,11 +28,11 @@ struct Stopped<'t> {
     is_connection: bool,
     /// What is sent, to a connection before the stop too.
     input: &'t [u8],
-    /// What is sent back where nothing is stopped.
+    /// What is sent back if nothing is stopped.
     wanted: &'t [u8],
 }
 
-/// The disk of one file fails behind so many calls, and the other never.
+/// The disk of one file fails after so many calls, and the other never.
 fn behind(is_log: bool, calls: u64) -> Calls {
     if is_log {
         Calls {
@@ -44,7 +44,7 @@ fn behind(is_log: bool, calls: u64) -> Calls {
     }
 }
 
-/// Has a chain in copies of the files, which is sent that, and closes it: how many calls were made.
+/// Opens a chain in copies of the files, sends it the input, and closes it. Returns how many calls were made.
 pub fn trial<S: Stage>(
     stage: &mut S,
     opening: Opening,
@@ -60,9 +60,9 @@ pub fn trial<S: Stage>(
     stage.close(tried, told)
 }
 
-/// The chain that the files hold behind a stop, or behind a crash, has to send what is wanted: where nothing of a
-/// migration is done, it is done now, and where nothing of its making is done, there is no chain. In files with the
-/// same bytes as those that weren't touched it did.
+/// Checks that the chain that the files hold after a stop, or after a crash, sends what is wanted. A migration that
+/// hadn't begun is done now. If the making of a chain hadn't begun, there is no chain. Files with the same bytes as the
+/// untouched files pass: their chain sent what is wanted.
 fn go_on<S: Stage>(
     stage: &mut S,
     stopped: &Stopped<'_>,
@@ -93,8 +93,9 @@ fn go_on<S: Stage>(
     let _ = stage.close(next, told);
 }
 
-/// Stops it behind so many calls, and has what comes again sent the same, in the files as they are left and as a crash
-/// leaves them. Whether it may be stopped earlier: not a connection's opening, and not what is wrong.
+/// Stops the connection or the opening after so many calls. Checks that the input, sent again, gets the same replies,
+/// in the files as they are left and as a crash leaves them. Reports whether it may be stopped earlier: not in a
+/// connection's opening, and not after a fault.
 fn stop<S: Stage>(
     alloc: Global,
     stage: &mut S,
@@ -125,7 +126,8 @@ fn stop<S: Stage>(
     told.is_well()
 }
 
-/// Stops it at each call of a disk, from the last of so many; a connection back to the calls of the opening.
+/// Stops the connection or the opening at each call of a disk, from the last of so many back. A connection isn't
+/// stopped in the calls of its opening.
 fn stop_at_each<S: Stage>(
     alloc: Global,
     stage: &mut S,
@@ -144,8 +146,8 @@ fn stop_at_each<S: Stage>(
     told.needs(!stopped.is_connection, "no call is the opening's");
 }
 
-/// What is stopped at any call, over copies of the files, has to go on behind the stop as where nothing stopped it: a
-/// connection that is sent that, or an opening, a migration or the making of a chain.
+/// Checks that what is stopped at any call, over copies of the files, goes on after the stop as if nothing had stopped
+/// it. What is stopped is a connection, or the opening, migrating or making of a chain.
 pub fn sweep<S: Stage>(
     alloc: Global,
     stage: &mut S,
@@ -180,8 +182,8 @@ pub fn sweep<S: Stage>(
     stop_at_each(alloc, stage, &stopped, files, false, made.db, told);
 }
 
-/// Stops the chain in copies of the files at each call of a disk while it answers the requests as values: up to there,
-/// and again behind the stop, it answers them as where nothing stopped it.
+/// Stops the chain in copies of the files at each call of a disk while it answers the requests as values. Checks that
+/// up to the stop, and again after it, the chain answers them as if nothing had stopped it.
 pub fn resume_at_each<S: Stage>(
     alloc: Global,
     files: &Image,
@@ -213,9 +215,9 @@ pub fn resume_at_each<S: Stage>(
     told.needs(false, "more calls are made");
 }
 
-/// Has the last byte of a text be another one, wherever it stands in the database's file, at one place at a time: the
-/// chain isn't opened, by the store or as damage, or it says of itself what it says where nothing is changed; and at
-/// some place it isn't opened.
+/// Replaces the last byte of a text by another, wherever the text is in the database's file, at one place at a time.
+/// Checks that the chain isn't opened, as its store fails or it is damaged, or that its audit says what it says without
+/// the change. At one place at least the chain mustn't be opened.
 pub fn flip<S: Stage>(
     alloc: Global,
     stage: &mut S,

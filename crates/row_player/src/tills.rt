@@ -1,4 +1,4 @@
-//! Tills over loopback, served side by side: what they do is a list of steps, and time passes by steps alone.
+//! Tills over loopback, served side by side. A list of steps says what they do, and only steps let time pass.
 use crate::asked::Texts;
 use crate::stage::Stage;
 use crate::texts::number;
@@ -9,28 +9,28 @@ use std::marker::Model;
 use std::net::{Net, Shutdown, SocketAddr, TcpListener, TcpStream};
 use std::time::{Clock, Duration};
 
-/// In how many seconds of the real clock the steps have to be made.
+/// How many seconds of the real clock all steps may take.
 const LONGEST: u64 = 60;
 
-/// For how many milliseconds of the steps' time a till is waited for.
+/// How many milliseconds of the steps' time the server waits for a till.
 const PATIENCE: u32 = 50;
 
-/// What a till does, or what has to come of it before the next step is made.
+/// What a till does, or what it has to get before the next step is made.
 #[derive(Clone, Copy)]
 pub enum What {
     /// One more till comes. The first is 0.
     Comes,
     /// So many milliseconds pass, and the server looks at the clock again.
     Passes,
-    /// It sends the bytes.
+    /// The till sends the bytes.
     Sends,
-    /// It sends no more.
+    /// The till sends no more.
     Goes,
-    /// It is told the bytes, behind those that it was told before.
+    /// The till receives the bytes, after the bytes that it received before.
     IsTold,
-    /// It is told nothing, and isn't left.
+    /// The till receives nothing, and isn't disconnected.
     Waits,
-    /// It is told that no more comes.
+    /// The till receives the end of the connection.
     IsLeft,
 }
 
@@ -46,12 +46,12 @@ pub struct Step {
 #[derive(Clone, Copy)]
 enum Made {
     Now,
-    /// It can't be made yet.
+    /// The step can't be made yet.
     Later,
     Never,
 }
 
-/// Whether what the step wants has come, which then is read.
+/// Reports whether what the step wants has come, and reads it.
 fn has_come(alloc: Global, mut stream: &TcpStream, step: &Step) -> Made {
     let wanted = step.bytes.as_slice();
     let if_nothing = match step.what {
@@ -91,7 +91,7 @@ fn act(alloc: Global, mut stream: &TcpStream, step: &Step) -> Made {
     if is_done { Made::Now } else { Made::Never }
 }
 
-/// Where the steps stand.
+/// How far the steps are made.
 #[derive(Drop)]
 struct State {
     /// How many steps are made.
@@ -100,14 +100,14 @@ struct State {
     is_stuck: bool,
     /// The steps' time, in milliseconds.
     now: u64,
-    /// When they began, by the real clock.
+    /// When the steps began, by the real clock.
     begun: Duration,
     sockets: Vec<TcpStream>,
     /// How many tills are still to come.
     coming: u32,
 }
 
-/// As of names.
+/// Says nothing of the value. So its holder isn't checked over its parts.
 impl Model for State {
     ghost use Rattle.std.specs.Prelude.{⊤};
 
@@ -117,7 +117,7 @@ impl Model for State {
 }
 
 impl State {
-    /// One more till comes. Whether it does.
+    /// Connects one more till. Reports whether it connected.
     fn come(&mut self, rt: &HostRuntime, server: Option<SocketAddr>) -> bool {
         let Some(server) = server else {
             return false;
@@ -131,7 +131,8 @@ impl State {
         }
     }
 
-    /// Makes the step, if it can be made now. Whether the next one may be made before the server looks at the clock.
+    /// Makes the step, if it can be made now. Reports whether the next step may be made before the server looks at the
+    /// clock.
     fn make(&mut self, rt: &HostRuntime, server: Option<SocketAddr>, step: &Step) -> bool {
         let made = match step.what {
             What::Comes => {
@@ -177,8 +178,9 @@ impl State {
         }
     }
 
-    /// Goes on where a step is left that can be made. Else all tills go, those too that haven't come yet, and a second
-    /// passes. The steps' time, and whether all steps are made.
+    /// Makes the next steps, as far as they can be made. If none is left or a step can't be made, lets one till connect
+    /// that hasn't come yet. Then disconnects all tills, and lets a second pass. Returns the steps' time, and whether
+    /// all steps are made.
     fn advance(
         &mut self,
         rt: &HostRuntime,
@@ -198,19 +200,20 @@ impl State {
     }
 }
 
-/// The tills as a runtime for their server. Each time that it looks at the clock, they go on as far as they can.
+/// The tills as a runtime for their server. Each time the server looks at the clock, the tills go on as far as they
+/// can.
 #[derive(Drop)]
 pub struct Tills<'t> {
     rt: &'t HostRuntime,
     /// Whether time passes by the real clock.
     is_real: bool,
     steps: &'t [Step],
-    /// Where the server listens, as soon as it does.
+    /// The address at which the server listens, as soon as it listens.
     server: Cell<Option<SocketAddr>>,
     state: RefCell<State>,
 }
 
-/// As of names.
+/// Says nothing of the value. So its holder isn't checked over its parts.
 impl<'t> Model for Tills<'t> {
     ghost use Rattle.std.specs.Prelude.{⊤};
 
@@ -220,7 +223,7 @@ impl<'t> Model for Tills<'t> {
 }
 
 impl Tills<'_> {
-    /// The tills go on: the steps' time, in milliseconds, and whether all steps are made.
+    /// Lets the tills go on. Returns the steps' time, in milliseconds, and whether all steps are made.
     pub fn play(&self) -> (u64, bool) {
         let server = self.server.get();
         match self.state.try_borrow_mut() {
@@ -268,9 +271,10 @@ impl Alloc for Tills<'_> {
     }
 }
 
-/// Serves so many tills, and has all their steps made: by the steps' time as the server goes on, there also as the
-/// program serves at a port (`port`), or by the real clock with so many milliseconds of patience, the steps before what
-/// has to come of them first, and the others behind it.
+/// Serves so many tills, and has all their steps made. `how` is empty for the steps' time, which passes as the server
+/// goes on. With `port` the steps' time passes too, and the tills are served at a port, as the program serves. With a
+/// number the real clock runs, and the server waits so many milliseconds for a till. The steps before the first that
+/// wants something are then made before the serving, and the other steps after it.
 pub fn serve_tills<S: Stage>(
     rt: &HostRuntime,
     stage: &mut S,

@@ -5,7 +5,7 @@ use std::env;
 use std::io::{self, ErrorKind};
 use std::process::ExitCode;
 
-/// The program's words, without its own name.
+/// Returns the program's words, without its own name.
 fn words_of(rt: &HostRuntime) -> io::Result<Vec<String>> {
     let mut words = Vec::new(rt.alloc());
     for word in env::args(rt)?.skip(1) {
@@ -14,7 +14,7 @@ fn words_of(rt: &HostRuntime) -> io::Result<Vec<String>> {
     Ok(words)
 }
 
-/// What the program does for these words.
+/// Runs the program for these words, and returns its status.
 fn run(rt: &HostRuntime, words: &[String]) -> u8 {
     sakila_office::run(
         rt,
@@ -25,8 +25,8 @@ fn run(rt: &HostRuntime, words: &[String]) -> u8 {
     )
 }
 
-/// Says why there are no words: one of them isn't UTF-8, which is answered with the usage, as no words are, or there
-/// is no memory for them.
+/// Prints why there are no words: one of them isn't UTF-8, or there is no memory for them. If a word isn't UTF-8,
+/// prints the usage too, as without words.
 fn run_unread(rt: &HostRuntime, kind: ErrorKind) -> u8 {
     if kind == ErrorKind::InvalidData {
         let _ = eprintln!(rt; "error: a word isn't UTF-8");

@@ -1,4 +1,4 @@
--- What a change of the books makes of their own counts: where the rows of one kind of one branch alone grow, its count alone does.
+-- How a change of the books changes their own counts. If only the rows of one kind of one branch grow, only that count grows.
 use Rattle.shop_schema.proofs.Common.{◌≡◌, ◌+◌, ◌≤◌, ◌==◌, ◌&&◌, ℕ, suc, List, [], ◌∷◌, ◌++◌, map, filter, length, true, false, Bool, cond, not, Some, None, refl, sym, ap, subst, ◌∙◌, arith, is_none, AllByRecursion, nat_tests, filter-append, map-flat_map, length_push, Moment, Row, Owned, is_of, is_row, of, owned_by, numbered, set_row, Customer, Payment, Rental, Text, Kept, Books, BookCopy, more_yes, more_no, same_if, length_map, is_count, count_in, count_of, branch_counts, office_count, counts_of, pairs_of, Count, Out, raise, raised, is_open, out_of, is_out_by, put_out, drop_out}
 use Rattle.std.specs.Prelude.{flat_map}
 use Rattle.std.proofs.lemmas.List.{length-append}
@@ -7,8 +7,9 @@ use Rattle.shop_ledger.specs.declared.counts.CountKind.{CountKind}
 use Rattle.shop_ledger.specs.declared.counts.CountKind.TheVariants as kind
 use Rattle.shop_ledger.specs.Counted.{kind_number}
 use Rattle.shop_ledger.proofs.CountsOf.{not_office}
+use Rattle.shop_schema.specs.Counts.{copies_kind, customers_kind, kept_kind, payments_kind, rentals_kind}
 
--- the counts of books in which the branch has so many rows of the kind more, and each other count is as it was
+-- the counts of books in which the branch has `m` more rows of the kind, and each other count is as it was
 module _ (b k m : ℕ) (old new : Books) (outs : List Out) (low : 1 ≤ b) (branches : new.catalogue.branches ≡ old.catalogue.branches) (office : new.catalogue.kept ≡ old.catalogue.kept)
     (out : map out_of (filter is_open new.rentals) ≡ outs) (pairs : pairs_of new.consignments ≡ pairs_of old.consignments)
     (its : (a : ℕ) → count_in k a new ≡ cond (a == b && true) (count_in k a old + m) (count_in k a old))
@@ -45,7 +46,7 @@ module _ (b k m : ℕ) (old new : Books) (outs : List Out) (low : 1 ≤ b) (bran
   pub counts_grown : counts_of new ≡ record (raise b k m (counts_of old)) { outs = outs }
   counts_grown = λ i. record { counters = office_row i ∷ all_grown i; outs = out i; pairs = pairs i }
 
--- the same where each count is as it was
+-- the same if each count is as it was
 module _ (old new : Books) (outs : List Out) (branches : new.catalogue.branches ≡ old.catalogue.branches) (office : new.catalogue.kept ≡ old.catalogue.kept)
     (out : map out_of (filter is_open new.rentals) ≡ outs) (pairs : pairs_of new.consignments ≡ pairs_of old.consignments) (same : (n a : ℕ) → count_in n a new ≡ count_in n a old) where
   still : (a n : ℕ) → count_of new a n ≡ count_of old a n
@@ -68,7 +69,7 @@ one_kept b x rows a = go (a == b) refl
     go false e = ap length (more_no (λ (row : Owned Kept). row.it) (λ row. row.owner == a) rows (record { owner = b; it = x }) (turned a b false e))
 
 -- a kept command
-pub kept_counted : (b : ℕ) (x : Kept) (books : Books) → 1 ≤ b → counts_of (record books { kept = books.kept ++ record { owner = b; it = x } ∷ [] }) ≡ raise b 4 1 (counts_of books)
+pub kept_counted : (b : ℕ) (x : Kept) (books : Books) → 1 ≤ b → counts_of (record books { kept = books.kept ++ record { owner = b; it = x } ∷ [] }) ≡ raise b kept_kind 1 (counts_of books)
 kept_counted b x books low = counts_grown b 4 1 books with_row (counts_of books).outs low refl refl refl refl (one_kept b x books.kept) others
   where
     with_row : Books
@@ -110,18 +111,18 @@ many_put {A} b rows more a all = go (a == b) (of_all b more a all (a == b) refl)
 
 -- copies that are imported
 pub copies_counted : (b : ℕ) (more : List (Row BookCopy)) (lots : List (Owned Text)) (books : Books) → 1 ≤ b → AllByRecursion (λ (row : Row BookCopy). row.branch ≡ b) more
-    → counts_of (record books { copies = books.copies ++ more; lots = lots }) ≡ raise b 1 (length more) (counts_of books)
+    → counts_of (record books { copies = books.copies ++ more; lots = lots }) ≡ raise b copies_kind (length more) (counts_of books)
 copies_counted b more lots books low all = counts_grown b 1 (length more) books (record books { copies = books.copies ++ more; lots = lots }) _ low refl refl refl refl (λ a. many_put b books.copies more a all) (λ kind a isnt. rw isnt)
 
 -- one row, whatever its number is
-pub customer_row_counted : (b : ℕ) (row : Row Customer) (books : Books) → 1 ≤ b → row.branch ≡ b → counts_of (record books { customers = books.customers ++ row ∷ [] }) ≡ raise b 0 1 (counts_of books)
+pub customer_row_counted : (b : ℕ) (row : Row Customer) (books : Books) → 1 ≤ b → row.branch ≡ b → counts_of (record books { customers = books.customers ++ row ∷ [] }) ≡ raise b customers_kind 1 (counts_of books)
 customer_row_counted b row books low own = counts_grown b 0 1 books (record books { customers = books.customers ++ row ∷ [] }) _ low refl refl refl refl (λ a. many_put b books.customers (row ∷ []) a (own, tt)) (λ kind a isnt. rw isnt)
 
-pub payment_row_counted : (b : ℕ) (row : Row Payment) (books : Books) → 1 ≤ b → row.branch ≡ b → counts_of (record books { payments = books.payments ++ row ∷ [] }) ≡ raise b 3 1 (counts_of books)
+pub payment_row_counted : (b : ℕ) (row : Row Payment) (books : Books) → 1 ≤ b → row.branch ≡ b → counts_of (record books { payments = books.payments ++ row ∷ [] }) ≡ raise b payments_kind 1 (counts_of books)
 payment_row_counted b row books low own = counts_grown b 3 1 books (record books { payments = books.payments ++ row ∷ [] }) _ low refl refl refl refl (λ a. many_put b books.payments (row ∷ []) a (own, tt)) (λ kind a isnt. rw isnt)
 
 pub rental_row_counted : (b : ℕ) (row : Row Rental) (books : Books) → 1 ≤ b → row.branch ≡ b → row.it.returned ≡ None
-    → counts_of (record books { rentals = books.rentals ++ row ∷ [] }) ≡ put_out (record { branch = b; copy = row.it.copy; rental = row.number }) (raise b 2 1 (counts_of books))
+    → counts_of (record books { rentals = books.rentals ++ row ∷ [] }) ≡ put_out (record { branch = b; copy = row.it.copy; rental = row.number }) (raise b rentals_kind 1 (counts_of books))
 rental_row_counted b row books low own not_back = counts_grown b 2 1 books (record books { rentals = books.rentals ++ row ∷ [] }) _ low refl refl outs_more refl (λ a. many_put b books.rentals (row ∷ []) a (own, tt)) (λ kind a isnt. rw isnt)
   where
     outs_more : map out_of (filter is_open (books.rentals ++ row ∷ [])) ≡ map out_of (filter is_open books.rentals) ++ record { branch = b; copy = row.it.copy; rental = row.number } ∷ []
@@ -154,7 +155,7 @@ state_counted b n f books = counts_still books (record books { copies = set_row 
 
 -- ---- a copy that comes back
 
--- of the open rentals, that of the number is the one of the copy: so it is where a number comes once
+-- an open rental has the branch, the copy and the number exactly if it has the branch and the number; so it is if a number occurs once
 abbrev pub IsItsRental : ℕ → ℕ → ℕ → Row Rental → Type 0
 IsItsRental b n x row = is_open row ≡ true → is_out_by b x n (out_of row) ≡ is_row b n row
 
@@ -181,7 +182,7 @@ pub returned_counted : (b n x : ℕ) (m : Moment) (books : Books) → AllByRecur
     → counts_of (record books { rentals = set_row b n (back m) books.rentals }) ≡ drop_out b x n (counts_of books)
 returned_counted b n x m books all = counts_still books (record books { rentals = set_row b n (back m) books.rentals }) _ refl refl (outs_left b n x m books.rentals all) refl (λ k a. rw (set_keeps b n (back m) books.rentals a))
 
--- where the rental of the number is found with its copy, it is its rental
+-- if the rental of the number has the copy, it is the copy's rental
 abbrev HasCopy : ℕ → ℕ → ℕ → Row Rental → Type 0
 HasCopy b n x row = is_row b n row ≡ true → row.it.copy ≡ x
 

@@ -117,7 +117,7 @@ told_first rows slice P (Err e) same told none some = tt
 told_first rows slice P (Ok None) same told none some = none (ap (λ rs. slice_get rs 0) (sym same) ∙ sym told)
 told_first rows slice P (Ok (Some v)) same told none some = some told.0 v (ap (λ rs. slice_get rs 0) (sym same) ∙ sym told.1) told.2
 
--- the number of the first row, where that is a count
+-- the number in the first row, if the first row has a count
 pub first_count : {Fits : sql.Row → ℕ → Type 0} → ((row : sql.Row) (n : ℕ) → Fits row n → column row 0 ≡ number_value n) → (rows : List sql.Row) (found : Option ℕ) (n : ℕ) → TellsFirst Fits rows found → found ≡ Some n
     → (row : sql.Row) × (Some row ≡ slice_get rows 0) × (column row 0 ≡ number_value n)
 first_count {Fits = Fits} fits rows found n told is = let it = subst (TellsFirst Fits rows) is told in (it.0, it.1, fits it.0 n it.2)

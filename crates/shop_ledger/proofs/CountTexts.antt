@@ -11,10 +11,11 @@ use Rattle.shop_schema.proofs.Stands.{stands_but, rows_of, with_rows}
 use Rattle.shop_schema.proofs.Listed.{tallies_put}
 use Rattle.shop_ledger.specs.declared.counts.TheConstants.{SELECT_COUNT, UPDATE_COUNT, SELECT_OUT, SELECT_COPIES_OUT, INSERT_OUT, DELETE_OUT}
 use Rattle.shop_ledger.proofs.Equals.{of_one, of_two, of_three}
+use Rattle.shop_schema.specs.Trees.{counter_tree, out_copy_tree}
 
 -- ---- counts
 
-pub select_count_means : Selects shop_schema SELECT_COUNT.now (plain_query 41 of_two (col 1 3 ∷ []) [])
+pub select_count_means : Selects shop_schema SELECT_COUNT.now (plain_query counter_tree of_two (col 1 3 ∷ []) [])
 unfolding understood everything
 select_count_means = record { names = _; is = refl; plain = (refl, refl); unlisted = refl }
 
@@ -27,7 +28,7 @@ shows_counts old new b k rows books has h s =
     projects_bag shop_schema SELECT_COUNT.now 41 3 of_two (col 1 3 ∷ []) select_count_means (number_value b ∷ number_value k ∷ []) old new rows has h counter_columns (counts_of books).counters s.counters refl
     (λ vs. number_test 0 b vs && (number_test 1 k vs && true)) (λ vs. column vs 2 ∷ []) (is_count b k) (count_test b k) (λ r. refl)
 
--- so many more, as SQL adds them: a number where 64 bits hold it
+-- the value plus `m`, as SQL adds them: a number if 64 bits hold it
 abbrev pub plus : ℕ → Value → Value
 plus m v = binary (Arith Add) v (number_value m)
 
@@ -40,11 +41,11 @@ plus_is n m small few =
 abbrev pub raise_terms : List Term
 raise_terms = col 1 0 ∷ col 1 0 ∷ col 1 1 ∷ col 1 2 ∷ op2 (Arith Add) (col 1 3) (col 0 2) ∷ []
 
--- behind three parameters
+-- the value that is shown, after three parameters
 abbrev pub raise_told : List Term
 raise_told = col 0 7 ∷ []
 
-pub raise_means : MeansShowing shop_schema UPDATE_COUNT.now (Update 18 (record { lets = []; body = plain_query 41 of_two raise_terms [] })) raise_told
+pub raise_means : MeansShowing shop_schema UPDATE_COUNT.now (Update 18 (record { lets = []; body = plain_query counter_tree of_two raise_terms [] })) raise_told
 unfolding understood everything
 raise_means = record { names = _; is = refl; shows = refl; untimed = refl }
 
@@ -64,7 +65,7 @@ Beside books trees counts = StandsWith counts trees books
 
 -- ---- copies that are out
 
-pub select_out_means : Selects shop_schema SELECT_OUT.now (plain_query 43 of_two (col 1 3 ∷ []) [])
+pub select_out_means : Selects shop_schema SELECT_OUT.now (plain_query out_copy_tree of_two (col 1 3 ∷ []) [])
 unfolding understood everything
 select_out_means = record { names = _; is = refl; plain = (refl, refl); unlisted = refl }
 
@@ -77,8 +78,8 @@ shows_out old new b x rows books has h s few =
     projects_one shop_schema SELECT_OUT.now 43 3 of_two (col 1 3 ∷ []) select_out_means (number_value b ∷ number_value x ∷ []) old new rows has h out_columns (counts_of books).outs s.outs refl
     (λ vs. number_test 0 b vs && (number_test 1 x vs && true)) (λ vs. column vs 2 ∷ []) (is_out b x) (out_test b x) (λ r. refl) few
 
--- the copies of a branch, in order of the rentals' numbers: of books' own counts these are those of the open rentals
-pub select_copies_means : Selects shop_schema SELECT_COPIES_OUT.now (plain_query 43 of_one (col 1 2 ∷ []) ((col 1 3, ascending Binary) ∷ []))
+-- the copies of a branch, in order of the rentals' numbers; in the books' own counts they are the copies of the open rentals
+pub select_copies_means : Selects shop_schema SELECT_COPIES_OUT.now (plain_query out_copy_tree of_one (col 1 2 ∷ []) ((col 1 3, ascending Binary) ∷ []))
 unfolding understood everything
 select_copies_means = record { names = _; is = refl; plain = (refl, refl); unlisted = refl }
 
@@ -87,7 +88,7 @@ pub shows_copies : (old new : State) (b : ℕ) (rows : List sql.Row) (books : Bo
     → rows ≡ map (λ (row : Row Rental). number_value row.it.copy ∷ []) (sort_by (by (λ row. row.number)) (filter (is_of b) (filter is_open books.rentals)))
 shows_copies old new b rows books has h s apart =
     projects_sorted shop_schema SELECT_COPIES_OUT.now 43 3 of_one (col 1 2 ∷ []) 2 select_copies_means (number_value b ∷ []) old new rows has h (λ row. out_columns (out_of row)) (filter is_open books.rentals)
-    (subst (HasRows 3 (old.now.trees 43)) (map-map out_columns out_of (filter is_open books.rentals)) s.outs) refl
+    (subst (HasRows 3 (old.now.trees out_copy_tree)) (map-map out_columns out_of (filter is_open books.rentals)) s.outs) refl
     (λ vs. number_test 0 b vs && true) (λ vs. column vs 1 ∷ []) (is_of b) (λ c. one_tested _ (number_tested c.branch b)) (λ r. refl) (λ c. c.number) (λ c. refl) apart
 
 pub tallies_put_out : (old new : State) (o : Out) (count : ℕ) → ExecutesInside 0 INSERT_OUT.now (out_columns o) old new (Ok count) → Tallies old new (λ _. ⊤) (put_out o) (λ _. ⊤)
@@ -99,7 +100,7 @@ tallies_put_out old new o =
 pub out_by_test : (b x n : ℕ) (o : Out) → (number_test 0 b (out_columns o) && (number_test 1 x (out_columns o) && (number_test 2 n (out_columns o) && true))) ≡ is_out_by b x n o
 out_by_test b x n o = three_tested _ _ _ (number_tested o.branch b) (number_tested o.copy x) (number_tested o.rental n)
 
-pub delete_out_means : Means shop_schema DELETE_OUT.now (Delete 19 (record { lets = []; body = plain_query 43 of_three (col 1 0 ∷ []) [] }))
+pub delete_out_means : Means shop_schema DELETE_OUT.now (Delete 19 (record { lets = []; body = plain_query out_copy_tree of_three (col 1 0 ∷ []) [] }))
 unfolding understood everything
 delete_out_means = record { is = refl; plain = (refl, refl) }
 

@@ -52,7 +52,7 @@ kept_all P p (x ∷ xs) all = elim (cases_Bool (p x)) [
   | inr isnt ↦ rw isnt (kept_all P p xs all.1)
 ]
 
--- whatever is told of the counts of the kind is so of the books'
+-- each count of the kind is the number that the books give, so `f` of the count is `g` of that number
 all_told : {Y : Type 0} (f : Count → Y) (g : ℕ → Y) → ((c : Count) → f c ≡ g c.last) → (b k : ℕ) (books : Books) → 1 ≤ b
     → AllByRecursion (λ y. y ≡ g (count_in k b books)) (map f (filter (is_count b k) (counts_of books).counters))
 all_told f g same b k books low =
@@ -60,7 +60,7 @@ all_told f g same b k books low =
     all_map _ f (filter (is_count b k) counters)
     (all_weaker (λ (c : Count). c.last ≡ count_in k b books) _ (λ c is. same c ∙ ap g is) (filter (is_count b k) counters) (kept_all _ (is_count b k) counters (counts_right b k books low)))
 
--- the first row tells it
+-- the first row has the number that the books give
 pub told_count : (b k : ℕ) (books : Books) (rows : List sql.Row) (row : sql.Row) (n : ℕ) → 1 ≤ b → IsPermutation (map last_value (filter (is_count b k) (counts_of books).counters)) rows
     → slice_get rows 0 ≡ Some row → column row 0 ≡ number_value n → n ≡ count_in k b books
 told_count b k books rows row n low same some is =
@@ -69,7 +69,7 @@ told_count b k books rows row n low same some is =
     let one : row ≡ number_value (count_in k b books) ∷ [] = all-slice_get P rows 0 row some all in
     same_number _ _ (sym is ∙ ap (λ r. column r 0) one)
 
--- what so many more of the count are
+-- the count raised by `m` is the number that the books give, plus `m`
 pub told_more : (b k m : ℕ) (books : Books) (n : ℕ) → 1 ≤ b → map (λ (c : Count). c.last + m) (filter (is_count b k) (counts_of books).counters) ≡ n ∷ [] → n ≡ count_in k b books + m
 told_more b k m books n low is =
     let all : AllByRecursion (λ p. p ≡ count_in k b books + m) (n ∷ []) = subst (AllByRecursion (λ p. p ≡ count_in k b books + m)) is (all_told (λ c. c.last + m) (λ last. last + m) (λ c. refl) b k books low) in
@@ -109,7 +109,7 @@ once_counted kind b books low =
 
 -- ---- and none is great
 
--- where no branch has too many rows of a kind, one more may be taken of each count
+-- if no branch has too many rows of a kind, each count can be raised by one
 pub small_once : (kind : CountKind) (b : ℕ) (books : Books) → 1 ≤ b → length books.catalogue.kept < 2 ^ 32 → ((kind : CountKind) (a : ℕ) → count_in (kind_number kind) a books < 2 ^ 32)
     → CountsOnce b kind (counts_of books)
 small_once this b books low office small = record { once = once_counted this b books low; small = (office, branches_small (numbered books.catalogue.branches)) }

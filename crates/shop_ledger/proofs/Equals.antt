@@ -1,7 +1,7 @@
 -- Columns that are parameters.
 use Rattle.shop_schema.proofs.Common.{ℕ, suc, List, [], ◌∷◌, Binary, Term, col, op2, Compare, Eq}
 
--- `column = parameter`, for the columns at these places and the parameters in order
+-- `column = parameter`, for the columns at the given places and the parameters in order
 abbrev pub equals : ℕ → List ℕ → List Term
 equals k [] = []
 equals k (at ∷ places) = op2 (Compare Eq Binary) (col 1 at) (col 0 k) ∷ equals (suc k) places

@@ -1,4 +1,4 @@
--- Kept commands, as SQL has them: those of a branch, and those of head office, whose caller is 0, which is no branch's number.
+-- Kept commands in SQL: the commands of a branch, and the commands of head office. Head office is caller 0, which is no branch's number.
 use Rattle.shop_schema.proofs.Common.{◌≡◌, ◌≤◌, ◌==◌, ◌&&◌, ℕ, List, [], ◌∷◌, ◌++◌, map, filter, length, append_assoc, Bool, true, false, Some, None, Ok, refl, sym, ap, subst, ◌∙◌, arith, IsPermutation, ⊤, slice_get, AllByRecursion, bytes_eq, nat_tests, IsPermutation-sym, IsPermutation-trans, IsPermutation-to_front, IsPermutation-middle, filter-append, filter_none, all-map, all_map, all_weaker, IsPermutation-same, map-id, map_push, Blob, column, Binary, Term, col, op2, Compare, Eq, Values, Insert, State, ExecutesInside, map-map, filter-map, filter_same, Means, HasRows, PicksOne, number_value, length-map, Selects, plain_query, number_test, number_tested, text_test, text_tested, two_tested, projects_one, still_holds, Owned, owned_by, Kept, OfficeKept, Books, head, shop_schema, kept_table, kept_columns, office_kept_columns, kept_rows, command_form, office_command_form, IsHeld, IsNumber, IsKept, StandsFor, Holds, Reads, Writes, Counts, values}
 use Rattle.std.proofs.lemmas.List.{append-nil}
 use Rattle.sqlite.specs.declared.types.Value.TheVariants.{Text}
@@ -16,6 +16,7 @@ use Rattle.shop_ledger.specs.declared.kept.Owner.TheVariants as owner
 use Rattle.shop_ledger.proofs.Puts.{puts_row}
 use Rattle.shop_ledger.proofs.CountsOf.{not_office}
 use Rattle.shop_ledger.specs.Seen.{stored_kept, stored_office_kept, owner_number, IsOwner, kept_under, Keeps}
+use Rattle.shop_schema.specs.Trees.{kept_tree}
 
 insert_kept_means : Means shop_schema INSERT_KEPT.now (Insert 17 (Values (values 4) 5))
 unfolding understood everything
@@ -62,7 +63,7 @@ none_of_office : (b : ℕ) → 1 ≤ b → (test : sql.Row → Bool) (office : L
 none_of_office b low test office =
     filter_none _ _ (all-map (λ vs. (number_test 0 b vs && test vs) ≡ false) office_kept_columns (λ it. ap (λ t. t && test (office_kept_columns it)) (number_tested 0 b ∙ not_office b low)) office)
 
--- so the rows that pass are those of the branch's commands that do
+-- so the rows that pass are the rows of the branch's commands that pass
 kept_picked : (b : ℕ) → 1 ≤ b → (test : sql.Row → Bool) (p : Kept → Bool) → ((row : Owned Kept) → (number_test 0 b (kept_columns row) && test (kept_columns row)) ≡ (row.owner == b && p row.it))
     → (kept : List (Owned Kept)) (office : List OfficeKept) → filter (λ vs. number_test 0 b vs && test vs) (kept_rows kept office) ≡ map kept_columns (filter (λ row. row.owner == b && p row.it) kept)
 kept_picked b low test p tests_are kept office =
@@ -86,7 +87,7 @@ none_of_branches test kept all =
     another : (b : ℕ) → IsNumber b → (b == 0) ≡ false
     another b is = grind (arith, nat_tests)
 
--- so the rows that pass are those of head office's commands that do
+-- so the rows that pass are the rows of head office's commands that pass
 office_picked : (test : sql.Row → Bool) (p : OfficeKept → Bool) → ((it : OfficeKept) → (number_test 0 0 (office_kept_columns it) && test (office_kept_columns it)) ≡ p it)
     → (kept : List (Owned Kept)) (office : List OfficeKept) → AllByRecursion IsKept kept → filter (λ vs. number_test 0 0 vs && test vs) (kept_rows kept office) ≡ map office_kept_columns (filter p office)
 office_picked test p tests_are kept office all =
@@ -100,7 +101,7 @@ office_picked test p tests_are kept office all =
 abbrev of_key : List Term
 of_key = op2 (Compare Eq Binary) (col 1 1) (col 0 0) ∷ op2 (Compare Eq Binary) (col 1 2) (col 0 1) ∷ []
 
-select_kept_means : Selects shop_schema SELECT_KEPT.now (plain_query 39 of_key (col 1 3 ∷ col 1 4 ∷ []) [])
+select_kept_means : Selects shop_schema SELECT_KEPT.now (plain_query kept_tree of_key (col 1 3 ∷ col 1 4 ∷ []) [])
 unfolding understood everything
 select_kept_means = record { names = _; is = refl; plain = (refl, refl); unlisted = refl }
 
@@ -152,7 +153,7 @@ module _ (owner : Owner) (is : IsOwner owner) (old new : State) (key : List ℕ)
   shows_kept : (books : Books) → Holds old books → IsHeld books → rows ≡ map pair_columns (kept_under owner key books)
   shows_kept books holds held =
       projects_one shop_schema SELECT_KEPT.now 39 4 of_key (col 1 3 ∷ col 1 4 ∷ []) select_kept_means (number_value (owner_number owner) ∷ Text key ∷ []) old new rows holds.schema_is h
-      (λ vs. vs) all (subst (HasRows 4 (old.now.trees 39)) (sym (map-id all)) holds.stands.kept) refl
+      (λ vs. vs) all (subst (HasRows 4 (old.now.trees kept_tree)) (sym (map-id all)) holds.stands.kept) refl
       (seen (owner_number owner) key) two_columns (seen (owner_number owner) key) (λ vs. refl) (λ r. refl) few
       ∙ picked owner is key books held
     where
@@ -168,7 +169,7 @@ module _ (owner : Owner) (is : IsOwner owner) (old new : State) (key : List ℕ)
   still : (books : Books) → Holds old books → Holds new books
   still = still_holds shop_schema StandsFor SELECT_KEPT.now (number_value (owner_number owner) ∷ Text key ∷ []) old new select_kept_means.plain rows h
 
-  -- what the first row tells
+  -- what the first row says of the books
   pub read_owned : (slice : List sql.Row) → slice ≡ rows
       → (None ≡ slice_get slice 0 → Reads old new (λ books. None ≡ head (kept_under owner key books)))
       × ((row : sql.Row) (form reply : List ℕ) → Some row ≡ slice_get slice 0 → column row 0 ≡ Blob form → column row 1 ≡ Text reply

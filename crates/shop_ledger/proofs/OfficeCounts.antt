@@ -12,6 +12,7 @@ use Rattle.shop_ledger.proofs.CountsOf.{held_once, agreed}
 use Rattle.shop_ledger.proofs.CountLemmas.{read_count}
 use Rattle.sqlite_value.specs.Order as sql
 use Rattle.shop_ledger.specs.declared.counts.CountKind.TheVariants as kind
+use Rattle.shop_schema.specs.Counts.{kept_kind}
 
 -- ---- no count of a branch is head office's
 
@@ -57,7 +58,7 @@ pub read_counted : (counter : TheCount) → IsCount counter → (old new : State
 read_counted OfficeKeys is old new rows h = read_office_count old new rows h
 read_counted (Of b kind) low old new rows h = read_count old new b (kind_number kind) rows h low
 
--- the books' own counts are such as one more is taken of
+-- head office's count in the books' own counts can be raised by one
 pub office_once : (books : Books) → IsHeld books → CountsOnce 0 kind.Kept (counts_of books)
 office_once books held = record { once = subst (λ (n : ℕ). n ≤ 1) (sym (ap length (own_counts books))) (omega arith); small = (held_once books held kind.Kept 1 (omega arith)).small }
 
@@ -144,9 +145,9 @@ pub kept_stays : (act : OfficeAct) (it : Catalogue) → (office_acted act it).ke
 kept_stays (AddCountry name) it = refl
 kept_stays act it = refl
 
--- with the key that is kept, head office's count is one more than with the rows alone
+-- after the key is kept, head office's count is one more than after the rows alone
 pub office_counted_raised : (command : OfficeCommand) (books : Books)
-    → counts_of (record books { catalogue = office_done command books.catalogue }) ≡ raise 0 4 1 (counts_of (record books { catalogue = office_acted command.act books.catalogue }))
+    → counts_of (record books { catalogue = office_done command books.catalogue }) ≡ raise 0 kept_kind 1 (counts_of (record books { catalogue = office_acted command.act books.catalogue }))
 office_counted_raised command books =
     let it = office_acted command.act books.catalogue in
     let kept : OfficeKept = record { command = command; reply = office_text command books.catalogue } in
@@ -154,10 +155,10 @@ office_counted_raised command books =
     let others = none_raised (flat_map (branch_counts books) (numbered it.branches)) (callers books 1 (omega arith) it.branches) in
     λ i. record { counters = record { caller = 0; kind = 4; last = more i } ∷ sym others i; outs = (counts_of books).outs; pairs = (counts_of books).pairs }
 
--- so the counts of the books after a command are those that the command makes
+-- so the books after a command have the counts that the command makes
 pub office_counts_done : (command : OfficeCommand) (books : Books) → HasOwners books.catalogue.branches books
     → counts_of (record books { catalogue = office_done command books.catalogue }) ≡ office_counted command.act (length books.catalogue.branches + 1) (counts_of books)
-office_counts_done command books owners = office_counted_raised command books ∙ ap (raise 0 4 1) (office_rows_counted command.act books owners)
+office_counts_done command books owners = office_counted_raised command books ∙ ap (raise 0 kept_kind 1) (office_rows_counted command.act books owners)
 
 pub office_counts_agreed : (s : State) (command : OfficeCommand) (books : Books) → HasOwners books.catalogue.branches books → AreTermed books
     → HoldsWith (office_counted command.act (length books.catalogue.branches + 1) (counts_of books)) s (record books { catalogue = office_done command books.catalogue })
@@ -165,7 +166,7 @@ pub office_counts_agreed : (s : State) (command : OfficeCommand) (books : Books)
 office_counts_agreed s command books owners termed holds =
     agreed s (record books { catalogue = office_done command books.catalogue }) (office_counted command.act (length books.catalogue.branches + 1) (counts_of books)) (office_counts_done command books owners) termed holds
 
--- and with the rows alone the counts are such as one more key is taken of
+-- after the rows alone, the count of keys can be raised by one
 pub office_grown_once : (act : OfficeAct) (b : ℕ) (books : Books) → 1 ≤ b → IsHeld books → CountsOnce 0 kind.Kept (office_grown act b (counts_of books))
 office_grown_once (AddBranch branch) b books low held = branch_once b books low held
 office_grown_once act b books low held = office_once books held

@@ -1,4 +1,4 @@
--- The copies that are out, as the books' own counts have them, are those of the open rentals.
+-- In the books' own counts, the copies that are out are the copies of the open rentals.
 use Rattle.shop_schema.proofs.Common.{◌≡◌, ◌∙◌, inl, inr, refl, sym, ap, subst, ℕ, ◌+◌, ◌≤◌, Bool, List, [], ◌∷◌, map, filter, length, is_none, cases_Bool, PicksOne, Row, is_of, of, numbered, numbered_from, IsCounted, Rental, keeps_out, Books, length_map, map_map, IsHeld, Out, is_out, is_open, out_of, counts_of, Rentals, filter_map, filter_filter, map-map, ascending-filter}
 use Rattle.std.specs.Prelude.{◌==◌}
 use Rattle.shop_ledger.proofs.Rising.{Rise, counted_rise, as_many_pass}

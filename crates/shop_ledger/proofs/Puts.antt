@@ -3,7 +3,7 @@ use Rattle.shop_schema.proofs.Common.{◌≡◌, ◌/◌, ℕ, suc, List, [], �
 use Rattle.sqlite_value.specs.Order as sql
 use Rattle.shop_schema.proofs.Stands.{rows_of, rows_at, with_rows, one_has, stands_at, stands_but}
 
--- `now` are the table's rows with the new one, in any order. `plain` and `alone`, and the premises on the row, are `refl` where table and text are known.
+-- `now` are the table's rows with the new row, in any order. `plain` and `alone`, and the premises on the row, are `refl` if the table and the text are known.
 module _ (place : ℕ) (table : Table) (plain : IsPlainTable shop_schema place table) (alone : one_has place table.tree shop_schema.tables ≡ true) where
   abbrev width : ℕ
   width = length table.columns

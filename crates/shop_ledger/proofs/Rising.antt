@@ -54,6 +54,6 @@ module _ {A : Type 0} (test : A → Bool) (b : ℕ) (rows : List (Row A)) (count
   pub which_rise : Rise (filter (of_which test b) rows)
   which_rise = subst Rise (sym split) (ascending-filter _ (λ (row : Row A). test row.it) (filter (is_of b) rows) (counted_rise (λ (row : Row A). row.number) 1 (filter (is_of b) rows) counted))
 
-  -- they are those of the branch that pass
+  -- they are the branch's items that pass
   pub which_are : map (λ (row : Row A). row.it) (filter (of_which test b) rows) ≡ filter test (of b rows)
   which_are = ap (map (λ (row : Row A). row.it)) split ∙ sym (filter-map test (λ (row : Row A). row.it) (filter (is_of b) rows))

@@ -1,4 +1,4 @@
--- How a branch stands, as SQL has it: its row, joined with its count of kept commands.
+-- The state of a branch in SQL: its row, joined with its count of kept commands.
 use Rattle.shop_schema.proofs.Common.{◌≡◌, ◌≤◌, ◌==◌, ℕ, zero, suc, pos, List, [], ◌∷◌, map, filter, true, false, cond, Some, None, refl, sym, ap, subst, ◌∙◌, arith, append-nil, inl, inr, ◌⊎◌, IfSome, slice_get, flat_map, IsPermutation-refl, Value, Null, Int, or_null, column, Trees, Term, col, lit, Query, Join, inner, left, end, Output, overlay, State, map-map, IsPermutation-same, PicksOne, columns_of, number_value, Selects, answers, kept_as_map, one_tested, number_tested, still_holds, joined_query, are_equal, or_blank, shown_of, few_list, left_pair, joined_rows, IsMoment, owned_by, at, is_empty, numbered, Branch, Books, head, shop_schema, moment_value, branch_columns, counter_columns, Count, is_count, count_in, counts_of, IsHeld, StandsFor, Holds, Reads}
 use Rattle.sqlite_value.specs.Order as sql
 use Rattle.sqlite_tied.specs.Compute.{everything}
@@ -16,9 +16,10 @@ use Rattle.shop_ledger.proofs.Equals.{of_one}
 use Rattle.shop_ledger.proofs.Fews.{climbs_few}
 use Rattle.shop_ledger.proofs.CountsOf.{told_count, held_once}
 use Rattle.shop_ledger.proofs.OfficeCounts.{office_once}
+use Rattle.shop_schema.specs.Trees.{counter_tree}
 
 abbrev with_keys : Join
-with_keys = left 41 (are_equal (col 2 1) (col 1 1) ∷ are_equal (col 2 2) (lit (Int (pos 4))) ∷ []) end
+with_keys = left counter_tree (are_equal (col 2 1) (col 1 1) ∷ are_equal (col 2 2) (lit (Int (pos 4))) ∷ []) end
 
 abbrev standing_shows : List Term
 standing_shows = col 1 8 ∷ col 2 3 ∷ []
@@ -105,7 +106,7 @@ keys_are b n books low (c ∷ more) e is =
     let shown : List Count → List sql.Row = map (λ c. number_value c.last ∷ []) in
     told_count b 4 books (shown (keys_of books b)) (number_value c.last ∷ []) n low (IsPermutation-refl _) (ap (λ l. slice_get (shown l) 0) e) is
 
--- what the first row tells
+-- what the first row says of the books
 pub told_standing : (old new : State) (b : ℕ) (rows : List sql.Row) → Shown SELECT_STANDING.now (number_value b ∷ []) old new rows → 1 ≤ b
     → (slice_get rows 0 ≡ None → Reads old new (λ books. IsStanding b books None))
     × ((row : sql.Row) (it : Standing) → slice_get rows 0 ≡ Some row → column row 0 ≡ or_null moment_value it.last → IfSome it.last IsMoment → column row 1 ≡ number_value it.keys

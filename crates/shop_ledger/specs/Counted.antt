@@ -10,7 +10,7 @@ use Rattle.shop_ledger.specs.declared.counts.CountKind.TheVariants as kind
 use Rattle.shop_ledger.specs.declared.counts.Count.{Count}
 use Rattle.shop_ledger.specs.declared.counts.Count.TheVariants.{OfficeKeys, Of}
 
--- the number of the kind, as the table has it
+-- the number of the kind in the table
 abbrev pub kind_number : CountKind → ℕ
 kind_number kind.Customers = customers_kind
 kind_number kind.Copies = copies_kind
@@ -18,7 +18,7 @@ kind_number kind.Rentals = rentals_kind
 kind_number kind.Payments = payments_kind
 kind_number kind.Kept = kept_kind
 
--- whose the counter is, as the table has it: a branch's number, or 0 for head office
+-- the number in the table of the counter's caller: a branch's number, or 0 for head office
 abbrev pub caller_of : Count → ℕ
 caller_of OfficeKeys = 0
 caller_of (Of b kind) = b
@@ -36,7 +36,7 @@ abbrev pub counted : Count → Books → ℕ
 counted OfficeKeys books = length books.catalogue.kept
 counted (Of b kind) books = count_in (kind_number kind) b books
 
--- the branch has at most one count of the kind, and no count is so great that one more is no number of 64 bits
+-- the branch has at most one count of the kind, and each count is below 2 ^ 32, so that a raised count fits 64 bits
 pub record CountsOnce (b : ℕ) (kind : CountKind) (counts : Counts) : Type 0 where
   pub once : PicksOne (is_count b (kind_number kind)) counts.counters
   pub small : AllByRecursion (λ it. it.last < 2 ^ 32) counts.counters
@@ -50,6 +50,6 @@ abbrev pub office_grown : OfficeAct → ℕ → Counts → Counts
 office_grown (AddBranch branch) b counts = with_branch b counts
 office_grown act b counts = counts
 
--- how the command does: there is a kept key more
+-- how a whole command of head office changes the counts: there is one more kept key
 abbrev pub office_counted : OfficeAct → ℕ → Counts → Counts
 office_counted act b counts = raise 0 kept_kind 1 (office_grown act b counts)

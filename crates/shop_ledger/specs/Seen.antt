@@ -22,7 +22,7 @@ stored_kept kept = (command_form kept.command, kept.reply)
 abbrev pub stored_office_kept : OfficeKept → List ℕ × List ℕ
 stored_office_kept kept = (office_command_form kept.command, kept.reply)
 
--- whose a kept command is, as the table has it: a branch's number, or 0 for head office
+-- the number in the table of a kept command's owner: a branch's number, or 0 for head office
 abbrev pub owner_number : Owner → ℕ
 owner_number owner.Office = 0
 owner_number (owner.Branch b) = b
@@ -36,7 +36,7 @@ abbrev pub kept_under : Owner → List ℕ → Books → List (List ℕ × List 
 kept_under owner.Office key books = map stored_office_kept (filter (λ it. bytes_eq it.command.key key) books.catalogue.kept)
 kept_under (owner.Branch b) key books = map stored_kept (filter (λ it. bytes_eq it.command.key key) (owned_by b books.kept))
 
--- the command that has the key and is stored in this form comes to be kept, with the reply
+-- the call keeps the command that has the key and the stored form, with the reply
 abbrev pub Keeps : Owner → List ℕ → List ℕ → List ℕ → State → State → Type 0
 Keeps owner.Office key form reply old new =
     (command : OfficeCommand) → command.key ≡ key → office_command_form command ≡ form → Writes old new (λ _. ⊤) (λ books. record books {

@@ -7,13 +7,13 @@ use Rattle.shop_ledger.specs.declared.counts.CountKind.TheVariants as kind
 use Rattle.shop_ledger.specs.declared.counts.Count.TheVariants.{Of}
 use Rattle.shop_ledger.specs.Counted.{counted}
 
--- the branch is there, and the books have this last moment of it and so many of its commands
+-- the branch is there, and the books have its last moment and its count of kept commands as `it` says
 pub record HasStanding (b : ℕ) (books : Books) (it : Standing) : Type 0 where
   pub there : lacks books.catalogue.branches b ≡ false
   pub last : it.last ≡ head (owned_by b books.lasts)
   pub keys : it.keys ≡ counted (Of b kind.Kept) books
 
--- the same where a branch was looked for, which may not be there
+-- the same for a branch that may not be there
 abbrev pub IsStanding : ℕ → Books → Option Standing → Type 0
 IsStanding b books None = lacks books.catalogue.branches b ≡ true
 IsStanding b books (Some it) = HasStanding b books it

@@ -1,4 +1,4 @@
-//! What a command came to.
+//! The outcome of a command.
 
 use shop_types::Reply;
 
@@ -6,6 +6,6 @@ use shop_types::Reply;
 #[derive(Drop)]
 pub struct Answered {
     pub reply: Reply,
-    /// No where the reply is a repeated one or a refusal.
+    /// No if the reply is a repeated one or a refusal.
     pub is_changed: bool,
 }

@@ -16,7 +16,7 @@ use sql_rows::{StoreFault, execute, number_at, query};
 use sqlite::types::ToSql;
 use sqlite::{Alter, Row, Transaction};
 
-/// How a branch stands before a command: the moment of its last accepted command, where there is one, and how many of
+/// The state of a branch before a command: the moment of its last accepted command, if there is one, and how many of
 /// its commands are kept.
 #[derive(Clone, Copy)]
 pub struct Standing {
@@ -24,7 +24,7 @@ pub struct Standing {
     pub keys: u32,
 }
 
-/// The moment and the count in the row.
+/// Returns the moment and the count in the row.
 fn standing_in(row: &Row) -> Result<Standing, StoreFault>
     ensures last { IfOk result (λ it. column row.now 0 ≡ or_null moment_value it.last) }
     ensures moment { IfOk result (λ it. IfSome it.last IsMoment) }
@@ -39,7 +39,8 @@ fn standing_in(row: &Row) -> Result<Standing, StoreFault>
 const SELECT_STANDING: &str =
     "SELECT b.last_moment, c.last FROM branch AS b LEFT JOIN counter AS c ON c.caller = b.number AND c.kind = 4 WHERE b.number = ?1";
 
-/// How the branch stands; nothing at all where there is no such branch. One statement reads its row with its counter's.
+/// Returns the state of the branch, or none if there is no such branch. One statement reads the branch's row and its
+/// counter's row.
 pub fn standing_at<S: Alter>(
     tx: &mut Transaction<'_, S>,
     branch: BranchNo,

@@ -29,7 +29,7 @@ pub enum CountKind {
 }
 
 impl CountKind {
-    /// As the table has it.
+    /// Returns the kind's number in the table.
     fn number(self) -> u32
         ensures { result ≡ kind_number self }
     {
@@ -53,7 +53,7 @@ pub enum Count {
 }
 
 impl Count {
-    /// Whose it is, as the table has it: a branch's number, or 0 for head office.
+    /// Returns the caller's number in the table: a branch's number, or 0 for head office.
     fn caller(&self) -> u32
         ensures value { result ≡ caller_of self.now }
         ensures real { IsCount self.now }
@@ -64,7 +64,7 @@ impl Count {
         }
     }
 
-    /// What it counts, as the table has it.
+    /// Returns the number in the table of the kind that is counted.
     fn kind(&self) -> u32
         ensures { result ≡ kind_number (kind_of self.now) }
     {
@@ -75,8 +75,8 @@ impl Count {
     }
 }
 
-/// The count that was found. Where there is none, or more than a million, the fault is `Failed`: no sound table
-/// counts more.
+/// Returns the count that was found. Fails with `Failed` if there is none, or if it is more than a million: no sound
+/// table counts more.
 pub(crate) fn fitting(found: Option<u32>) -> Result<u32, StoreFault>
     ensures { IfOk result (λ n. (found ≡ Some n) × (n ≤ 1_000_000)) }
 {
@@ -86,7 +86,8 @@ pub(crate) fn fitting(found: Option<u32>) -> Result<u32, StoreFault>
     }
 }
 
-/// The count in the first row that a query shows. Where there is none, or more than a million, the fault is `Failed`.
+/// Returns the count in the first row that a query shows. Fails with `Failed` if there is none, or if it is more than
+/// a million.
 fn count_shown<S: Alter>(
     tx: &mut Transaction<'_, S>,
     text: &str,
@@ -102,7 +103,7 @@ fn count_shown<S: Alter>(
 
 const SELECT_COUNT: &str = "SELECT last FROM counter WHERE caller = ?1 AND kind = ?2";
 
-/// What the counter says. One row is read, however many it counts.
+/// Returns the value of the counter. One row is read, however many rows it counts.
 pub fn count_of<S: Alter>(tx: &mut Transaction<'_, S>, count: Count) -> Result<u32, StoreFault>
     ensures does { DoesInside S.Store tx.old.conn tx.new.conn result
         (λ n. Finds (λ books. n ≡ counted count books)) }
@@ -118,8 +119,8 @@ pub fn count_of<S: Alter>(tx: &mut Transaction<'_, S>, count: Count) -> Result<u
 const UPDATE_COUNT: &str =
     "UPDATE counter SET last = last + ?3 WHERE caller = ?1 AND kind = ?2 RETURNING last";
 
-/// Raises the counter by so many, and tells what it says then. A counter that isn't there is a fault. After a fault
-/// the transaction may be rolled back.
+/// Raises the counter by `more`, and returns its new value. A counter that isn't there is a fault. After a fault the
+/// transaction may be rolled back.
 pub fn take_numbers<S: Alter>(
     tx: &mut Transaction<'_, S>,
     count: Count,
@@ -145,7 +146,8 @@ pub fn take_numbers<S: Alter>(
 
 const SELECT_OUT: &str = "SELECT rental FROM out_copy WHERE branch = ?1 AND copy = ?2";
 
-/// The copy's open rental, where it is out: no copy has two. One row is read, however many rentals there are.
+/// Returns the copy's open rental, if the copy is out. No copy has two. One row is read, however many rentals there
+/// are.
 pub fn out_at<S: Alter>(
     tx: &mut Transaction<'_, S>,
     branch: BranchNo,
@@ -165,8 +167,8 @@ pub fn out_at<S: Alter>(
 
 const SELECT_COPIES_OUT: &str = "SELECT copy FROM out_copy WHERE branch = ?1 ORDER BY rental";
 
-/// The branch's copies that are out, in the order of their rentals. As many rows are read, however many copies there
-/// are.
+/// Returns the branch's copies that are out, in the order of their rentals. One row is read for each of them, however
+/// many copies there are.
 pub fn copies_out<S: Alter>(
     alloc: Global,
     tx: &mut Transaction<'_, S>,
@@ -229,8 +231,8 @@ pub fn drop_out<S: Alter>(
 
 const INSERT_COUNT: &str = "INSERT INTO counter (caller, kind, last) VALUES (?1, ?2, ?3)";
 
-/// Begins the caller's count of a kind of rows, at that number: 0 is head office. After a fault the transaction may
-/// be rolled back.
+/// Begins the caller's count of a kind of rows, at the given number. Caller 0 is head office. After a fault the
+/// transaction may be rolled back.
 pub fn put_count<S: Alter>(
     tx: &mut Transaction<'_, S>,
     caller: u32,

@@ -13,7 +13,7 @@ use sql_rows::{Bytes, StoreFault, Words, bytes_at, execute, words_at};
 use sqlite::types::ToSql;
 use sqlite::{Alter, Row, Transaction};
 
-/// Whose a kept command is.
+/// The owner of a kept command.
 #[derive(Clone, Copy)]
 pub enum Owner {
     Office,
@@ -21,7 +21,7 @@ pub enum Owner {
 }
 
 impl Owner {
-    /// As the table has it: a branch's number, or 0 for head office.
+    /// Returns the owner's number in the table: a branch's number, or 0 for head office.
     fn number(self) -> u32
         ensures value { result ≡ owner_number self }
         ensures real { IsOwner self }
@@ -33,14 +33,14 @@ impl Owner {
     }
 }
 
-/// A command that its caller was accepted for, as it is stored, and the body of the reply that it had.
+/// An accepted command in its stored form, and the body of its reply.
 #[derive(Drop)]
 pub struct KeptRow {
     pub form: Bytes,
     pub reply: Words,
 }
 
-/// The kept row as it compares with a command of that stored form.
+/// Returns the kept row as it compares with a command of that stored form.
 pub fn kept_found<'a>(kept: Option<&'a KeptRow>, form: &Bytes) -> Option<KeptFound<'a>>
     ensures { option_map told result ≡ option_map (λ row. by_form form.now (seen_kept row.now)) kept.entry }
 {
@@ -53,7 +53,7 @@ pub fn kept_found<'a>(kept: Option<&'a KeptRow>, form: &Bytes) -> Option<KeptFou
     }
 }
 
-/// The stored form and the reply in the row.
+/// Returns the stored form and the reply in the row.
 fn kept_in(row: &Row) -> Result<KeptRow, StoreFault>
     ensures { IfOk result (λ kept. (column row.now 0 ≡ Blob kept.form) × (column row.now 1 ≡ Text kept.reply)) }
 {
@@ -65,7 +65,7 @@ fn kept_in(row: &Row) -> Result<KeptRow, StoreFault>
 
 const SELECT_KEPT: &str = "SELECT command, reply FROM kept WHERE caller = ?1 AND \"key\" = ?2";
 
-/// What its owner has kept under the key.
+/// Returns what the owner has kept under the key.
 pub fn kept_at<S: Alter>(
     tx: &mut Transaction<'_, S>,
     owner: Owner,

@@ -1,6 +1,6 @@
-//! What the shop keeps account of beside its rows: counts of rows, copies that are out, kept commands and last
-//! moments, one function a statement. Each works inside a transaction of the caller's, and tells what it found or
-//! made of the books that the tables stand for.
+//! Keeps account of what the shop has besides its rows: counts of rows, copies that are out, kept commands and last
+//! moments. Each statement has one function. Each function works inside a transaction of the caller. Its contract says
+//! what it found or changed in the books that the tables stand for.
 #![tactic(auto)]
 
 mod answered;

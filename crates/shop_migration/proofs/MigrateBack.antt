@@ -1,4 +1,4 @@
--- What tables stood for in version 1, by what those stand for that they have become.
+-- What the tables of version 1 stood for, which follows from what the migrated tables stand for.
 use Rattle.shop_schema.proofs.Common.{◌≡◌, ◌≢◌, ℕ, List, [], ◌∷◌, true, not, refl, sym, subst, ◌∙◌, arith, IsPermutation, AllByRecursion, and_parts, IsPermutation-sym, IsPermutation-trans, Trees, Table, one_permutation, HasRows, SameBut, number_value, same_number, Text, Rule, ByCode, ByComment, Books, without_terms, this_version, first_version, versioned_columns, rule_columns, counts_of, StandsFor, StandsForVersion1, TermedRows, shop_schema, version_1_schema, later_tables, chain_table}
 use Rattle.std.specs.Prelude.{◌==◌}
 use Rattle.sqlite_value.specs.Order as sql
@@ -36,12 +36,12 @@ module _ (old one two three new : Trees) where
       let no_rule = and_parts (not (t.tree == 59)) (none_has 59 ts) q in
       (λ apart. sym (d.0 apart ∙ c.0 (differ t.tree 59 no_rule.0) ∙ b.0 (differ t.tree 57 no_terms.0) ∙ a.0), back ts no_terms.1 no_rule.1 a.1 b.1 c.1 d.1)
 
-  -- where the tables of version 1 became tables of this version by four steps
+  -- if four steps turned the tables of version 1 into the tables of this version
   module _ (added : AddsTables old one) (filled : SameBut shop_schema 57 one two) (ruled : PutsRule two three) where
     abbrev first : List Table
     first = version_1_schema.tables
 
-    -- the table that tells the version has been as it was until then
+    -- the first three steps leave the table with the version as it was
     pub tells_still : (token : Text) → Tells first_version token old → Tells first_version token three
     tells_still token tells =
         let same : three 0 ≡ old 0 = ruled.others.0 (differ 0 59 refl) ∙ filled.0 (differ 0 57 refl) ∙ added.others.0 in

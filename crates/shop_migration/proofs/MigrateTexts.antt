@@ -1,4 +1,4 @@
--- What the statements do by which the tables of version 1 become those of version 2.
+-- What the statements do that turn the tables of version 1 into the tables of version 2.
 use Rattle.std.proofs.Common.{map-id}
 use Rattle.shop_schema.proofs.Common.{◌≡◌, ◌≢◌, ℕ, pos, List, [], ◌∷◌, ◌++◌, map, filter, length, drop, take, codes, true, Ok, refl, sym, ap, ap₂, subst, subst₂, ◌∙◌, arith, append-nil, inl, inr, IsPermutation, ⊤, ◌⊎◌, flat_map, AllByRecursion, IsPermutation-refl, IsPermutation-sym, IsPermutation-trans, IsPermutation-map, Null, Int, column, Binary, Trees, IsShaped, Term, lit, col, Join, left, inner, end, IsAnswer, Output, overlay, Values, Insert, Update, State, ExecutesInside, Table, Schema, map-append, map-map, flat_map-map, all-append, Changes, Means, HasRows, SameBut, number_value, all_typed, joined_query, are_equal, or_blank, shown_of, few_list, left_pair, joined_bag, plain_query, HasPut, has_put, sets_row, Row, at, is_row, Text, Film, Copy, Rental, Terms, ByCode, Rules, film_of, film_terms, terms_now, HasNumbers, Books, BookCopy, shop_of, unmarked, IsSoundWithoutTerms, row_terms, migrated, row_at, length_map, at_one, all_rows_have_one, shop_schema, version_1_schema, later_tables, this_version, first_version, versioned_columns, film_columns, copy_columns, rental_columns, terms_columns, rule_columns, counts_of, IsShop, IsFirstShop, StandsAs, AreTermed, HoldsVersion1, Holds, term_rows, later_rows, HaveRows, IsKeyed, IsFirstKeyed, CopyRows}
 use Rattle.sqlite_value.specs.Order as sql
@@ -71,7 +71,7 @@ pub last_part : (P : Table → Type 0) (ts us : List Table) → AllByRecursion P
 last_part P [] us all = all
 last_part P (t ∷ ts) us all = last_part P ts us all.1
 
--- what the two statements leave of the tables of version 1, and beside them
+-- how the two statements leave the tables of version 1, and the tables that they add
 record Made (old new : State) : Type 0 where
   shop : IsShop new
   others : AllByRecursion (λ t. new.now.trees t.tree ≡ old.now.trees t.tree) version_1_schema.tables
@@ -138,7 +138,7 @@ fill_shows = lit Null ∷ col 1 1 ∷ col 1 2 ∷ col 3 7 ∷ col 3 6 ∷ col 3 
 abbrev fill_query : Asked
 fill_query = joined_query (inner 27 with_copy) [] fill_shows []
 
--- a query that is put into a table has a collation for each column, which is read only where it shows one of each row
+-- a query that is put into a table has a collation for each column; the collation is read only if the query shows one of each row
 abbrev fill_program : Program
 fill_program = record { lets = []; body = record fill_query { collations = Binary ∷ Binary ∷ Binary ∷ Binary ∷ Binary ∷ Binary ∷ [] } }
 
@@ -146,7 +146,7 @@ fill_means : Means shop_schema fill_text (Insert 21 (Query fill_program))
 unfolding understood everything
 fill_means = record { is = refl; plain = (refl, refl) }
 
--- a row of terms as the statement gives it, behind a rowid that is to be chosen
+-- a row of terms as the statement gives it, after a rowid that is to be chosen
 abbrev source : Row Terms → sql.Row
 source it = Null ∷ terms_columns it
 
@@ -332,7 +332,7 @@ version_means = record { is = refl; plain = (refl, refl) }
 abbrev told : ℕ × Text → sql.Row
 told it = versioned_columns it.0 it.1
 
--- the row of the table, in tables of which the others are as they were
+-- the table `chain` has this row, and the other tables are as they were
 abbrev Stood : Trees → Trees → ℕ × Text → Type 0
 Stood old trees it = SameBut shop_schema 0 old trees × HasRows 2 (trees 0) (told it ∷ [])
 

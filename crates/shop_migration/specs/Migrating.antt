@@ -1,4 +1,4 @@
--- The way from the tables of version 1 to those of version 2.
+-- Defines the steps from the tables of version 1 to the tables of version 2.
 use Rattle.std.specs.Prelude.{◌≡◌, ℕ, List, [], ◌∷◌}
 use Rattle.std.specs.List.{AllByRecursion}
 use Rattle.sqlite_value.specs.Order as sql
@@ -13,7 +13,7 @@ use Rattle.shop_schema.specs.RowValues.{this_version, first_version, versioned_c
 use Rattle.shop_schema.specs.Counts.{counts_of}
 use Rattle.shop_schema.specs.Shop.{StandsAs, Holds, HoldsVersion1, IsFirstShop, IsFirstKeyed, shop_schema, version_1_schema}
 
--- the tables of version 2, which still stand for books of version 1: they have this version, and these rows of terms and of the rule
+-- the tables of version 2, which still stand for books of version 1; they have the given version, rows of terms, and rows of the rule
 abbrev pub IsUnderWay : ℕ → List sql.Row → List sql.Row → State → Books → Type 0
 IsUnderWay version terms rule = calls.Holds shop_schema (λ trees books. StandsAs version (λ _. terms ∷ rule ∷ []) (counts_of books) trees books)
 
@@ -21,30 +21,30 @@ IsUnderWay version terms rule = calls.Holds shop_schema (λ trees books. StandsA
 abbrev pub Tells : ℕ → Text → Trees → Type 0
 Tells version token trees = HasRows 2 (trees 0) (versioned_columns version token ∷ [])
 
--- ---- what each step leaves of the tables, whatever they stand for
+-- ---- how each step leaves the tables, whatever they stand for
 
--- there are new tables, and the others are as they were
+-- the new tables are added, and the other tables are as they were
 pub record AddsTables (old new : Trees) : Type 0 where
   pub others : AllByRecursion (λ t. new t.tree ≡ old t.tree) version_1_schema.tables
   pub no_rule : new 59 ≡ []
 
--- a table has the rule, where it had no row, and the others are as they were
+-- if the table of the rule had no row, it has the rule now; the other tables are as they were
 pub record PutsRule (old new : Trees) : Type 0 where
   pub others : SameBut shop_schema 59 old new
   pub rule : old 59 ≡ [] → HasRows 1 (new 59) (rule_columns ByCode ∷ [])
 
--- another version stands beside the token, and the other tables are as they were
+-- the table `chain` has this program's version with the same token, and the other tables are as they were
 pub record SetsVersion (old new : Trees) (token : Text) : Type 0 where
   pub others : SameBut shop_schema 0 old new
   pub told : Tells this_version token new
 
 -- ---- all of it
 
--- tables of version 1 that stand for sound books have become tables that stand for these books with the terms of each rental
+-- if the tables of version 1 stood for sound books, the new tables stand for the same books with the terms of each rental
 abbrev pub Migrates : State → State → Type 0
 Migrates old new = (rules : Rules) (books : Books) → IsSoundWithoutTerms rules books → HoldsVersion1 old books → Holds new (migrated books)
 
--- and where the first of them told its version, then whatever books the tables stand for now, those of version 1 stood for the same without terms
+-- If the first table of version 1 said its version, then whatever books the new tables stand for, the old tables stood for the same books without terms.
 abbrev pub StoodForSame : State → State → Type 0
 StoodForSame old new =
     IsFirstShop old → IsFirstKeyed old → (token : Text) → Tells first_version token old.now.trees → (books : Books) → Holds new books → HoldsVersion1 old (without_terms books)

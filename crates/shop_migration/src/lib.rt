@@ -1,4 +1,4 @@
-//! How the tables of version 1 become those of version 2.
+//! Turns the tables of version 1 into the tables of version 2.
 #![tactic(auto)]
 
 ghost use Rattle.std.specs.Prelude.{◌∷◌, [], List, OnOk};
@@ -17,7 +17,7 @@ ghost use Rattle.shop_schema.specs.Shop.{IsShop, IsKeyed, IsFirstShop, IsFirstKe
 use sql_rows::{StoreFault, execute};
 use sqlite::{Alter, Transaction};
 
-/// Makes the tables that version 2 has more, with no rows.
+/// Makes the tables that version 2 adds, with no rows.
 fn add_tables<S: Alter>(tx: &mut Transaction<'_, S>) -> Result<(), StoreFault>
     ensures inside { StaysInside S.Store tx.old.conn tx.new.conn result }
     ensures shop { HasCleanDisk (state S.Store tx.new.conn.now)
@@ -44,7 +44,7 @@ fn add_tables<S: Alter>(tx: &mut Transaction<'_, S>) -> Result<(), StoreFault>
     )
 }
 
-/// Gives each rental the terms of its film as they stand, by one statement.
+/// Gives each rental the current terms of its film, by one statement.
 fn put_terms<S: Alter>(tx: &mut Transaction<'_, S>) -> Result<(), StoreFault>
     ensures inside { StaysInside S.Store tx.old.conn tx.new.conn result }
     ensures shop { HasCleanDisk (state S.Store tx.new.conn.now)
@@ -86,7 +86,7 @@ fn put_rule<S: Alter>(tx: &mut Transaction<'_, S>) -> Result<(), StoreFault>
     execute(tx, "INSERT INTO chain_rule (comment_rule) VALUES (0)", &[])
 }
 
-/// Makes the version that of these tables.
+/// Sets the version to 2, the version of this program's tables.
 fn set_version<S: Alter>(tx: &mut Transaction<'_, S>) -> Result<(), StoreFault>
     ensures inside { StaysInside S.Store tx.old.conn tx.new.conn result }
     ensures shop { HasCleanDisk (state S.Store tx.new.conn.now)
@@ -106,9 +106,9 @@ fn set_version<S: Alter>(tx: &mut Transaction<'_, S>) -> Result<(), StoreFault>
     execute(tx, "UPDATE chain SET version = 2", &[])
 }
 
-/// The tables of version 1 become those of version 2: each rental gets the terms of its film as they stand, and
-/// balances go by the manual's code, as they did. Nothing is committed. The tables stand for what those of version 1
-/// stood for and for nothing else (`stood`), so that an audit of them tells whether these stood for sound books.
+/// Turns the tables of version 1 into the tables of version 2. Each rental gets the current terms of its film, and
+/// balances use the manual's code, as before. Nothing is committed. The new tables stand for what the old tables stood
+/// for, and for nothing else (`stood`). So an audit of the new tables shows whether the old ones stood for sound books.
 pub fn migrate_tables<S: Alter>(tx: &mut Transaction<'_, S>) -> Result<(), StoreFault>
     ensures inside { StaysInside S.Store tx.old.conn tx.new.conn result }
     ensures shop { HasCleanDisk (state S.Store tx.new.conn.now)

@@ -1,4 +1,4 @@
--- What commands leave of each branch's rows, by that branch's rows and those of the branch that acts.
+-- What commands leave of each branch's rows depends on the rows of that branch and of the branch that acts.
 use Rattle.shop_model.proofs.Common.{◌≡◌, inl, inr, ℕ, ◌+◌, List, [], ◌∷◌, ◌++◌, length, filter, map, Bool, true, false, not, cond, None, refl, sym, ⊤, ap, ap₂, subst, ◌∙◌, ◌==◌, flat_map, cases_Bool, at, Row, Owned, is_of, is_row, next, put_all, set_row, set_rows, update_where, Moment, Text, Copy, Terms, Act, Rent, Dispatch, Receive, Command, Rules, Kept, film_terms, terms_now, reply_text, Books, BookCopy, Line, Consignment, Table, Customers, CopyRows, Rentals, TermRows, Payments, RowsOf, rows_of, if_same, with_rows, Edit, Put, Set, PutLot, Append, Update, edited, all_edited, edits_of, shop_of, unmarked, unpacked, come, put_state, Sent, checked, is_consignment, new_consignment, set_last, book_acted, book_done, Catalogue}
 use Rattle.shop_model.specs.Rows.{put}
 use Rattle.shop_model.specs.Interleaved.{HasSameRows}
@@ -49,7 +49,7 @@ pub one_more_same : {A : Type 0} (p : A → Bool) (xs ys : List A) (x y : A) →
 one_more_same {A = A} p xs ys x y same e =
     one_more p xs x ∙ ap₂ (λ (z : A) (rest : List A). cond (p z) (rest ++ z ∷ []) rest) same e ∙ sym (one_more p ys y)
 
--- ---- rows of one branch, by its own and those of the branch that acts
+-- ---- rows of one branch depend on its own rows and on the rows of the branch that acts
 
 put_same : {A : Type 0} (b c : ℕ) (make : ℕ → A) (one other : List (Row A)) → filter (is_of c) one ≡ filter (is_of c) other → filter (is_of b) one ≡ filter (is_of b) other
     → filter (is_of b) (put c make one) ≡ filter (is_of b) (put c make other)
@@ -95,7 +95,7 @@ same_or_both P TermRows TermRows x x' y y' first second = first
 same_or_both P Payments Payments x x' y y' first second = first
 same_or_both P t u x x' y y' first second = second
 
--- what holds of each two lists holds where those of one table are others of which it holds
+-- What holds of each table's two lists still holds after the lists of one table are replaced, if it holds of the new lists.
 both_tables : (P : (t : Table) → RowsOf t → RowsOf t → Type 0) (t : Table) (new new' : RowsOf t) (one other : Books) → P t new new'
     → ((u : Table) → P u (rows_of one u) (rows_of other u)) → (u : Table) → P u (rows_of (with_rows t new one) u) (rows_of (with_rows t new' other) u)
 both_tables P t new new' one other is old Customers = same_or_both P t Customers new new' one.customers other.customers is (old Customers)
@@ -244,7 +244,7 @@ last_same b c moment one other mine =
     let new : Owned Moment = record { owner = c; it = moment } in
     ap (λ (rest : List (Owned Moment)). cond (c == b) (new ∷ rest) rest) (filter_swap p q one ∙ ap (filter q) mine ∙ sym (filter_swap p q other))
 
--- a command's rows, by those of the branch and of the one that gives it
+-- the rows after a command depend on the rows of the branch and of the branch that gives the command
 pub done_same : (rules : Rules) (b c : ℕ) (command : Command) (one other : Books) → one.catalogue ≡ other.catalogue → HasSameRows c one other → HasSameRows b one other → ComesSame c command.act one.consignments other.consignments
     → reply_text rules command (shop_of c one) ≡ reply_text rules command (shop_of c other) → HasSameRows b (book_done rules c command one) (book_done rules c command other)
 done_same rules b c command one other same own mine comes text =
@@ -261,7 +261,7 @@ done_same rules b c command one other same own mine comes text =
       lasts = last_same b c command.moment one.lasts other.lasts mine.lasts;
     }
 
--- and those of other branches stay
+-- and the rows of other branches stay
 pub done_away : (rules : Rules) (b c : ℕ) (command : Command) (books : Books) → (c == b) ≡ false → HasSameRows b (book_done rules c command books) books
 done_away rules b c command books differ =
     let acted = all_away b c (edits_of rules c command command.act books) books differ in

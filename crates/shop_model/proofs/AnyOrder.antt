@@ -11,7 +11,7 @@ use Rattle.shop_model.proofs.Interleaved.{itself}
 use Rattle.shop_model.proofs.Swapped.{command_plain, apart_commute, swap_two, two_run, through, alike_back, last_numbers, accepted_plain}
 use Rattle.shop_model.specs.Books.{reply_for}
 
--- ---- what those callers are told who pass a test
+-- ---- the replies to the callers who pass a test
 
 abbrev tell : (Caller → Bool) → List (Caller × Reply) → List Reply
 tell t answers = map (λ (a : Caller × Reply). a.1) (filter (λ (a : Caller × Reply). t a.0) answers)

@@ -1,4 +1,4 @@
--- What a command reads of a shop's arrivals: those of the branch from which it receives one.
+-- A command reads of a shop's arrivals only the arrivals from the branch from which it receives one.
 use Rattle.shop_model.proofs.Common.{◌≡◌, ℕ, ◌+◌, List, [], ◌∷◌, length, filter, Bool, not, refl, ap, ap₂, ⊤, ◌&&◌, ◌||◌, nat_lt, nat_le, codes, list_any, bytes_eq, at, is_empty, total, Moment, Text, Arrival, Act, Import, Receive, Command, Stock, Copies, BadLine, Rules, Refusal, Full, MomentBack, NoStaff, NoArrival, ArrivalReceived, BadLines, Catalogue, Shop, Kept, arrival, are_lines, new_copies, new_from, act_refusals, import_refusals, is_before, staff_is, verdict, first, resent, incoming, object, Option, None, Some, false, true≢false, View, CustomerList, Ask, Arrivals, OneView, Rewards, Reply, Shows, Sorry, CustomersAre, BadThreshold, look, rewarded_in, month_before, if◌then◌else◌}
 use Rattle.shop_model.specs.Views.{view_rows}
 use Rattle.shop_model.specs.Machine.{RowsAre}

@@ -16,7 +16,7 @@ same_self : (F : Table → Type 0) (t : Table) (x y : F t) → if_same F t t x y
 same_self F Customers x y = refl
 same_self F t x y = refl
 
--- the frame: what holds of each table's rows holds of them where one table's are others of which it holds
+-- The frame: what holds of each table's rows still holds after the rows of one table are replaced, if it holds of the new rows.
 pub by_table : (P : (t : Table) → RowsOf t → Type 0) (t : Table) (new : RowsOf t) (books : Books) → P t new → ((u : Table) → P u (rows_of books u)) → (u : Table) → P u (rows_of (with_rows t new books) u)
 by_table P t new books is old Customers = same_or RowsOf P t Customers new books.customers is (old Customers)
 by_table P t new books is old u = same_or RowsOf P t u new (rows_of books u) is (old u)
@@ -26,7 +26,7 @@ pub by_none : (P : (t : Table) → RowsOf t → Type 0) (catalogue : Catalogue) 
 by_none P catalogue is Customers = is Customers
 by_none P catalogue is t = is t
 
--- other rows in one table, of which the branch has the same
+-- other rows in one table leave a shop as it was, if the branch's own rows in it are the same
 pub tables_stay : (b : ℕ) (t : Table) (new : List (Row (RowOf t))) (books : Books) → of b new ≡ of b (rows_of books t) → shop_of b (with_rows t new books) ≡ shop_of b books
 tables_stay b t new books same =
     let all = by_table (λ u its. of b its ≡ of b (rows_of books u)) t new books same (λ u. refl) in

@@ -10,7 +10,7 @@ at_one n (x ∷ rows) = elim (cases_Bool (n == 1)) [
   | inr further ↦ elim (at_one (n - 1) rows) [ inl none ↦ inl (rw further none) | inr one ↦ inr (one.0, rw further one.1) ]
 ]
 
--- what is found of it tells whether it is there, and what it is
+-- what a search finds of a row shows whether the row is there, and what it has
 pub found_none : {A B : Type 0} (f : A → B) (n : ℕ) (rows : List A) → None ≡ head (map f (at n rows)) → at n rows ≡ []
 found_none f n rows is = elim (at_one n rows) [
   | inl none ↦ none

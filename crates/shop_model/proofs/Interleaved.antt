@@ -159,7 +159,7 @@ sends_commute s c d None None newk newl cs differ ofk ofl missk missl = elim (ca
 
 -- ---- what another branch's command leaves
 
--- its arrivals may be others, of which an act finds the same
+-- the branch's arrivals may differ, but its own act finds the same in them
 finds_away : (c d : ℕ) (k l : Act) (books : Books) → crosses d c l k ≡ false → FindsSame k (shop_of c books) (with_arrivals c d l books).arrivals
 finds_away c d (Receive source number missing) (Dispatch to xs) books apart = elim (cases_Bool (to == c)) [
   | inr isnt ↦ rw isnt refl

@@ -1,4 +1,4 @@
--- What a branch is told depends on its own shop, the catalogue and its view alone.
+-- The replies to a branch depend on its own shop, the catalogue and its view alone.
 use Rattle.shop_model.proofs.Common.{◌≡◌, inl, inr, ℕ, List, [], ◌∷◌, ◌++◌, false, refl, sym, ap, ◌∙◌, append_assoc, ◌==◌, cases_Bool, Act, Dispatch, OfficeAsk, Rules, verdict, office_verdict, Reply, State, Request, Do, Office, Input, FromOffice, Own, done, office_done, if_accepted, moved, answers, replies, state_after, Books, Caller, Counter, HeadOffice, Nobody, shop_of, state_of, book_done, branch_after, after_for, after, reply_for, reply_in, caller_in, is_counter, replies_to, run, parcel_seen, other_seen, office_seen, seen_of, view, HasNumbers, BranchesAreAlone, BranchesAreIsolated}
 use Rattle.shop_model.proofs.RowLemmas.{same_if}
 use Rattle.shop_model.proofs.ShopLemmas.{done_other, with_arrivals}

@@ -53,7 +53,7 @@ linked_set b books Rentals ns f its keeps is = (all_set_all _ ns f its is.0 (λ 
 linked_set b books Payments ns f its keeps is = (all_set_all _ ns f its is.0 (λ it has. rw (keeps it) has), all_set_all _ ns f its is.1 (λ it has. rw (keeps it) has), all_set_all _ ns f its is.2 (λ it has. rw (keeps it) has))
 linked_set b books t ns f its keeps is = tt
 
--- rows that other rows name stay there, and rentals stay those of their customers
+-- rows that other rows name stay there, and each rental keeps its customer
 abbrev KeepsPays : (t : Table) → List (RowOf t) → List (RowOf t) → Type 0
 KeepsPays Rentals old new = (it : Payment) → pays_for old it ≡ true → pays_for new it ≡ true
 KeepsPays t old new = ⊤

@@ -34,7 +34,7 @@ command_same c = rw (bytes_same c.key, act_same c.act)
 
 -- ---- what is kept under a key
 
--- an accepted command is given again behind itself
+-- an accepted command that comes directly after itself is given again
 pub done_again : (rules : Rules) (command : OfficeCommand) (catalogue : Catalogue) → office_verdict rules catalogue command ≡ Accepted
     → office_verdict rules (office_done command catalogue) command ≡ Again (office_text command catalogue)
 done_again rules command catalogue e =

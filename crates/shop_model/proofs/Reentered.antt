@@ -136,7 +136,7 @@ is_given (Again text) e = absurd (false≢true e)
 is_given (Refused refusal) e = absurd (false≢true e)
 is_given Accepted e = refl
 
--- it is told its text, is given again from then on, and is a command of a caller who is known
+-- the request is answered with its text, is given again from then on, and is a command of a caller who is known
 abbrev pub IsGiven : Rules → (OfficeAsk → Books → Reply) → Caller → Request → Books → Type 0
 IsGiven rules look caller request books =
     (text : Text) × (reply_for rules look caller request books ≡ Done text) × (verdict_of rules caller request (after_for rules caller request books) ≡ Again text)

@@ -1,4 +1,4 @@
--- States of which the one has its maps and sets in another order are the same to a branch.
+-- Two states that differ only in the order of their maps and sets are the same to a branch.
 use Rattle.shop_model.proofs.Common.{◌≡◌, inl, inr, List, [], ◌∷◌, find, Bool, true, false, not, Option, None, Some, refl, sym, subst, ◌∙◌, IsPermutation, ◌==◌, ◌&&◌, bytes_eq, list_any, AllByRecursion, cases_Bool, and_parts, or_parts, not-true, false≢true, All-from_recursion, recursion_from_All, bytes_eq-Decides, Text, Cast, Kept, OfficeKept, State, are_different, SameState, IsReordered}
 use Rattle.std.proofs.lemmas.List.Sorted.{All-permutation, length_permutation, list_any-IsPermutation}
 

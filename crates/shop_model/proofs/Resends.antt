@@ -64,7 +64,7 @@ office_caller rules command catalogue token c known e =
     done None e = e
     done (Some token) e = e
 
--- ---- what is kept stays, behind it comes more
+-- ---- what is kept stays, and more is added after it
 
 abbrev Begins : {A : Type 0} → List A → List A → Type 0
 Begins {A} old new = (more : List A) × (new ≡ old ++ more)
@@ -113,7 +113,7 @@ kept_behind : {A : Type 0} (same : A → Bool) (reply : A → Text) (mine : A �
 kept_behind same reply mine old new v w text grows fresh e =
     ap (λ ks. resent_by same reply ks w) (ap (filter mine) grows.1 ∙ filter-append mine old grows.0) ∙ begins same reply (filter mine old) (filter mine grows.0) v w text fresh e
 
--- ---- whose a token is, behind an event
+-- ---- whose a token is, after an event
 
 pub caller_after : (rules : Rules) (caller : Caller) (request : Request) (token : Option Text) (c : Caller) (books : Books) → is_nobody c ≡ false → caller_of token books.catalogue ≡ c
     → caller_of token (after_for rules caller request books).catalogue ≡ c
@@ -155,7 +155,7 @@ failure_undecided answer is = elim (cases_Bool (answer.status == 503)) [
   | inr good ↦ let no : false ≡ true = rw good at is in absurd (false≢true no)
 ]
 
--- behind a failure nothing is left
+-- after a failure nothing more changes the books
 all_failed : (rules : Rules) (events : List Event) (answers : List Answer) (books : Books) (n : ℕ) → list_all is_store_failure answers ≡ true → books_at rules events answers books n ≡ books
 all_failed rules events answers books zero all = refl
 all_failed rules (e ∷ events) (a ∷ answers) books (suc n) all =
@@ -211,7 +211,7 @@ kept_again rules text books = by_command (λ caller request. Keeps caller reques
 
 -- ---- a run, step by step
 
--- a decision is the step's reply, and the rest goes on behind it; without one the rest goes on from the same books, or nothing more is decided
+-- A decision is the step's reply, and the rest goes on after it. Without a decision the rest goes on from the same books, or nothing more is decided.
 abbrev pub Steps : Rules → (OfficeAsk → Books → Reply) → List Event → List Answer → Books → Type 0
 Steps rules look [] answers books = ⊤
 Steps rules look (event ∷ events) [] books = ⊤
@@ -267,7 +267,7 @@ all_at p [] i x all e = absurd (same_none x e)
 all_at p (a ∷ answers) zero x all e = rw (sym (same_some a x e)) (and_parts (p a) (list_all p answers) all).0
 all_at p (a ∷ answers) (suc i) x all e = all_at p answers i x (and_parts (p a) (list_all p answers) all).1 e
 
--- where the store can do its part, the rest goes on behind the event
+-- if the store can do its part, the rest goes on after the event
 pub steps_next : (rules : Rules) (look : OfficeAsk → Books → Reply) (e : Event) (events : List Event) (a : Answer) (answers : List Answer) (books : Books) → Steps rules look (e ∷ events) (a ∷ answers) books
     → is_store_failure a ≡ false → Steps rules look events answers (books_next rules e a books)
 steps_next rules look e events a answers books steps sound = elim (cases_Bool (is_decided a)) [
@@ -286,7 +286,7 @@ sound_before rules look e events a answers books steps j x there decided = elim 
       absurd (false≢true no)
 ]
 
--- a decision is the reply of its event's step, behind which the rest goes on
+-- a decision is the reply of its event's step
 told_at : (rules : Rules) (look : OfficeAsk → Books → Reply) (events : List Event) (answers : List Answer) (books : Books) → Steps rules look events answers books
     → (i : ℕ) (e : Event) (x : Answer) → slice_get events i ≡ Some e → slice_get answers i ≡ Some x → is_decided x ≡ true
     → (x ≡ answer_of (reply_in rules look e (books_at rules events answers books i))) × (books_at rules events answers books (suc i) ≡ after rules e (books_at rules events answers books i))
@@ -334,7 +334,7 @@ module _ (rules : Rules) (caller : Caller) (request : Request) (is : is_command 
       → verdict_of rules caller request (books_at rules events answers books i) ≡ Again text → verdict_of rules caller request (books_at rules events answers books j) ≡ Again text
   again_later text = kept_from (λ b. verdict_of rules caller request b ≡ Again text) rules (still_again text)
 
-  -- behind any events
+  -- after any events
   pub again_through : (text : Text) (events : List Event) (books : Books) → verdict_of rules caller request books ≡ Again text → verdict_of rules caller request (last_books rules events books) ≡ Again text
   again_through text [] books again = again
   again_through text (e ∷ events) books again = again_through text events (after rules e books) (still_again text e books again)
@@ -349,7 +349,7 @@ module _ (rules : Rules) (look : OfficeAsk → Books → Reply) (caller : Caller
       let told = told_at rules look events answers books steps i asks.event x asks.stands there decided in
       (told.0 ∙ rw (asks.who, asks.what) refl, told.1 ∙ rw (asks.who, asks.what) refl)
 
-  -- behind its first reply
+  -- after its first reply
   each_again : (text : Text) (events : List Event) (answers : List Answer) (books : Books) → Steps rules look events answers books → (i j : ℕ) (x : Answer) → i ≤ j
       → verdict_of rules caller request (books_at rules events answers books i) ≡ Again text
       → Asks rules events answers books j caller request → slice_get answers j ≡ Some x → is_decided x ≡ true → IsRepeat rules events answers books j x (answer_of (Done text))
@@ -404,7 +404,7 @@ runs_resend rules look events answers old new ran =
       books = ran.books ∙ sym law.leaves;
     }
 
--- ---- behind any events
+-- ---- after any events
 
 pub resent_again : ResentIsAgain
 resent_again rules b command books events e = again_through rules (Counter b) (Do command) refl _ events (book_done rules b command books) (branch_again rules b command books e)

@@ -10,7 +10,7 @@ use Rattle.shop_model.proofs.ActLaws.{bytes_same, command_same}
 pub first_under : {A : Type 0} (key : A → Text) (x : A) (xs : List A) → filter (λ k. bytes_eq (key k) (key x)) xs ≡ [] → filter (λ k. bytes_eq (key k) (key x)) (xs ++ x ∷ []) ≡ x ∷ []
 first_under key x xs none = one_more (λ k. bytes_eq (key k) (key x)) xs x ∙ rw (bytes_same (key x), none)
 
--- so an accepted command is given again behind itself
+-- so an accepted command that comes directly after itself is given again
 pub done_again : (rules : Rules) (b : ℕ) (command : Command) (books : Books) → verdict rules b books.catalogue (shop_of b books) command ≡ Accepted
     → verdict rules b (book_done rules b command books).catalogue (shop_of b (book_done rules b command books)) command ≡ Again (reply_text rules command (shop_of b books))
 done_again rules b command books e =

@@ -1,4 +1,4 @@
--- In states that are the same but for the order of maps and sets a branch is told the same, and each step leaves such states.
+-- A branch gets the same replies in two states that are the same but for the order of maps and sets. Each step leaves such states.
 use Rattle.shop_model.proofs.Common.{◌≡◌, inl, inr, ℕ, ◌+◌, List, [], ◌∷◌, ◌++◌, length, filter, find, Bool, true, false, Option, None, Some, refl, sym, ap, ap₂, subst, ◌∙◌, arith, length-append, ◌==◌, ◌&&◌, ◌||◌, nat_lt, nat_le, if◌then◌else◌, codes, option_or, bytes_eq, list_any, join_by, cases_Bool, find-append, list_any-append, at, is_empty, lacks, numbered, Moment, month_before, Text, Actor, Film, Cast, Act, AddCustomer, Import, Command, OfficeAct, AddCountry, AddCast, OfficeCommand, View, FilmList, ActorInfo, Ask, Rewards, OneView, Stock, Copies, BadLine, Rules, Refusal, KeyUsed, Full, MomentBack, NoStaff, NoFilm, FilmWithdrawn, LotIn, BadCsv, NoSharedRow, Already, BadThreshold, Kept, OfficeKept, Catalogue, Shop, same_command, same_office, rewarded_in, Verdict, Again, Refused, Accepted, first, staff_is, is_film_withdrawn, new_copies, is_full, import_refusals, act_refusals, is_before, refusals, verdict, office_refusals, office_verdict, object, acted, done, office_acted, office_told, office_done, Request, Do, Look, CustomersAre, Reply, Sorry, Shows, look, reply_by, reply_to, if_accepted, State, Input, FromOffice, Arrive, Own, shop_after, catalogue_after, moved, answers, rest_of_shop, rest_of_catalogue, SameShop, SameCatalogue, SameState, IsToldTheSame, OrderTellsNothing, resent_by}
 use mathlib.Core.Path.{fun_ext}
 use Rattle.std.specs.Prelude.{not, map}

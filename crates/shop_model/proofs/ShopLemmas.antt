@@ -95,7 +95,7 @@ NoSend books it = ⊥
 abbrev NoChange : (Consignment → Consignment) → Type 0
 NoChange f = ⊥
 
--- but for edits of consignments, those of one branch leave the shops of all others
+-- the edits of one branch leave the shops of all others as they were, except edits of consignments
 shop_stays : (b c : ℕ) → (c == b) ≡ false → (books : Books) (edit : Edit) → AskedOfSend NoSend NoChange books edit → shop_of b (edited c edit books) ≡ shop_of b books
 shop_stays b c differ books (Put t makes) asked = tables_stay b t _ books (put_all_other b c makes (rows_of books t) differ)
 shop_stays b c differ books (Set t ns f) asked = tables_stay b t _ books (set_rows_other b c ns f (rows_of books t) differ)

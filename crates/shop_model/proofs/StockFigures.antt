@@ -1,4 +1,5 @@
--- What is in stock and what isn't split the copies of a film that are here, a copy that is out has one holder, and what is overdue is out with the customer that is named.
+-- The copies of a film that are here are split into copies in stock and copies that are out. A copy that is out has one holder. An overdue copy is out with
+-- the customer that its row names.
 use Rattle.shop_model.proofs.Common.{◌≡◌, inl, inr, ℕ, ◌+◌, ◌-◌, ◌≤◌, List, [], ◌∷◌, ◌++◌, length, filter, map, Bool, true, false, not, refl, sym, ap, ◌∙◌, arith, append-nil, append_assoc, length-append, ◌==◌, ◌&&◌, ◌||◌, codes, flat_map, zip, is_none, AllByRecursion, list_any, list_all, cases_Bool, and_parts, or_parts, false≢true, true≢false, filter-append, at, has_double, is_empty, mem, numbered_from, Moment, Film, Customer, Copy, Rental, Terms, Catalogue, Shop, is_here, keeps_out, in_stock, film_of, is_overdue, shop_of, has_row, IsLinkedShop, HasOneHolder}
 use Rattle.std.proofs.Math.Bool.{and-false, and-true}
 use Rattle.std.proofs.lemmas.List.Folds.{list_all-append}
@@ -53,7 +54,7 @@ mem-append : (x : ℕ) (ms ns : List ℕ) → mem x (ms ++ ns) ≡ (mem x ms || 
 mem-append x [] ns = refl
 mem-append x (m ∷ ms) ns = elim (cases_Bool (m == x)) [ inl is ↦ rw is | inr isnt ↦ rw isnt (mem-append x ms ns) ]
 
--- nor is one of two lists of which no number is in both
+-- two lists without doubles that share no number give a list without doubles
 once_append : (ms ns : List ℕ) → has_double ms ≡ false → has_double ns ≡ false → ((x : ℕ) → (mem x ms && mem x ns) ≡ false) → has_double (ms ++ ns) ≡ false
 once_append [] ns first second apart = second
 once_append (m ∷ ms) ns first second apart =

@@ -137,8 +137,8 @@ films_at xs copies = flat_map (λ x. map (λ copy. copy.film) (at x copies)) xs
 abbrev pub incoming : List ℕ → List Arrival → List ℕ
 incoming missing arrivals = flat_map (λ (it : Arrival). arrived missing it.films) arrivals
 
--- what an accepted command changes: rows go last, so that their number is the next; a rental's terms are those of its film now; films of a consignment
--- stand in the order of the command
+-- What an accepted command changes. New rows go last, so each gets the next number. A rental gets the terms that its film has now. A consignment lists its
+-- films in the order of the command.
 abbrev pub acted : Rules → Catalogue → Command → Act → Shop → Shop
 acted rules catalogue command (AddCustomer it) shop = record shop { customers = shop.customers ++ new_customer command.moment it ∷ [] }
 acted rules catalogue command (SetActive c active) shop =
@@ -164,7 +164,7 @@ acted rules catalogue command (Receive source number missing) shop =
 acted rules catalogue command (Scrap x) shop =
     record shop { copies = set_at x (with_state Scrapped) shop.copies }
 
--- a consignment's number counts those of the same sender to the same addressee
+-- a consignment's number counts the consignments of the same sender to the same addressee
 abbrev pub parcels_to : ℕ → Shop → List Parcel
 parcels_to to shop = filter (λ it. it.addressee == to) shop.sent
 

@@ -47,7 +47,7 @@ abbrev pub holder_text : List ℕ → Text
 holder_text [] = codes "null"
 holder_text (customer ∷ _) = decimal customer
 
--- ---- consignments, each with its number among those of its source, or of its addressee
+-- ---- consignments, each with its number among the consignments of the same source, or to the same addressee
 
 abbrev pub arrivals_text : List Arrival → List Arrival → List Text
 arrivals_text earlier [] = []

@@ -32,7 +32,7 @@ pub record Line : Type 0 where
   pub mark : Mark
   pub state : LineState
 
--- its number counts those of its sender to its addressee, its place those of the whole chain, both from 1
+-- The number counts the sender's consignments to the same addressee. The place counts all consignments of the chain. Both count from 1.
 pub record Consignment : Type 0 where
   pub source : ℕ
   pub addressee : ℕ
@@ -161,7 +161,7 @@ rows_of books Rentals = books.rentals
 rows_of books TermRows = books.terms
 rows_of books Payments = books.payments
 
--- what is told of the first table, where the two are the same one, and else what is told of the second
+-- the value for the first table if the two tables are the same, and else the value for the second
 abbrev pub if_same : (F : Table → Type 0) (t u : Table) → F t → F u → F u
 if_same F Customers Customers x y = x
 if_same F CopyRows CopyRows x y = x

@@ -22,7 +22,7 @@ use Rattle.shop_model.specs.Reentered.{kept_in}
 abbrev pub is_copy_here : ℕ → Shop → ℕ → Bool
 is_copy_here film shop x = list_any (λ (copy : Copy). copy.film == film && is_here copy) (at x shop.copies)
 
--- The two lists split the copies of a film that are here: each stands in just one of them, by whether it is in stock, and once
+-- The two lists split the copies of a film that are here. Each copy is in just one of them, and once. Which one depends on whether the copy is in stock.
 pub record SplitsStock (film : ℕ) (shop : Shop) : Type 0 where
   pub stocked : (x : ℕ) → mem x (film_in_stock film shop) ≡ (is_copy_here film shop x && in_stock x shop.rentals)
   pub rented : (x : ℕ) → mem x (film_not_in_stock film shop) ≡ (is_copy_here film shop x && not (in_stock x shop.rentals))
@@ -34,13 +34,13 @@ StockIsSplit = (film : ℕ) (shop : Shop) → SplitsStock film shop
 
 -- ---- holders
 
--- the copy has one rental without a return moment, and it is that one's customer who is named
+-- the copy has one rental without a return moment, and the customer of that rental is named
 pub record IsHeld (x : ℕ) (shop : Shop) : Type 0 where
   pub rental : Rental
   pub only : filter (keeps_out x) shop.rentals ≡ rental ∷ []
   pub named : held_by x shop.rentals ≡ rental.customer ∷ []
 
--- somebody is named exactly where a copy isn't in stock
+-- somebody is named exactly if the copy isn't in stock
 pub record TellsHolders (shop : Shop) : Type 0 where
   pub answers : (x : ℕ) → is_empty (held_by x shop.rentals) ≡ in_stock x shop.rentals
   pub holder : (x : ℕ) → in_stock x shop.rentals ≡ false → IsHeld x shop
@@ -50,7 +50,7 @@ HoldersAreTold = (rules : Rules) (books : Books) (b : ℕ) → IsSound rules boo
 
 -- ---- what is overdue
 
--- the rental's copy is here and out, with the rental's customer, and its row names that customer and that copy's film
+-- The rental's copy is here, and is out with the rental's customer. The row of the rental names that customer and the copy's film.
 pub record IsOutWithNamed (catalogue : Catalogue) (shop : Shop) (rental : Rental) : Type 0 where
   pub customer : Customer
   pub film : Film
@@ -84,19 +84,19 @@ SalesAddUp = (rules : Rules) (books : Books) → IsSound rules books → SalesAg
 abbrev pub rate_of : Catalogue → Shop → ℕ → ℕ
 rate_of catalogue shop x = total (λ (film : Film). film.rate) (flat_map (λ (copy : Copy). at copy.film catalogue.films) (at x shop.copies))
 
--- what an act adds to a customer's charges as a moment sees them: a rent its film's rate, a return a dollar for each late day, any other act nothing
+-- What an act adds to a customer's charges, as seen at a moment. A rent adds its film's rate, a return a dollar for each late day, any other act nothing.
 abbrev pub charge : Catalogue → Shop → Moment → Act → ℕ → Moment → ℕ
 charge catalogue shop now (Rent c x) customer moment = if c == customer && is_by now moment then rate_of catalogue shop x else 0
 charge catalogue shop now (TakeBack r) customer moment =
     total (λ (it : Rental × Terms). if it.0.customer == customer && is_by it.0.rented moment then 100 * late_days it.0.rented (Some now) it.1.period else 0) (at r (termed shop))
 charge catalogue shop now act customer moment = 0
 
--- and to what the customer has paid: a payment its amount, any other act nothing
+-- What an act adds to what the customer has paid. A payment adds its amount, any other act nothing.
 abbrev pub paid : Moment → Act → ℕ → Moment → ℕ
 paid now (Pay c rental amount) customer moment = if c == customer && is_by now moment then amount else 0
 paid now act customer moment = 0
 
--- an accepted command of a branch changes by these the balances of its own customers, and no others
+-- an accepted command changes the balances of its own branch's customers by the charge less the payment, and changes no others
 pub record ChangesBalances (rules : Rules) (b : ℕ) (command : Command) (books : Books) : Type 0 where
   pub own : (customer : ℕ) (moment : Moment) →
       balance ByCode (shop_of b (book_done rules b command books)) customer moment
@@ -125,11 +125,11 @@ abbrev pub imports : Rules → Act → ℕ
 imports rules (Import lot file) = length (films_in (rules.stock_of file))
 imports rules act = 0
 
--- how many were made at a branch, wherever they are now
+-- how many copies were made at a branch, wherever they are now
 abbrev pub made_at : ℕ → Books → ℕ
 made_at b books = made (λ (mark : Mark). mark.branch == b) books
 
--- a branch has made as many copies as its accepted imports have rows, and nothing else makes one
+-- a branch has made as many copies as its accepted imports have rows, and nothing else makes a copy
 abbrev pub CopiesAreOfImports : Type 0
 CopiesAreOfImports =
     (rules : Rules) (events : List Event) (books : Books) (b : ℕ) → IsSound rules books

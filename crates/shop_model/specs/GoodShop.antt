@@ -29,8 +29,8 @@ abbrev pub rises : List Moment → Bool
 rises [] = true
 rises (m ∷ ms) = list_all (λ n. is_by m n) ms && rises ms
 
--- moments stand in order of number, no return is before its rental, nothing is after the last moment; and each list but that of copies is no longer
--- than the list of kept keys, since each of its rows came with one
+-- Moments rise with the numbers of their rows, no return is before its rental, and nothing is after the last moment. Each list except the copies is no longer
+-- than the list of kept keys, since each of its rows came with a key.
 pub record IsGoodShop (rules : Rules) (shop : Shop) : Type 0 where
   pub apart : are_apart shop.rentals ≡ true
   pub created : list_all (λ (c : Customer). is_within shop.last c.created) shop.customers ≡ true

@@ -1,4 +1,4 @@
--- What a chain really answered, against the run: a want of memory, room or store may stand in an answer's place.
+-- Compares what a chain really answered with the run. In place of an answer it may report that memory or room ran out, or that the store failed.
 use Rattle.std.specs.Prelude.{◌≡◌, ◌⊎◌, ◌==◌, ◌&&◌, ◌||◌, Bool, true, not, if◌then◌else◌, List, [], ◌∷◌, length, map, filter}
 use Rattle.std.specs.List.{list_all, list_any}
 use Rattle.std.specs.Str.{bytes_eq}
@@ -26,7 +26,7 @@ abbrev pub with_outcomes : List Event → List Answer → List (Event × Outcome
 with_outcomes (event ∷ events) (answer ∷ answers) = (event, outcome_of answer) ∷ with_outcomes events answers
 with_outcomes events answers = []
 
--- the counted history of these events and answers
+-- the counted history that these events and answers give
 abbrev pub counted_in : List Event → List Answer → List Event
 counted_in events answers = counted (with_outcomes events answers)
 
@@ -51,12 +51,12 @@ pub record Decides (rules : Rules) (look : OfficeAsk → Books → Reply) (calle
   pub reply : answer ≡ answer_of (reply_for rules look caller request old)
   pub books : new ≡ after_for rules caller request old
 
--- want of memory or of room in the store: the books are as they were
+-- out of memory or of room in the store: the books stay as they were
 pub record LacksRoom (answer : Answer) (old new : Books) : Type 0 where
   pub reply : (answer ≡ problem_answer Memory) ⊎ (answer ≡ problem_answer Size)
   pub books : new ≡ old
 
--- the store failed: the books that are told of stay as they were, and what a crash leaves of them is said of the chain
+-- The store failed. The books that the contract names stay as they were. The contract of the chain says what a crash leaves of them.
 pub record Fails (answer : Answer) (old new : Books) : Type 0 where
   pub reply : answer ≡ problem_answer StoreFailed
   pub books : new ≡ old

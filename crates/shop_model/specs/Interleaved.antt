@@ -14,7 +14,7 @@ use Rattle.shop_model.specs.Sound.{HasNumbers}
 
 -- ---- what a branch sees is all that the order tells it
 
--- the branch is told the same, and left the same
+-- the branch gets the same replies, and is left in the same state
 pub record LeavesTheSame (rules : Rules) (look : OfficeAsk → Books → Reply) (events events' : List Event) (books : Books) (b : ℕ) : Type 0 where
   pub replies : replies_to b (run rules look events books) ≡ replies_to b (run rules look events' books)
   pub state : state_of b (last_books rules events books) ≡ state_of b (last_books rules events' books)
@@ -41,13 +41,14 @@ placeless it = record it { place = 0 }
 abbrev pub sent_by : ℕ → Books → List Consignment
 sent_by b books = map placeless (filter (λ (it : Consignment). it.source == b) books.consignments)
 
--- the catalogue, and of each branch its rows and what it sent: only how the branches' rows and consignments stand among one another may differ
+-- The catalogue is the same, and so are the rows and the consignments of each branch. Only how the branches' rows and consignments are mixed may differ.
 pub record AreAlike (one other : Books) : Type 0 where
   pub catalogue : one.catalogue ≡ other.catalogue
   pub rows : (b : ℕ) → HasSameRows b one other
   pub sent : (b : ℕ) → sent_by b one ≡ sent_by b other
 
--- a request of which the answer tells nothing of that: any of a branch but the list of its arrivals, and head office's commands
+-- A plain request: its answer doesn't depend on how the branches' rows are mixed. It is any request of a branch but the list of arrivals, or a command of
+-- head office.
 abbrev pub is_arrivals : Ask → Bool
 is_arrivals Arrivals = true
 is_arrivals ask = false
@@ -83,28 +84,28 @@ abbrev pub reaches : ℕ → Request → Bool
 reaches b (Do command) = sends_to b command.act
 reaches b request = false
 
--- a request that asks for what came from the branch: a receipt of a consignment of it, or a reading
+-- a request that asks for what came from the branch: the receipt of one of its consignments, or a reading
 abbrev pub takes : ℕ → Request → Bool
 takes b (Do command) = receives_from b command.act
 takes b request = true
 
--- the first branch's request sends the second a consignment, and the second's may be of it
+-- the first branch's request sends the second branch a consignment, and the second branch's request may read it
 abbrev pub is_awaited : ℕ → ℕ → Request → Request → Bool
 is_awaited b c one other = reaches c one && takes b other
 
--- each is answered as though the other hadn't come, and the books are alike, whichever comes first
+-- whichever request comes first, each is answered as if the other hadn't come, and the books are alike
 pub record Commute (rules : Rules) (look : OfficeAsk → Books → Reply) (caller caller' : Caller) (request request' : Request) (books : Books) : Type 0 where
   pub first : reply_for rules look caller request (after_for rules caller' request' books) ≡ reply_for rules look caller request books
   pub second : reply_for rules look caller' request' (after_for rules caller request books) ≡ reply_for rules look caller' request' books
   pub leaves : AreAlike (after_for rules caller' request' (after_for rules caller request books)) (after_for rules caller request (after_for rules caller' request' books))
 
--- so it is of requests of two branches, but for a dispatch to the other and its receipt
+-- requests of two branches commute, unless one is a dispatch to the other branch and the other is its receipt or a reading
 abbrev pub BranchesCommute : Type 0
 BranchesCommute =
     (rules : Rules) (look : OfficeAsk → Books → Reply) (b c : ℕ) (one other : Request) (books : Books) → HasNumbers books → (b == c) ≡ false
     → is_awaited b c one other ≡ false → is_awaited c b other one ≡ false → Commute rules look (Counter b) (Counter c) one other books
 
--- which acts of a branch may read what an act of head office changes
+-- whether an act of a branch may read what an act of head office changes
 abbrev pub reads : OfficeAct → Act → Bool
 reads (AddCity city) (AddCustomer it) = true
 reads (AddFilm film) (Rent c x) = true
@@ -117,7 +118,7 @@ reads (AddStaff staff) act = true
 reads (StaffLeaves s) act = true
 reads office act = false
 
--- and of a branch's command and one of head office that it doesn't read
+-- a branch's command and a command of head office commute, if the branch's command doesn't read what the other changes
 abbrev pub OfficeCommutes : Type 0
 OfficeCommutes =
     (rules : Rules) (look : OfficeAsk → Books → Reply) (b : ℕ) (command : Command) (office : OfficeCommand) (books : Books) → reads office.act command.act ≡ false
@@ -125,31 +126,31 @@ OfficeCommutes =
 
 -- ---- histories in another order
 
--- two such requests
+-- two requests that may change places
 abbrev pub are_apart : Caller → Request → Caller → Request → Bool
 are_apart (Counter b) one (Counter c) other = not (b == c) && not (is_awaited b c one other) && not (is_awaited c b other one)
 are_apart (Counter b) (Do command) HeadOffice (Office office) = not (reads office.act command.act)
 are_apart HeadOffice (Office office) (Counter b) (Do command) = not (reads office.act command.act)
 are_apart caller one caller' other = false
 
--- the items at that place, from 0, and at the next change places
+-- the item at that place, counted from 0, and the next item change places
 abbrev pub swapped : {A : Type 0} → ℕ → List A → List A
 swapped zero (x ∷ y ∷ xs) = y ∷ x ∷ xs
 swapped (suc n) (x ∷ xs) = x ∷ swapped n xs
 swapped n xs = xs
 
--- those two events are requests that may change places, as the books stand there
+-- the events at that place and the next are requests that may change places, in the books as they are there
 abbrev pub may_swap : Rules → ℕ → List Event → Books → Bool
 may_swap rules zero (e ∷ f ∷ events) books = are_apart (caller_in e books) (e.request (caller_in e books)) (caller_in f books) (f.request (caller_in f books))
 may_swap rules (suc n) (e ∷ events) books = may_swap rules n events (after rules e books)
 may_swap rules n events books = false
 
--- all events are such requests as the books stand there
+-- each event is a plain request, in the books that it finds
 abbrev pub are_plain : Rules → List Event → Books → Bool
 are_plain rules [] books = true
 are_plain rules (e ∷ events) books = is_plain (caller_in e books) (e.request (caller_in e books)) && are_plain rules events (after rules e books)
 
--- one swap after another, each allowed as the history then is
+-- one swap after another; `may_swap_all` says that each is allowed in the history as it is then
 abbrev pub all_swapped : {A : Type 0} → List ℕ → List A → List A
 all_swapped [] xs = xs
 all_swapped (n ∷ ns) xs = all_swapped ns (swapped n xs)
@@ -158,7 +159,7 @@ abbrev pub may_swap_all : Rules → List ℕ → List Event → Books → Bool
 may_swap_all rules [] events books = true
 may_swap_all rules (n ∷ ns) events books = may_swap rules n events books && may_swap_all rules ns (swapped n events) books
 
--- each gets the reply that it had, and the books are alike
+-- each request gets the reply that it had, and the books are alike
 pub record IsSwapped (rules : Rules) (look : OfficeAsk → Books → Reply) (ns : List ℕ) (events : List Event) (books : Books) : Type 0 where
   pub replies : run rules look (all_swapped ns events) books ≡ all_swapped ns (run rules look events books)
   pub leaves : AreAlike (last_books rules events books) (last_books rules (all_swapped ns events) books)
@@ -170,11 +171,11 @@ OrderMayDiffer =
 
 -- ---- any order that keeps what depends on one another
 
--- two events whose callers are found so, as the books stand at the beginning
+-- two events that may change places, with their callers looked up in the books at the beginning
 abbrev pub are_apart_in : Books → Event → Event → Bool
 are_apart_in books e f = are_apart (caller_in e books) (e.request (caller_in e books)) (caller_in f books) (f.request (caller_in f books))
 
--- The events of the second list in an order of the first's own: each next one may come before all those that stood before it and haven't come yet
+-- The first list has the events of the second in another order. Each next event may come before all events that were before it and haven't come yet.
 abbrev pub IsOrderOf : Books → List Event → List Event → Type 0
 IsOrderOf books [] events = events ≡ []
 IsOrderOf books (e ∷ order) events =
@@ -187,7 +188,7 @@ is_office caller = false
 abbrev pub office_replies : List (Caller × Reply) → List Reply
 office_replies answers = map (λ (a : Caller × Reply). a.1) (filter (λ (a : Caller × Reply). is_office a.0) answers)
 
--- each branch, and head office, is told the same, in the same order, and the books are alike
+-- each branch, and head office, gets the same replies in the same order, and the books are alike
 pub record TellsAlike (rules : Rules) (look : OfficeAsk → Books → Reply) (order events : List Event) (books : Books) : Type 0 where
   pub branches : (b : ℕ) → replies_to b (run rules look order books) ≡ replies_to b (run rules look events books)
   pub office : office_replies (run rules look order books) ≡ office_replies (run rules look events books)
@@ -197,7 +198,7 @@ pub record TellsAlike (rules : Rules) (look : OfficeAsk → Books → Reply) (or
 abbrev pub are_known : List Event → Books → Bool
 are_known events books = list_all (λ (e : Event). not (is_nobody (caller_in e books))) events
 
--- so it is of plain requests of such callers
+-- plain requests of such callers may come in any order that keeps what depends on one another
 abbrev pub AnyOrderTellsAlike : Type 0
 AnyOrderTellsAlike =
     (rules : Rules) (look : OfficeAsk → Books → Reply) (order events : List Event) (books : Books) → HasNumbers books → are_plain rules events books ≡ true
@@ -205,14 +206,14 @@ AnyOrderTellsAlike =
 
 -- ---- a disk is lost, and the tills send again in an order of their own
 
--- each caller is told what it was told, and the books are alike to those that were lost
+-- each caller gets the replies that it had got, and the books are alike to the lost ones
 pub record BringsBackAlike (rules : Rules) (look : OfficeAsk → Books → Reply) (told : List (Caller × Reply)) (order : List Event) (copy last : Books) : Type 0 where
   pub branches : (b : ℕ) → replies_to b (run rules look order copy) ≡ replies_to b told
   pub office : office_replies (run rules look order copy) ≡ office_replies told
   pub leaves : AreAlike (last_books rules order copy) last
 
--- From a copy, which has the books after a front of the history, so it is where the commands are sent again that were accepted after it, or all that were
--- accepted in the whole history, in an order that keeps what depends on one another
+-- The same holds from a copy, which has the books after a front of the history. The commands that were accepted after it are sent again, or all that were
+-- accepted in the whole history. Their order has to keep what depends on one another.
 pub record IsBroughtBackAlike (rules : Rules) (look : OfficeAsk → Books → Reply) (front lost order : List Event) (books copy : Books) : Type 0 where
   pub late : are_known (accepted_ones rules lost copy) copy ≡ true → IsOrderOf copy order (accepted_ones rules lost copy)
       → BringsBackAlike rules look (marked_ones (are_accepted rules lost copy) (run rules look lost copy)) order copy (last_books rules (front ++ lost) books)

@@ -15,7 +15,7 @@ use Rattle.shop_model.specs.Links.{IsGoodCatalogue}
 use Rattle.shop_model.specs.SameStates.{SameState, IsReordered}
 use Rattle.shop_model.specs.Opening.{empty_catalogue, opening_books}
 
--- each branch is told what its own machine says on its view, and is left in that machine's state
+-- each branch gets the replies that its own machine gives on its view, and is left in that machine's state
 pub record IsAlone (rules : Rules) (look : OfficeAsk → Books → Reply) (events : List Event) (books : Books) (b : ℕ) : Type 0 where
   pub replies : replies_to b (run rules look events books) ≡ replies rules b (view rules b events books) (state_of b books)
   pub state : state_of b (last_books rules events books) ≡ state_after rules b (view rules b events books) (state_of b books)
@@ -23,19 +23,20 @@ pub record IsAlone (rules : Rules) (look : OfficeAsk → Books → Reply) (event
 abbrev pub BranchesAreAlone : Type 0
 BranchesAreAlone = (rules : Rules) (look : OfficeAsk → Books → Reply) (events : List Event) (books : Books) (b : ℕ) → HasNumbers books → IsAlone rules look events books b
 
--- whatever reaches a branch in the one state and in the other, it is told the same, and the states stay the same
+-- a branch gets the same replies from two states, whatever reaches it, and the states stay the same
 pub record IsToldTheSame (rules : Rules) (b : ℕ) (inputs : List Input) (one other : State) : Type 0 where
   pub replies : replies rules b inputs one ≡ replies rules b inputs other
   pub state : SameState (state_after rules b inputs one) (state_after rules b inputs other)
 
--- The order of maps and sets tells a branch nothing. Equal states are the same, and so are those of which the one has its kept commands, lots and casts in
--- another order.
+-- The order of maps and sets tells a branch nothing. Equal states are the same. Two states are also the same if they differ only in the order of the kept
+-- commands, lots and casts.
 pub record OrderTellsNothing : Type 0 where
   pub told : (rules : Rules) (b : ℕ) (inputs : List Input) (one other : State) → SameState one other → IsToldTheSame rules b inputs one other
   pub equal : (one other : State) → one ≡ other → SameState one other
   pub reordered : (one other : State) → IsReordered one other → SameState one other
 
--- two histories of which a branch sees the same, from books in which the catalogue and its shop are the same to it, send it the same
+-- Two histories send a branch the same replies on two conditions. The catalogue and the shop of the branch are the same to it at the start. The branch sees the
+-- same in both histories.
 abbrev pub BranchesAreIsolated : Type 0
 BranchesAreIsolated =
     (rules : Rules) (look look' : OfficeAsk → Books → Reply) (events events' : List Event) (books books' : Books) (b : ℕ) → HasNumbers books → HasNumbers books'
@@ -46,14 +47,14 @@ BranchesAreIsolated =
 abbrev pub StaySound : Type 0
 StaySound = (rules : Rules) (events : List Event) (books : Books) → IsSound rules books → IsSound rules (last_books rules events books)
 
--- the same by greater sizes than those to which the chain holds its callers: files that were made under greater limits stay sound under smaller ones
+-- Books that are sound by greater sizes than the chain's limits stay sound by these sizes. So files that were made under greater limits stay sound.
 abbrev pub StaySoundWithin : Type 0
 StaySoundWithin =
     (rules sizes : Rules) (events : List Event) (books : Books) → rules.commands ≤ sizes.commands → rules.copies ≤ sizes.copies
     → IsSound sizes books → IsSound sizes (last_books rules events books)
 
--- After any history: a mark is made at most once, and is then in exactly one place; the mark of each row and each line is made, for that film; the numbers of all
--- copies agree; and a copy is out at most once, and not unless it is in the shop.
+-- After any history a mark is made at most once, and is then in exactly one place. The mark of each row and each line was made for that film. As many marks
+-- were made as there are places. A copy is out at most once, and only if it is in the shop.
 pub record InOnePlace (books : Books) : Type 0 where
   pub once : (mark : Mark) → made (is_mark mark) books ≤ 1
   pub place : (mark : Mark) → made (is_mark mark) books ≡ places (is_mark mark) books
@@ -69,11 +70,11 @@ CopiesAreInOnePlace = (rules : Rules) (events : List Event) (books : Books) → 
 abbrev pub SoundBooksAreInCustody : Type 0
 SoundBooksAreInCustody = (rules : Rules) (books : Books) → IsSound rules books → IsInCustody books
 
--- the books of a chain in which no branch has asked anything are sound, where its shared rows are
+-- if its shared rows are sound, the books of a chain in which no branch has asked anything are sound
 abbrev pub OpeningIsSound : Type 0
 OpeningIsSound = (rules : Rules) (catalogue : Catalogue) → IsGoodCatalogue rules catalogue → IsSound rules (opening catalogue)
 
--- and so is the catalogue with which head office begins: a token, and no shared row
+-- and so are the books of a new chain, whose catalogue has head office's token and no shared row
 abbrev pub EmptyIsSound : Type 0
 EmptyIsSound = (rules : Rules) (token : Text) → IsSound rules (opening (empty_catalogue token))
 
@@ -85,20 +86,20 @@ OpeningBooksAreSound = (rules : Rules) → IsSound rules opening_books
 abbrev pub CallersAreKnown : Type 0
 CallersAreKnown = (token : Option Text) (catalogue : Catalogue) → known_caller catalogue (caller_of token catalogue) ≡ caller_of token catalogue
 
--- an accepted command that comes again, whatever has happened since, is Again, with its first reply; so it changes nothing
+-- an accepted command that comes again is `Again` with its first reply, whatever has happened since, and so changes nothing
 abbrev pub ResentIsAgain : Type 0
 ResentIsAgain =
     (rules : Rules) (b : ℕ) (command : Command) (books : Books) (events : List Event) → verdict rules b books.catalogue (shop_of b books) command ≡ Accepted
     → verdict rules b (last_books rules events (book_done rules b command books)).catalogue (shop_of b (last_books rules events (book_done rules b command books))) command
     ≡ Again (reply_text rules command (shop_of b books))
 
--- and so is an accepted command of head office
+-- and so is an accepted command of head office that comes again
 abbrev pub OfficeResentIsAgain : Type 0
 OfficeResentIsAgain =
     (rules : Rules) (command : OfficeCommand) (books : Books) (events : List Event) → office_verdict rules books.catalogue command ≡ Accepted
     → office_verdict rules (last_books rules events (record books { catalogue = office_done command books.catalogue })).catalogue command ≡ Again (office_text command books.catalogue)
 
--- the history without its repeats leaves the same books, and every other event is answered in it as it was
+-- the history without its repeats leaves the same books, and answers every other event as before
 pub record IsWithoutRepeats (rules : Rules) (look : OfficeAsk → Books → Reply) (events : List Event) (books : Books) : Type 0 where
   pub replies : run rules look (marked_ones (are_new rules events books) events) books ≡ marked_ones (are_new rules events books) (run rules look events books)
   pub leaves : last_books rules (marked_ones (are_new rules events books) events) books ≡ last_books rules events books
@@ -113,7 +114,7 @@ abbrev pub rise_from : ℕ → List (Refusal × Bool) → Bool
 rise_from n [] = true
 rise_from n (test ∷ tests) = nat_lt n (refusal_number test.0) && rise_from (refusal_number test.0) tests
 
--- a refusal that is told is one of those that hold, and none of these has a lower number; where none is told, none holds
+-- A verdict's refusal is a refusal that holds, and no refusal that holds has a lower number. If the verdict is that the command is accepted, none holds.
 abbrev pub IsLowest : List (Refusal × Bool) → Verdict → Type 0
 IsLowest tests (Again reply) = ⊥
 IsLowest tests (Refused refusal) =
@@ -121,7 +122,7 @@ IsLowest tests (Refused refusal) =
     × AllByRecursion (λ test. test.1 ≡ true → refusal_number refusal ≤ refusal_number test.0) tests
 IsLowest tests Accepted = AllByRecursion (λ test. test.1 ≡ false) tests
 
--- what the tests of a command tell, each behind that of its key, which is looked for before them
+-- What the tests of a command decide. Each has a higher number than the test of the key, which comes first.
 pub record AreInOrder (tests : List (Refusal × Bool)) : Type 0 where
   pub rise : rise_from (refusal_number KeyUsed) tests ≡ true
   pub lowest : IsLowest tests (first tests)

@@ -1,5 +1,5 @@
--- What the rows of a catalogue and of a shop name is there, and what has to be different is. All of it is our own, but for what the sample
--- database's foreign keys say.
+-- Says that each row that another row of a catalogue or a shop names is there, and that what has to be different is different. The foreign keys of the sample
+-- database say some of it. The rest is our own.
 use Rattle.std.specs.Prelude.{◌≡◌, ℕ, ◌+◌, ◌≤◌, ◌==◌, ◌&&◌, nat_lt, nat_le, Bool, true, not, List, [], ◌∷◌, length}
 use Rattle.std.specs.Option.{option_to_list}
 use Rattle.std.specs.List.{list_any, list_all}

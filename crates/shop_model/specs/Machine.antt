@@ -110,7 +110,7 @@ pub record State : Type 0 where
   pub catalogue : Catalogue
   pub shop : Shop
 
--- what reaches a branch: accepted commands of head office, consignments sent to it, and its own requests. Nothing else does
+-- what reaches a branch: accepted commands of head office, consignments that are sent to it, its own requests, and nothing else
 pub data Input : Type 0 where
   FromOffice : OfficeCommand → Input
   Arrive : ℕ → List ℕ → Input  -- source, films

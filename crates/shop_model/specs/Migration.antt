@@ -1,4 +1,4 @@
--- Books of version 1, in which rentals have no terms and balances go by the films as they are, and what those books become in version 2.
+-- Defines books of version 1, and how they are migrated to version 2. In version 1 rentals have no terms, and balances depend on the films as they are now.
 use Rattle.std.specs.Prelude.{◌≡◌, ℕ, ◌+◌, ◌*◌, ◌==◌, ◌&&◌, nat_lt, ℤ, pos, ◌-ℤ◌, Bool, List, [], map, filter, flat_map, is_none}
 use Rattle.std.specs.List.{list_any}
 use Rattle.shop_model.specs.Rows.{Row, total}
@@ -36,7 +36,7 @@ film_overdue catalogue shop moment = filter (is_film_overdue catalogue shop mome
 
 -- ---- the migration
 
--- the terms of a branch's rental under its number: those of its film's row as it stands
+-- the terms of a branch's rental under its number, read from the film's row as it is now
 abbrev pub row_terms : Books → Row Rental → List (Row Terms)
 row_terms books row = map (λ it. record { branch = row.branch; number = row.number; it = it }) (terms_now books.catalogue (shop_of row.branch books) row.it.copy)
 
@@ -44,7 +44,7 @@ row_terms books row = map (λ it. record { branch = row.branch; number = row.num
 abbrev pub migrated : Books → Books
 migrated books = record books { terms = flat_map (row_terms books) books.rentals }
 
--- the same books as version 1 has them, in which rentals have no terms
+-- the same books in version 1, in which rentals have no terms
 abbrev pub without_terms : Books → Books
 without_terms books = record books { terms = [] }
 
@@ -54,11 +54,11 @@ without_terms books = record books { terms = [] }
 abbrev pub MigratedIsSound : Type 0
 MigratedIsSound = (rules : Rules) (books : Books) → IsSoundWithoutTerms rules books → IsSound rules (migrated books)
 
--- and sound books are sound in version 1 without their terms, so that only such become sound books
+-- sound books without their terms are sound in version 1, so only sound books of version 1 become sound books
 abbrev pub SoundWithoutTerms : Type 0
 SoundWithoutTerms = (rules : Rules) (books : Books) → IsSound rules books → IsSoundWithoutTerms rules (without_terms books)
 
--- a balance, and which rentals are overdue, stay as version 1 had them, in which all balances went by the manual's code
+-- balances and overdue rentals stay as they were in version 1, which used the manual's code for all balances
 pub record KeepsBalances (books : Books) : Type 0 where
   pub balances : (b customer : ℕ) (moment : Moment) → balance books.catalogue.rule (shop_of b (migrated books)) customer moment ≡ film_balance books.catalogue (shop_of b books) customer moment
   pub overdue_same : (b : ℕ) (moment : Moment) → overdue (shop_of b (migrated books)) moment ≡ film_overdue books.catalogue (shop_of b books) moment

@@ -1,5 +1,5 @@
--- The rows with which a chain begins: none, or those of the chain that is shown and tested, with three branches in two countries, two films, and
--- nothing asked yet. They are our own.
+-- The rows with which a chain begins: no row, or the rows of the chain that is shown and tested. That chain has three branches in two countries and two
+-- films, and nothing has been asked of it yet. The rows are our own.
 use Rattle.std.specs.Prelude.{ℕ, ◌+◌, false, [], ◌∷◌, codes, replicate, Option, Some, None}
 use Rattle.shop_model.specs.Values.{Text, Film, Branch, Staff, ByCode}
 use Rattle.shop_model.specs.Shop.{Catalogue}

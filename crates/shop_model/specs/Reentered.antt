@@ -26,7 +26,7 @@ are_accepted rules (event ∷ events) books = accepts rules (caller_in event boo
 abbrev pub accepted_ones : Rules → List Event → Books → List Event
 accepted_ones rules events books = marked_ones (are_accepted rules events books) events
 
--- the places that the first marks, the second marks too, and it has one for each
+-- the two lists are equally long, and the second marks each place that the first marks
 abbrev pub keeps_all : List Bool → List Bool → Bool
 keeps_all [] [] = true
 keeps_all (must ∷ musts) (mark ∷ marks) = (not must || mark) && keeps_all musts marks
@@ -34,12 +34,12 @@ keeps_all musts marks = false
 
 -- ---- all others change nothing
 
--- of a history some events are left: they leave its books, and each is answered as it was
+-- some events of a history, taken alone, leave the books that the whole history leaves, and each is answered as it was
 pub record IsLeftBy (rules : Rules) (look : OfficeAsk → Books → Reply) (marks : List Bool) (events : List Event) (books : Books) : Type 0 where
   pub replies : run rules look (marked_ones marks events) books ≡ marked_ones marks (run rules look events books)
   pub leaves : last_books rules (marked_ones marks events) books ≡ last_books rules events books
 
--- so it is where all that were accepted are among them, and where there are no others
+-- this holds of the accepted commands alone, and of any events that all accepted commands are among
 pub record AcceptedMakeBooks (rules : Rules) (look : OfficeAsk → Books → Reply) (events : List Event) (books : Books) : Type 0 where
   pub alone : IsLeftBy rules look (are_accepted rules events books) events books
   pub among : (marks : List Bool) → keeps_all (are_accepted rules events books) marks ≡ true → IsLeftBy rules look marks events books
@@ -79,8 +79,8 @@ AcceptedAreKept = (rules : Rules) (events : List Event) (books : Books) → Keep
 
 -- ---- a disk is lost
 
--- The chain is put back to a copy, which has the books after a front of the history. All commands that were accepted in the whole history are sent again, in
--- their order, or those alone that came after the copy: the books are those that were lost, and each is answered as it was.
+-- The chain is put back to a copy, which has the books after a front of the history. The accepted commands are sent again in their order: all of the history,
+-- or only the commands that came after the copy. Then the books are the lost ones, and each command is answered as it was.
 pub record BringsBack (rules : Rules) (look : OfficeAsk → Books → Reply) (front lost : List Event) (books copy : Books) : Type 0 where
   pub all_replies : run rules look (accepted_ones rules (front ++ lost) books) copy ≡ marked_ones (are_accepted rules (front ++ lost) books) (run rules look (front ++ lost) books)
   pub all_leave : last_books rules (accepted_ones rules (front ++ lost) books) copy ≡ last_books rules (front ++ lost) books

@@ -1,4 +1,4 @@
--- The refusals, in the order in which they are looked for: their numbers, names and statuses. The names and the order are our own, the statuses those of RFC 9110.
+-- The refusals in the order in which they are tested: their numbers, names and statuses. The names and the order are our own. The statuses are from RFC 9110.
 use Rattle.std.specs.Prelude.{ℕ, ◌==◌, ◌&&◌, nat_le, if◌then◌else◌, codes}
 use Rattle.shop_model.specs.Values.{Text}
 

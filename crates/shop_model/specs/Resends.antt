@@ -12,7 +12,7 @@ use Rattle.shop_model.specs.Repeats.{are_new, marked_ones}
 
 -- ---- one place in a history
 
--- the books behind an event: those after it, or as they were where the store could not do its part
+-- the books that the next event finds: changed by this event, or unchanged if the store could not do its part
 abbrev pub books_next : Rules → Event → Answer → Books → Books
 books_next rules event answer books = if is_decided answer then after rules event books else books
 
@@ -22,12 +22,12 @@ books_at rules events answers books zero = books
 books_at rules (event ∷ events) (answer ∷ answers) books (suc n) = books_at rules events answers (books_next rules event answer books) n
 books_at rules events answers books n = books
 
--- they are those that the counted history before that place leaves
+-- the books at a place are the books that the counted history before that place leaves
 abbrev pub FindsCounted : Rules → List Event → List Answer → Books → Type 0
 FindsCounted rules events answers books =
     (place : ℕ) → books_at rules events answers books place ≡ last_books rules (counted_in (take place events) (take place answers)) books
 
--- at that place stands that request of that caller, who is found there by the token that came with it
+-- the event at that place is that request of that caller, whom the catalogue finds there by the token of the event
 pub record Asks (rules : Rules) (events : List Event) (answers : List Answer) (books : Books) (place : ℕ) (caller : Caller) (request : Request) : Type 0 where
   pub event : Event
   pub stands : slice_get events place ≡ Some event
@@ -50,14 +50,14 @@ Keeps caller request reply books = ⊥
 
 -- ---- commands that come again
 
--- it is answered so, and the next event finds the books that it found
+-- the repeat gets the first answer, and the next event finds the books that the repeat found
 pub record IsRepeat (rules : Rules) (events : List Event) (answers : List Answer) (books : Books) (place : ℕ) (again first : Answer) : Type 0 where
   pub reply : again ≡ first
   pub nothing : books_at rules events answers books (suc place) ≡ books_at rules events answers books place
 
--- A command of a branch or of head office that was answered with 200, and comes again from the same caller, is answered with the same bytes and changes
--- nothing, whatever has been asked since. Who its caller is goes by the catalogue at each of the two places, so that branches are meant which head office
--- adds in this history. It is enough that the store can do its part.
+-- A command of a branch or of head office that was answered with 200 may come again from the same caller. It is answered with the same bytes and changes
+-- nothing, whatever has been asked since. The catalogue at each of the two places says who the caller is, so branches that head office adds in this history
+-- are included. The only condition is that the store can do its part.
 abbrev pub GetsFirstReply : Rules → List Event → List Answer → Books → Type 0
 GetsFirstReply rules events answers books =
     (i j : ℕ) (caller : Caller) (request : Request) (first again : Answer) → i < j → is_command caller request ≡ true
@@ -76,7 +76,7 @@ abbrev pub is_nobody : Caller → Bool
 is_nobody Nobody = true
 is_nobody caller = false
 
--- who is found by a token at one place is found by it at each later one
+-- a caller who is found by a token at one place is found by it at each later place
 abbrev pub KeepsCallers : Rules → List Event → List Answer → Books → Type 0
 KeepsCallers rules events answers books =
     (i j : ℕ) (event : Event) → i ≤ j → is_nobody (caller_in event (books_at rules events answers books i)) ≡ false
@@ -97,7 +97,7 @@ pub record Resends (rules : Rules) (look : OfficeAsk → Books → Reply) (event
       ≡ marked_ones (are_new rules (counted_in events answers) old) (filter is_decided answers)
   pub books : new ≡ last_books rules (without_repeats rules (counted_in events answers) old) old
 
--- so it is of every run
+-- every run of a chain has these properties
 abbrev pub RunsResend : Type 0
 RunsResend =
     (rules : Rules) (look : OfficeAsk → Books → Reply) (events : List Event) (answers : List Answer) (old new : Books) → IsRun rules look events answers old new

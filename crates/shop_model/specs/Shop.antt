@@ -4,7 +4,7 @@ use Rattle.std.specs.Str.{bytes_eq}
 use Rattle.shop_model.specs.Calendar.{Moment}
 use Rattle.shop_model.specs.Values.{Text, Person, City, Actor, Film, Cast, Branch, Staff, Customer, Copy, Rental, Terms, Payment, Arrival, Parcel, Rule, ByCode, ByComment, Command, OfficeCommand}
 
--- a kept command and the bytes of its reply: it is kept for good, under its key, with those of the same caller
+-- A kept command and the bytes of its reply. It is kept permanently, under its key, among the kept commands of the same caller.
 pub record Kept : Type 0 where
   pub command : Command
   pub reply : Text

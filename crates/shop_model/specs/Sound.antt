@@ -96,8 +96,8 @@ marked_films books =
 abbrev pub goes_with : ℕ × Mark → Books → Bool
 goes_with it books = list_all (λ (other : ℕ × Mark). not (is_mark it.1 other.1) || other.0 == it.0) (marked_films books)
 
--- Each mark of a row or a line is made, has exactly one place, and goes with one film. This can be asked of any books, of which nothing else is known, not
--- even that rows are numbered without gap or double; sound books are such.
+-- Each mark of a row or a line is made, has exactly one place, and goes with one film. This can be asked of any books, even if nothing else is known about
+-- them, such as that rows are numbered without gap or double. It holds of all sound books.
 pub record IsInCustody (books : Books) : Type 0 where
   pub is_made : list_all (λ (it : ℕ × Mark). nat_lt 0 (made (is_mark it.1) books)) (marked_films books) ≡ true
   pub place : list_all (λ (it : ℕ × Mark). places (is_mark it.1) books == 1) (marked_films books) ≡ true
@@ -135,8 +135,8 @@ pub record HasOwners (branches : List Branch) (books : Books) : Type 0 where
 abbrev pub HasTerms : Shop → Type 0
 HasTerms shop = length shop.terms ≡ length shop.rentals
 
--- All that holds of books, where this is what holds of the terms in each branch's shop. Of the rules the sizes alone are read: the most kept keys of a
--- caller, and the most copies of a branch
+-- All that holds of sound books. The first argument says what holds of the terms in each branch's shop. Only the sizes of the rules are read: the most kept
+-- keys of a caller, and the most copies of a branch.
 pub record IsSoundBy (AreTermed : Shop → Type 0) (rules : Rules) (books : Books) : Type 0 where
   pub catalogue : IsGoodCatalogue rules books.catalogue
   pub owners : HasOwners books.catalogue.branches books
@@ -154,6 +154,6 @@ pub record IsSoundBy (AreTermed : Shop → Type 0) (rules : Rules) (books : Book
 abbrev pub IsSound : Rules → Books → Type 0
 IsSound = IsSoundBy HasTerms
 
--- the greatest limits that a chain may have: by these an audit goes, whatever limits the chain was opened with
+-- the greatest limits that a chain may have: an audit uses these, whatever limits the chain was opened with
 abbrev pub widest : Rules → Rules
 widest rules = record rules { commands = 1000000; copies = 1000000 }

@@ -39,7 +39,7 @@ film_of catalogue shop rental = flat_map (λ (copy : Copy). at copy.film catalog
 abbrev pub film_terms : Film → Terms
 film_terms film = record { rate = film.rate; period = film.period; replacement = film.replacement }
 
--- the terms of a rental of that copy that begins now: those of its film's row as it stands
+-- the terms of a rental of that copy that begins now, read from the film's row as it is now
 abbrev pub terms_now : Catalogue → Shop → ℕ → List Terms
 terms_now catalogue shop x = map film_terms (flat_map (λ (copy : Copy). at copy.film catalogue.films) (at x shop.copies))
 

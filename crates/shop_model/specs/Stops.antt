@@ -22,8 +22,8 @@ abbrev pub failing : List Event → List Answer → Option Event
 failing (event ∷ events) (answer ∷ answers) = if is_store_failure answer then Some event else failing events answers
 failing events answers = None
 
--- What became of a chain from its opening on until it was closed or stopped: what was asked, how it was answered, and whether the request at which the store
--- failed had acted all the same.
+-- The life of a chain, from its opening until it was closed or stopped: what was asked and how it was answered. `acted` says whether the request at which the
+-- store failed had acted all the same.
 pub record Life : Type 0 where
   pub events : List Event
   pub answers : List Answer
@@ -43,7 +43,8 @@ answered_in life = map (λ _. true) (counted_in life.events life.answers) ++ map
 
 -- ---- one life after another
 
--- each is a run that begins with the books that the one before left: those of its counted history, or those after the request in flight
+-- Each life is a run that begins with the books that the life before it left. If a request in flight acted, these are the books after that request, and else
+-- the books after the counted history.
 abbrev pub Lives : Rules → (OfficeAsk → Books → Reply) → List Life → Books → Books → Type 0
 Lives rules look [] old new = new ≡ old
 Lives rules look (life ∷ lives) old new =
@@ -83,9 +84,9 @@ KeepsAcknowledged rules lives old new =
     → Asks rules life.events life.answers (begun rules lives old n) i caller request → slice_get life.answers i ≡ Some answer → answer.status ≡ 200
     → (text : Text) × (answer ≡ answer_of (Done text)) × IsKeptWith caller request text new
 
--- All lives together are one history, that of the requests that acted: its books are the last ones, and its replies are what was sent, but for those to the
--- requests in flight. What holds of any history holds of it: each branch is alone in it, each copy is in one place behind it, and commands that come again
--- change nothing.
+-- All lives together are one history: the requests that acted. Its books are the last books. Its replies are what was sent, except the replies to the requests
+-- in flight. What holds of any history holds of it: each branch is alone in it, each copy is in one place after it, and commands that come again change
+-- nothing.
 pub record IsOneHistory (rules : Rules) (look : OfficeAsk → Books → Reply) (lives : List Life) (old new : Books) : Type 0 where
   pub books : new ≡ last_books rules (history_of lives) old
   pub told : decisions_of lives ≡ marked_ones (answered_of lives) (map (λ (it : Caller × Reply). answer_of it.1) (run rules look (history_of lives) old))
@@ -108,7 +109,7 @@ pub record ActsOnce (rules : Rules) (look : OfficeAsk → Books → Reply) (even
 abbrev pub EachActsOnce : Type 0
 EachActsOnce = (rules : Rules) (look : OfficeAsk → Books → Reply) (event : Event) (old : Books) → ActsOnce rules look event old
 
--- its answer is the step's in the books before the stop, and all later books are those of the history that has it once
+-- The answer is the one that the step gives in the books before the stop. All later books come from the history that contains the request once.
 pub record IsResentFirst (rules : Rules) (look : OfficeAsk → Books → Reply) (first next : Life) (event : Event) (answer : Answer) (old new : Books) : Type 0 where
   pub reply : answer ≡ answer_of (reply_in rules look event (last_books rules (counted_in first.events first.answers) old))
   pub books : new ≡ last_books rules (counted_in first.events first.answers ++ acted_in next) old

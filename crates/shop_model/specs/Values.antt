@@ -1,5 +1,5 @@
--- What is kept, asked and answered. Texts are bytes and money is in whole cents. The rows and their columns are those of the Sakila sample database,
--- as far as this shop has them; states of a copy, consignments, keys and lots are our own.
+-- What is kept, asked and answered. Texts are bytes and money is in whole cents. The rows and their columns follow the Sakila sample database, as far as this
+-- shop has them. The states of a copy, consignments, keys and lots are our own.
 use Rattle.std.specs.Prelude.{ℕ, Bool, true, List, Option}
 use Rattle.shop_model.specs.Calendar.{Moment}
 
@@ -61,11 +61,11 @@ pub record Staff : Type 0 where
 
 -- ---- rows of a branch, numbered there from 1 (our own: the sample database numbers them over all stores)
 
--- what is told of a customer who is added
+-- what a request says about a customer who is added
 pub record NewCustomer : Type 0 where
   pub person : Person
 
--- a customer belongs to one branch for good (the last is our own)
+-- a customer belongs to one branch permanently (the last field is our own)
 pub record Customer : Type 0 where
   pub person : Person
   pub active : Bool

@@ -26,7 +26,7 @@ first (c ∷ cs) = if c.1 then Refused c.0 else first cs
 abbrev pub staff_is : ℕ → Staff → Bool
 staff_is b staff = staff.branch == b && not staff.gone
 
--- the caller has as many kept keys as it may, or the new copies, of which there is one at least, are more than the branch may still have
+-- the caller has as many kept keys as it may, or there are new copies and they are more than the branch may still have
 abbrev pub is_full : Rules → Shop → Act → Bool
 is_full rules shop act = nat_le rules.commands (length shop.kept)
     || nat_lt 0 (new_copies rules shop act) && nat_lt rules.copies (length shop.copies + new_copies rules shop act)
@@ -52,7 +52,7 @@ resent_by same reply (k ∷ _) fresh = if same k then Again (reply k) else Refus
 abbrev pub resent : Command → List Kept → Verdict → Verdict
 resent command = resent_by (λ (k : Kept). same_command k.command command) (λ k. k.reply)
 
--- the keys are those of the same branch: other callers' keys have nothing to do with them
+-- only the keys of the same branch count: other callers' keys have nothing to do with them
 abbrev pub verdict : Rules → ℕ → Catalogue → Shop → Command → Verdict
 verdict rules b catalogue shop command = resent command (filter (λ (k : Kept). bytes_eq k.command.key command.key) shop.kept) (first (refusals rules b catalogue shop command))
 

@@ -24,21 +24,21 @@ ghost use Rattle.shop_model.specs.Laws.{
   StaySoundWithin,
 };
 
-/// Each branch is told what its own machine says on its view, whatever others ask.
+/// Each branch gets the replies that its own machine gives on its view, whatever others ask.
 #[tactic(auto, using(crate::proofs::Isolation::alone))]
 pub fn branches_are_alone()
     ensures { BranchesAreAlone }
 {}
 
-/// In which order commands were kept, lots came and actors were cast tells a branch nothing: where it finds the same
-/// under each key, the same lots and the same casts, and all else is equal, it is told the same, whatever reaches it.
+/// The order in which commands were kept, lots came and actors were cast tells a branch nothing. Two states may keep the
+/// same under each key, have the same lots and casts, and be equal in all else. A branch gets the same replies from both.
 #[tactic(auto, using(crate::proofs::SameStates::order_tells_nothing))]
 pub fn order_tells_nothing()
     ensures { OrderTellsNothing }
 {}
 
-/// Two histories of which a branch sees the same, from books in which it has the same, in whatever order, send it the
-/// same.
+/// Two histories in which a branch sees the same send it the same replies. Its catalogue and shop must be the same to it
+/// at the start, in whatever order they list what they hold.
 #[tactic(auto, using(crate::proofs::Isolation::isolated))]
 pub fn branches_are_isolated()
     ensures { BranchesAreIsolated }
@@ -68,7 +68,7 @@ pub fn sound_books_are_in_custody()
     ensures { SoundBooksAreInCustody }
 {}
 
-/// The books of a chain in which no branch has asked anything are sound, where its shared rows are.
+/// If its shared rows are sound, the books of a chain in which no branch has asked anything are sound.
 pub fn opening_is_sound()
     ensures { OpeningIsSound }
 {}
@@ -103,7 +103,7 @@ pub fn office_resent_is_again()
     ensures { OfficeResentIsAgain }
 {}
 
-/// Taking out of a history the commands that come again leaves its books and all other replies.
+/// A history without the commands that come again leaves the same books, and gives the same replies to all other requests.
 #[tactic(auto, using(crate::proofs::Repeats::without_repeats))]
 pub fn repeats_change_nothing()
     ensures { RepeatsChangeNothing }
@@ -115,8 +115,8 @@ pub fn runs_resend()
     ensures { RunsResend }
 {}
 
-/// In sound books each kept row is the only one of its caller under its key, so that a command of it gets its reply
-/// in any history that begins with them.
+/// In sound books each kept row is the only row of its caller under its key. So its command gets its reply in any history
+/// that begins with these books.
 #[tactic(auto, using(crate::proofs::Resends::kept_rows_kept))]
 pub fn kept_rows_are_kept()
     ensures { KeptRowsAreKept }
@@ -134,13 +134,13 @@ pub fn each_acts_once()
     ensures { EachActsOnce }
 {}
 
-/// A request in flight at a stop that is sent again first is answered as though it had not come before, and acts once.
+/// If a request was in flight at a stop and is sent again first, it acts once. It is answered as if it had not come before.
 #[tactic(auto, using(crate::proofs::Stops::resent_first))]
 pub fn a_resent_request_acts_once()
     ensures { ResentFirst }
 {}
 
-/// Lives of a chain that go on from the books that others left are one list of lives with them.
+/// If later lives of a chain go on from the books that earlier lives left, all of them are one list of lives.
 #[tactic(auto, using(crate::proofs::Stops::lives_follow))]
 pub fn lives_that_follow()
     ensures { LivesFollow }
@@ -158,30 +158,30 @@ pub fn migrated_is_sound()
     ensures { MigratedIsSound }
 {}
 
-/// Sound books are sound as books of version 1 where the terms of their rentals are left out.
+/// Sound books without the terms of their rentals are sound as books of version 1.
 #[tactic(auto, using(crate::proofs::Migration::without_terms_sound))]
 pub fn sound_without_terms()
     ensures { SoundWithoutTerms }
 {}
 
-/// In books of version 1 that are sound a balance, and which rentals are overdue, stay as they were when each rental
-/// gets its terms.
+/// When each rental in sound books of version 1 gets its terms, all balances stay as they were. The same rentals are
+/// overdue as before.
 #[tactic(auto, using(crate::proofs::Migration::keeps_balances))]
 pub fn migrated_keeps_balances()
     ensures { MigratedKeepsBalances }
 {}
 
-/// The copies of a film that are here stand each in just one of two lists, those in stock and those that aren't.
+/// Each copy of a film that is here is in just one of two lists: the copies in stock, and the copies that aren't.
 pub fn stock_is_split()
     ensures { StockIsSplit }
 {}
 
-/// Somebody has a copy exactly where it isn't in stock, and is named: the customer of its one rental that has no return.
+/// Somebody has a copy exactly if it isn't in stock. The holder is named: the customer of its one rental without a return.
 pub fn holders_are_told()
     ensures { HoldersAreTold }
 {}
 
-/// What is overdue is out, of a copy that is here, and its row names the customer who has it.
+/// An overdue rental is out, its copy belongs to the branch, and its row names the customer who has the copy.
 pub fn overdue_is_out()
     ensures { OverdueIsOut }
 {}
@@ -191,8 +191,8 @@ pub fn sales_add_up()
     ensures { SalesAddUp }
 {}
 
-/// A rent raises its customer's balance by the film's rate, a return by a dollar for each late day, a payment lowers it by its
-/// amount, and nothing else changes one but head office's choice of the rule.
+/// A rent raises its customer's balance by the film's rate, and a return by a dollar for each late day. A payment lowers it
+/// by its amount. Nothing else changes a balance except head office's choice of the rule.
 #[tactic(auto, using(crate::proofs::Balances::follow_acts))]
 pub fn balances_follow_acts()
     ensures { BalancesFollowActs }
@@ -204,57 +204,60 @@ pub fn copies_are_of_imports()
     ensures { CopiesAreOfImports }
 {}
 
-/// The commands that were accepted, alone and in their order, make the books, and are answered as they were; so they do among
-/// any of the other events.
+/// The commands that were accepted make the books, alone and in their order, and are answered as they were. The same holds
+/// if any of the other events are among them.
 pub fn books_are_of_accepted()
     ensures { BooksAreOfAccepted }
 {}
 
-/// What is kept is what was accepted, each caller's in its order.
+/// The kept commands are the accepted ones, in the order of each caller.
 #[tactic(auto, using(crate::proofs::Reentered::are_kept))]
 pub fn accepted_are_kept()
     ensures { AcceptedAreKept }
 {}
 
-/// What was lost with a disk is brought back from a copy of it by sending the accepted commands again, all or the later ones.
+/// After a disk is lost, a copy of it and the accepted commands bring its books back. All commands may be sent again, or
+/// only the commands that came after the copy.
 pub fn lost_is_brought_back()
     ensures { LostIsBroughtBack }
 {}
 
-/// Two histories in which a branch sees the same leave it the same, in whatever order all else came.
+/// Two histories in which a branch sees the same leave it in the same state, in whatever order all else came.
 pub fn order_is_within_views()
     ensures { OrderIsWithinViews }
 {}
 
-/// Requests of two branches may come in either order, but for a dispatch to the other and its receipt there, or a reading.
+/// Requests of two branches may come in either order, with one exception. If one is a dispatch to the other branch, the
+/// other may not be its receipt there, or a reading.
 pub fn branches_commute()
     ensures { BranchesCommute }
 {}
 
-/// A command of a branch and one of head office may come in either order where the branch's doesn't read what the other changes.
+/// A command of a branch and a command of head office may come in either order, if the branch's command doesn't read what
+/// the other changes.
 pub fn office_commutes()
     ensures { OfficeCommutes }
 {}
 
-/// In books that differ only in how the branches' rows stand among one another each request but a list of arrivals, and each
-/// command of head office, is answered alike and leaves such books.
+/// Two books may differ only in how the branches' rows are mixed. Then each request but a list of arrivals, and each command
+/// of head office, is answered alike and leaves such books.
 pub fn alike_stay_alike()
     ensures { AlikeStayAlike }
 {}
 
-/// Such requests of a history may change places, neighbour by neighbour, wherever they may come in either order: each is
-/// answered as it was, and the books are alike.
+/// Two neighbouring requests of a history may change places if they may come in either order, and so may others after them.
+/// Each is answered as it was, and the books are alike.
 pub fn order_may_differ()
     ensures { OrderMayDiffer }
 {}
 
-/// They may come in any order in which none comes before one that it may not change places with: each caller is told the
-/// same, and the books are alike.
+/// Such requests may come in any order in which no two change places that may not. Each caller gets the same replies,
+/// and the books are alike.
 pub fn any_order_tells_alike()
     ensures { AnyOrderTellsAlike }
 {}
 
-/// What was lost with a disk is brought back, alike, also where it is sent again in another such order.
+/// After a disk is lost, its books are brought back alike also if the commands are sent again in another such order.
 pub fn lost_is_brought_back_alike()
     ensures { LostIsBroughtBackAlike }
 {}

@@ -1,9 +1,9 @@
--- What the first of the rows that a SELECT shows tells of the values that it was to show.
+-- What the first row that a SELECT shows says of the values that the SELECT was to show.
 use Rattle.shop_schema.proofs.Common.{◌≡◌, ℕ, List, [], ◌∷◌, map, Option, Some, None, Ok, Err, Result, refl, sym, ap, ◌∙◌, slice_get, IfOk, State, StoreFault, TellsFirst, head}
 use Rattle.sqlite_value.specs.Order.{Row}
 use Rattle.sqlite.specs.State.{Shown}
 
--- `show` says which columns are shown of a value, and `told` what is to be told of it
+-- `show` gives the columns that are shown of a value, and `told` what is read from them
 module _ {X V : Type 0} (show : X → Row) (told : X → V) where
   seen_first : (found : List X) (rows slice : List Row) (o : Option Row) → rows ≡ map show found → slice ≡ rows → o ≡ slice_get slice 0 → slice_get (map show found) 0 ≡ o
   seen_first found rows slice o is same first = sym (first ∙ ap (λ (rs : List Row). slice_get rs 0) (same ∙ is))
@@ -23,7 +23,7 @@ module _ {X V : Type 0} (show : X → Row) (told : X → V) where
       go [] e = cc
       go (x ∷ more) e = let one : show x ≡ row = cc in ap Some (means x one)
 
--- what a reader of the first row answers
+-- what a reader of the first row returns
 told_first : {V E : Type 0} {Fits : Row → V → Type 0} (rows : List Row) (P : Option V → Type 0) (r : Result (Option V) E) → IfOk r (TellsFirst Fits rows)
     → (None ≡ slice_get rows 0 → P None) × ((row : Row) (v : V) → Some row ≡ slice_get rows 0 → Fits row v → P (Some v)) → IfOk r P
 told_first rows P (Err e) told read = tt

@@ -7,6 +7,7 @@ use Rattle.sqlite.specs.Listing.{understood}
 use Rattle.shop_model.specs.Values as model
 use Rattle.shop_schema.specs.declared.first.TheConstants.{FIRST_CHAIN, FIRST_COUNT}
 use Rattle.shop_schema.proofs.Stands.{with_rows, none_have, has_at, one_changed, first_named}
+use Rattle.shop_schema.specs.Trees.{branch_tree}
 
 abbrev chain_terms : List Term
 chain_terms = lit Null ∷ lit (Int (pos 1)) ∷ col 0 0 ∷ []
@@ -45,7 +46,7 @@ first_filled old mid new token m n told counted shop keyed empty =
     let one : HaveRows tables mid.now.trees (with_rows 0 row none) = one_changed 0 old.now.trees mid.now.trees 0 tables none chain_table row refl refl chain.others (chain.rows [] (has_at 0 tables old.now.trees none chain_table refl had)) had in
     let counts = count_row token ∷ [] in
     let two : HaveRows tables new.now.trees (with_rows 18 counts (with_rows 0 row none)) =
-    one_changed 41 mid.now.trees new.now.trees 18 tables (with_rows 0 row none) counter_table counts refl refl count.others (count.rows [] (has_at 18 tables mid.now.trees (with_rows 0 row none) counter_table refl one)) one in
+    one_changed 41 mid.now.trees new.now.trees branch_tree tables (with_rows 0 row none) counter_table counts refl refl count.others (count.rows [] (has_at 18 tables mid.now.trees (with_rows 0 row none) counter_table refl one)) one in
     record {
       schema_is = count.schema_is;
       keyed = count.keyed (chain.keyed keyed);

@@ -1,4 +1,4 @@
--- A table whose rows are those of a list of the books, and what an INSERT and an UPDATE make of it.
+-- A table whose rows stand for one list of the books, and how an INSERT and an UPDATE change the table.
 use Rattle.shop_schema.proofs.Common.{◌≡◌, ◌/◌, ◌+◌, ℕ, suc, List, [], ◌∷◌, ◌++◌, map, length, Bool, true, false, cond, None, Ok, refl, sym, ap, subst, ◌∙◌, arith, ⊤, unwrap_or, map_push, Value, Null, Trees, Term, eval_all, values, overlay, Table, Values, Insert, value_rows, State, ExecutesInside, Means, HasRows, SameBut, columns_of, are_kept, IsPlainTable, has_put, numbered, Books, shop_schema, Counts, StandsWith, Writes, Tallies, numbered_push}
 use Rattle.sqlite_value.specs.Order as sql
 use Rattle.shop_schema.proofs.Stands.{rows_of, rows_at, with_rows, one_has, stands_but, stands_at}
@@ -30,7 +30,7 @@ pub record Listed {A X : Type 0} (all : List A → List X) : Type 0 where
   pub had : (counts : Counts) (books : Books) → rows_at place (rows_of counts books) ≡ map columns (all (part.items books))
   pub fills : (counts : Counts) (xs : List A) (books : Books) → rows_of counts (part.filled xs books) ≡ with_rows place (map columns (all xs)) (rows_of counts books)
 
--- the same from its parts, of which the last line's are `refl`
+-- makes a `Listed` from its parts; the two arguments on the last line are `refl`
 abbrev pub listed : {A X : Type 0} {all : List A → List X} (place : ℕ) (table : Table) (columns : X → sql.Row) (items : Books → List A) (filled : List A → Books → Books)
     → IsPlainTable shop_schema place table → one_has place table.tree shop_schema.tables ≡ true → ((counts : Counts) (books : Books) → rows_at place (rows_of counts books) ≡ map columns (all (items books)))
     → ((counts : Counts) (xs : List A) (books : Books) → rows_of counts (filled xs books) ≡ with_rows place (map columns (all xs)) (rows_of counts books))

@@ -92,7 +92,7 @@ shared_push P xs x few such all = let more = length-append xs (x ∷ []) in (ome
 shared_set : {A : Type 0} (P : A → Type 0) (n : ℕ) (f : A → A) (xs : List A) → ((x : A) → P x → P (f x)) → AreShared P xs → AreShared P (set_at n f xs)
 shared_set P n f xs stays all = let same = length_set n f xs in (omega (arith, same, all.0), all_set P n f xs stays all.1)
 
--- ---- rows of which a column is another
+-- ---- rows after a column was changed
 
 rated : (film : Film) (rate : ℕ) (withdrawn : Bool) → IsFilm film → rate ≤ 9_999 → IsFilm (record film { rate = rate; withdrawn = withdrawn })
 rated film rate withdrawn is low = record {

@@ -48,7 +48,7 @@ first_told command form is (k ∷ kept) = go (is_under command k) refl (first_to
     go true key more = (λ i. Some (bytes_eq (office_command_form k.command) (is i), k.reply)) ∙ (λ i. Some (office_form_same k.command command key i, k.reply))
     go false key more = more
 
--- so what is found under the command's key, by its stored form and its reply, tells whether it is the command
+-- so the stored form and the reply that are found under the command's key show whether the kept command is the same
 pub office_told : (command : OfficeCommand) (form : List ℕ) (found : Option (List ℕ × List ℕ)) (kept : List OfficeKept) → form ≡ office_command_form command
     → found ≡ head (map stored (filter (is_under command) kept)) → option_map (by_form form) found ≡ head (map (by_command command) (filter (is_under command) kept))
 office_told command form found kept is has = ap (λ (o : Option (List ℕ × List ℕ)). option_map (by_form form) o) has ∙ first_told command form is kept

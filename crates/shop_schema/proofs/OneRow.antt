@@ -1,4 +1,4 @@
--- Rows of kinds are one to one, and so are those of a table.
+-- The columns of a row of kinds determine its values, and so do the columns of a table's row.
 use Rattle.shop_schema.proofs.Common.{◌≡◌, ℕ, List, [], ◌∷◌, Option, Some, None, IfSome, or_null, Bool, true, false, refl, sym, ap, ◌∙◌, same_flag, same_number, same_or_null, number_value, Moment, IsMoment, moment_text, moment_value, rating_text, rating_of, features_text, features_of, seen_rule, seen_state, seen_line_state, Rating, Features, rule_value, state_value, line_value, Kind, value_of, Fits, FitEach, TableOf}
 use Rattle.sqlite_value.specs.Order as sql
 use Rattle.shop_types.specs.declared.film.Rating.TheVariants as rating

@@ -68,6 +68,6 @@ members_ascii later (it ∷ members) names values =
     (IsAscii-append (quoted it.0) (58 ∷ behind) (ascii_bytes (quoted it.0) parts.0)
     (IsAscii-cons 58 behind (omega arith) (IsAscii-append it.1 (members_text true members) values.0 (members_ascii true members parts.1 values.1))))
 
--- the names of what is told compute, so that they are had by `refl` where `escape_byte` unfolds
+-- an object's text is UTF-8; the names of its members compute, so `have_names` is `refl` if `escape_byte` unfolds
 pub object_utf8 : (members : List (Text × Text)) → have_names members ≡ true → AreAscii members → IsUtf8 (object members)
 object_utf8 members names values = IsUtf8-from_ascii _ (IsAscii-cons 123 (members_text false members) (omega arith) (members_ascii false members names values))

@@ -61,7 +61,7 @@ put_values : {A : Type 0} (P : A → Type 0) (b : ℕ) (make : ℕ → A) (rows 
     → AllByRecursion (IsRow P) rows → AllByRecursion (IsRow P) (put b make rows)
 put_values P b make rows branch few such all = All-push (IsRow P) rows _ all (branch, next_fits b rows few, such)
 
--- rows of which some are set
+-- rows after some were set
 set_values : {A : Type 0} (P : A → Type 0) (b n : ℕ) (f : A → A) (rows : List (Row A)) → ((it : A) → P it → P (f it)) → AllByRecursion (IsRow P) rows → AllByRecursion (IsRow P) (set_row b n f rows)
 set_values P b n f [] stays all = tt
 set_values P b n f (row ∷ rows) stays all = go (is_row b n row) (set_values P b n f rows stays all.1)
@@ -106,7 +106,7 @@ few_terms catalogue shop x = subst (λ (n : ℕ). n ≤ 1) (sym (length_map film
         subst (λ (l : List Copy). length (flat_map (λ (copy : Copy). at copy.film catalogue.films) l) ≤ 1) (sym found.1)
         (subst (λ (l : List Film). length l ≤ 1) (sym (append-nil (at found.0.film catalogue.films))) (one found.0.film catalogue.films (at_one found.0.film catalogue.films)))
 
--- so are the terms that the books get where they become those of version 2
+-- the program can also hold the terms that the books get in the migration to version 2
 row_values : (b n : ℕ) (its : List Terms) → IsNumber b → IsNumber n → AllByRecursion IsTerms its → AllByRecursion (IsRow IsTerms) (map (λ (it : Terms). record { branch = b; number = n; it = it }) its)
 row_values b n [] branch number all = tt
 row_values b n (it ∷ its) branch number all = ((branch, number, all.0), row_values b n its branch number all.1)

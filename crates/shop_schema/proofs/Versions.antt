@@ -1,4 +1,4 @@
--- The version of a database of which only the first table is known.
+-- The version of a database about which only the first table is known.
 use Rattle.std.proofs.Common.{IfOk}
 use Rattle.shop_schema.proofs.Common.{◌≡◌, ◌≢◌, ◌<◌, ◌^◌, ◌==◌, ℕ, pos, negsuc, List, [], ◌∷◌, codes, refl, map, cond, true, length, get_or, ap, sym, subst, ◌∙◌, arith, Ok, Err, Result, flat_map, IsPermutation-map, IsPermutation-sym, length_permutation, ne_eqb, one_permutation, Null, Int, Real, Blob, column, Output, output, State, columns_of, number_value, KnownVersion, First, This, Other, this_version, first_version, version_of, version_told, begins_so, Table, Index, chain_table, shop_schema, HaveFirst, Selects, plain_query, answers}
 use Rattle.std.specs.List.Sorted.{IsPermutation}

@@ -1,5 +1,5 @@
--- Commands as they are kept. The stored form of a command, its key left out, is a byte that tells the act, and then the parts, each of which shows where it ends
--- (our own). Beside it stands which values such an act may have.
+-- Defines commands as they are kept. The stored form of a command leaves out its key. It is a byte that names the act, and then the parts (our own). Each part
+-- shows where it ends. This module also says which values an act may have.
 use Rattle.std.specs.Prelude.{⊤, ◌≡◌, ◌↔◌, ◌≤◌, ◌<◌, IsTrue, ℕ, ◌/◌, ◌%◌, Bool, true, false, if◌then◌else◌, List, [], ◌∷◌, ◌++◌, map, length, flat_map, Option, None, IfSome, IsUtf8}
 use Rattle.std.specs.List.{AllByRecursion}
 use Rattle.std.specs.Option.{option_to_list}

@@ -49,9 +49,9 @@ pub record HasFewShared (catalogue : Catalogue) : Type 0 where
   pub branches : length catalogue.branches ≤ 1_000_003
   pub staff : length catalogue.staff ≤ 1_000_003
 
--- Its rows are such as the program can hold, they are numbered, the branches that they name are there, no key of a caller and no token comes twice, no cast and no
--- name of a country, language or category does, each rental has its terms, no caller has more than a million rows of a kind, shared rows are few and name rows
--- that are there, a copy is out at most once, and places count the consignments of the chain.
+-- The program can hold the books' rows. The rows are numbered, and the branches that they name exist. No key of a caller, no token, no cast, and no name of a
+-- country, language or category occurs twice. Each rental has its terms. No caller has more than a million rows of a kind. Shared rows are few, and name only
+-- rows that exist. A copy is out at most once. Places count the consignments of the chain.
 pub record IsHeld (books : Books) : Type 0 where
   pub values : AreValues books
   pub numbers : HasNumbers books

@@ -59,7 +59,7 @@ person_columns person = Text person.first ∷ Text person.last ∷ Text person.a
 abbrev pub IsShared : {A : Type 0} → (A → Type 0) → ℕ × A → Type 0
 IsShared P it = IsNumber it.0 × P it.1
 
--- the version of these tables
+-- the version of this program's tables
 abbrev pub this_version : ℕ
 this_version = 2
 

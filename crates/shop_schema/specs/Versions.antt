@@ -1,4 +1,4 @@
--- Which version the rows of the table `chain` tell, whose first column has it.
+-- Defines the version that the rows of the table `chain` say. The version is in the first column.
 use Rattle.std.specs.Prelude.{◌==◌, List, [], ◌∷◌, pos, if◌then◌else◌}
 use Rattle.sqlite.specs.declared.types.Value.{Value}
 use Rattle.sqlite.specs.declared.types.Value.TheVariants.{Int}

@@ -1,5 +1,5 @@
-//! Columns, and rows of them: what a column holds is a type, and a row is the pair of its first column and those
-//! behind it.
+//! Columns, and rows of columns. What a column holds is a type. A row is the pair of its first column and the columns
+//! after it.
 
 ghost use Rattle.std.specs.Prelude.{⊤, ◌≡◌, ◌≢◌, ◌<◌, ◌≤◌, ◌^◌, List, [], ◌∷◌, IsUtf8, length, drop, IfOk, IfErr, IfSome};
 ghost use Rattle.sqlite_value.specs.declared.value.Value.{Value};
@@ -18,11 +18,11 @@ pub trait Cell: Sized + Drop {
     // the column's value
     ghost value: { Self → Value };
 
-    // it is such as the program can hold
+    // the program can hold the value
     ghost fits: { Self → Type 0 };
 
-    /// What the column holds, where columns are counted from 0. `Failed` says that it holds nothing that the program
-    /// can hold.
+    /// Returns what the column holds, where columns are counted from 0. `Failed` says that it holds nothing that the
+    /// program can hold.
     fn read_at(row: &Row, at: usize) -> Result<Self, StoreFault>
         ensures ok { IfOk result (λ x. column row.now at ≡ value x) }
         ensures fit { IfOk result (λ x. fits x) }
@@ -83,13 +83,13 @@ impl<C: Cell> Cell for Option<C> {
     }
 }
 
-/// The columns of a row from some column on: nothing, or a cell and those behind it.
+/// The columns of a row from some column on: nothing, or a cell and the cells after it.
 pub trait Cells: Sized + Drop {
     ghost columns: { Self → SqlRow };
 
     ghost fits: { Self → Type 0 };
 
-    /// The cells from the column on, to the row's end.
+    /// Reads the cells from the column on, to the row's end.
     fn read_from(row: &Row, at: usize) -> Result<Self, StoreFault>
         requires { at ≤ length row.now }
         ensures ok { IfOk result (λ x. columns x ≡ drop at row.now) }
@@ -126,7 +126,7 @@ impl<A: Cell, B: Cells> Cells for (A, B) {
     }
 }
 
-/// The cells of the whole row. `Failed` says that these are no such columns, or not so many.
+/// Returns the cells of the whole row. `Failed` says that the row has other columns, or another number of columns.
 pub fn read_cells<C: Cells>(row: &Row) -> Result<C, StoreFault>
     ensures ok { IfOk result (λ x. C.Cells.columns x ≡ row.now) }
     ensures fit { IfOk result (λ x. C.Cells.fits x) }

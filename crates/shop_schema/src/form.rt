@@ -162,8 +162,8 @@ fn add_act(form: &mut Vec<u8>, act: &Act) -> Result<(), NoMemory>
     }
 }
 
-/// The bytes by which the command is kept: all of it but its key. Under one key, two commands have the same bytes
-/// exactly where they are one command.
+/// Returns the bytes by which the command is kept: all of it but its key. Under one key, two commands have the same
+/// bytes exactly if they are one command.
 pub fn command_form(alloc: Global, command: &Command) -> Result<Bytes, NoMemory>
     ensures { IfOk result (λ form. form ≡ command_form (seen_command command.now)) }
 {

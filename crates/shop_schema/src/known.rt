@@ -17,7 +17,7 @@ use sqlite::{Alter, Connection, MemStore, Row, Transaction};
 use sqlite_schema::schema::Schema;
 use std::alloc::Global;
 
-/// New tables in memory, whose schema is the one to compare with.
+/// Makes new tables in memory. Their schema is compared with other schemas.
 fn new_tables(alloc: Global) -> Result<Connection<MemStore>, StoreFault>
     ensures { IfOk result (λ conn. (state over_memory conn).now.schema ≡ shop_schema) }
 {
@@ -26,7 +26,7 @@ fn new_tables(alloc: Global) -> Result<Connection<MemStore>, StoreFault>
     Ok(conn)
 }
 
-/// Whether the schema of a database is that of the shop. Its store isn't called.
+/// Returns whether a database has the schema of the shop. The database's store isn't called.
 pub fn is_shop(alloc: Global, schema: &Schema) -> Result<bool, StoreFault>
     ensures { IfOk result (λ is. IsTrue is ↔ (schema.now ≡ shop_schema)) }
 {
@@ -34,7 +34,7 @@ pub fn is_shop(alloc: Global, schema: &Schema) -> Result<bool, StoreFault>
     Ok(same_schema(schema, conn.schema()))
 }
 
-/// Whether the schema of a database is that of version 1. Its store isn't called.
+/// Returns whether a database has the schema of version 1. The database's store isn't called.
 pub fn is_first_shop(alloc: Global, schema: &Schema) -> Result<bool, StoreFault>
     ensures { IfOk result (λ is. IsTrue is ↔ (schema.now ≡ version_1_schema)) }
 {
@@ -42,8 +42,8 @@ pub fn is_first_shop(alloc: Global, schema: &Schema) -> Result<bool, StoreFault>
     Ok(same_begun(schema, conn.schema(), 21, 36))
 }
 
-/// Whether the first table of a database is the one that has the version, whatever the others are. Its store isn't
-/// called.
+/// Returns whether the first table of a database is the one with the version, whatever the other tables are. The
+/// database's store isn't called.
 pub fn has_version(alloc: Global, schema: &Schema) -> Result<bool, StoreFault>
     ensures { IfOk result (λ is. IsTrue is ↔ HasVersion schema.now) }
 {
@@ -51,7 +51,7 @@ pub fn has_version(alloc: Global, schema: &Schema) -> Result<bool, StoreFault>
     Ok(same_first(schema, conn.schema()))
 }
 
-/// The rows of the table that has the version, each with the version alone, in any order.
+/// Reads the rows of the table with the version, in any order. Each row has only the version.
 fn versions<S: Alter>(tx: &mut Transaction<'_, S>) -> Result<Vec<Row>, StoreFault>
     ensures read { HasCleanDisk (state S.Store tx.new.conn.now)
         → HasVersion (state S.Store tx.old.conn.now).now.schema
@@ -62,20 +62,20 @@ fn versions<S: Alter>(tx: &mut Transaction<'_, S>) -> Result<Vec<Row>, StoreFaul
     query(tx, "SELECT version FROM chain", &[])
 }
 
-/// Which version the tables of a chain are of.
+/// The version of a chain's tables.
 #[derive(Clone, Copy, PartialEq, Eq)]
 pub enum KnownVersion {
-    /// The table that has the version doesn't have one row, so that this is no chain.
+    /// The table with the version has no row or several rows, so the database is no chain.
     Missing,
-    /// Version 1, of which this program makes its own (`migrate_tables`), and which it doesn't open.
+    /// Version 1. This program migrates it to its own version (`migrate_tables`), and doesn't open it.
     First,
     /// The version that this program reads and writes.
     This,
-    /// Another one.
+    /// Another version.
     Other,
 }
 
-/// Which version these rows tell.
+/// Returns the version that the rows say.
 fn told_by(rows: &[Row]) -> Result<KnownVersion, StoreFault>
     ensures { IfOk result (λ it. (found : _) → IsPermutation found rows.now → it ≡ version_of found) }
 {
@@ -91,7 +91,7 @@ fn told_by(rows: &[Row]) -> Result<KnownVersion, StoreFault>
     }
 }
 
-/// Which version the tables are of, in a database of which no more is known than that it `has_version`.
+/// Returns the version of the tables in a database about which only `has_version` is known.
 pub fn version<S: Alter>(tx: &mut Transaction<'_, S>) -> Result<KnownVersion, StoreFault>
     ensures read { HasCleanDisk (state S.Store tx.new.conn.now) → HasVersion (state S.Store tx.old.conn.now).now.schema
         → IfOk result (λ it. it ≡ version_of (map (columns_of 1) ((state S.Store tx.old.conn.now).now.trees 0))) }

@@ -4,7 +4,7 @@ ghost use Rattle.shop_model.specs.Calendar.{moment_text};
 use shop_types::Moment;
 use std::marker::Model;
 
-/// The text of a moment, as a column has it.
+/// The text of a moment, as it is in a column.
 #[derive(Drop)]
 pub struct MomentText {
     bytes: [u8; 19],
@@ -21,7 +21,7 @@ impl Model for MomentText {
 }
 
 impl MomentText {
-    /// The text of the moment. It takes no memory.
+    /// Returns the text of the moment. It takes no memory.
     pub fn of(moment: Moment) -> MomentText
         ensures { result ≡ moment_text moment }
     {
@@ -30,7 +30,7 @@ impl MomentText {
         }
     }
 
-    /// The 19 bytes, as a text.
+    /// Returns the 19 bytes, as a text.
     pub fn as_str(&self) -> &str
         ensures { result.now ≡ self.now }
     {

@@ -138,8 +138,8 @@ fn add_named(form: &mut Vec<u8>, act: u8, name: &T45) -> Result<(), NoMemory>
     add_text(form, name.as_str())
 }
 
-/// The bytes by which a command of head office is kept: all of it but its key. Under one key, two commands have the
-/// same bytes exactly where they are one command.
+/// Returns the bytes by which a command of head office is kept: all of it but its key. Under one key, two commands
+/// have the same bytes exactly if they are one command.
 pub fn office_form(alloc: Global, command: &OfficeCommand) -> Result<Bytes, NoMemory>
     ensures { IfOk result (λ form. form ≡ office_command_form (seen_office command.now)) }
 {

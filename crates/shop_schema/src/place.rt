@@ -25,7 +25,7 @@ impl Model for DispatchPlace {
 }
 
 impl DispatchPlace {
-    /// The place, where it is from 1 on and a column can hold it.
+    /// Returns the place, if it is from 1 on and a column can hold it.
     pub fn new(place: u64) -> Option<DispatchPlace>
         ensures { result ≡ (if nat_lt 0 place && nat_lt place (2 ^ 63) then Some place else None) }
     {

@@ -21,7 +21,7 @@ use sqlite::types::ValueRef;
 use sqlite::{Alter, Row, Transaction};
 use std::alloc::Global;
 
-/// The number of a row in the column.
+/// Returns the number of a row in the column.
 pub fn row_number_at<const KIND: u8>(row: &Row, at: usize) -> Result<RowNumber<KIND>, StoreFault>
     ensures ok { IfOk result (λ n. column row.now at ≡ number_value n) }
     ensures value { IfOk result IsNumber }
@@ -34,7 +34,7 @@ pub fn row_number_at<const KIND: u8>(row: &Row, at: usize) -> Result<RowNumber<K
     }
 }
 
-/// The numbers of rows in the first columns, in the order of these.
+/// Reads the row numbers in the first columns of the rows, in the order of the rows.
 pub fn row_numbers_in<const KIND: u8>(
     alloc: Global,
     rows: &[Row],
@@ -50,7 +50,7 @@ pub fn row_numbers_in<const KIND: u8>(
     Ok(numbers)
 }
 
-/// The moment in the column, by its text.
+/// Returns the moment in the column, by its text.
 pub fn moment_at(row: &Row, at: usize) -> Result<Moment, StoreFault>
     ensures ok { IfOk result (λ m. column row.now at ≡ moment_value m) }
     ensures value { IfOk result IsMoment }
@@ -67,7 +67,7 @@ pub fn moment_at(row: &Row, at: usize) -> Result<Moment, StoreFault>
     }
 }
 
-/// The moment in the column, or none where it is NULL.
+/// Returns the moment in the column, or none if it is NULL.
 pub fn moment_or_null_at(row: &Row, at: usize) -> Result<Option<Moment>, StoreFault>
     ensures ok { IfOk result (λ o. column row.now at ≡ or_null moment_value o) }
     ensures value { IfOk result (λ o. IfSome o IsMoment) }
@@ -81,7 +81,7 @@ pub fn moment_or_null_at(row: &Row, at: usize) -> Result<Option<Moment>, StoreFa
     }
 }
 
-/// The number of a row in the column, or none where it is NULL.
+/// Returns the number of a row in the column, or none if it is NULL.
 pub fn row_number_or_null_at<const KIND: u8>(
     row: &Row,
     at: usize,
@@ -98,7 +98,7 @@ pub fn row_number_or_null_at<const KIND: u8>(
     }
 }
 
-/// The text of LOW to HIGH bytes in the column.
+/// Returns the text of LOW to HIGH bytes in the column.
 pub fn text_at<const LOW: usize, const HIGH: usize>(
     row: &Row,
     at: usize,
@@ -114,7 +114,7 @@ pub fn text_at<const LOW: usize, const HIGH: usize>(
     }
 }
 
-/// What the reader makes of the first row, if there is a row.
+/// Returns what the reader makes of the first row, if there is a row.
 pub fn first_of<T, F: Fn(&Row) -> Result<T, StoreFault>>(
     rows: &[Row],
     read: F,
@@ -128,8 +128,8 @@ pub fn first_of<T, F: Fn(&Row) -> Result<T, StoreFault>>(
     }
 }
 
-/// What the reader makes of the first row that a query shows, if it shows a row. After a fault the transaction may be
-/// rolled back.
+/// Returns what the reader makes of the first row that a query shows, if it shows a row. After a fault the transaction
+/// may be rolled back.
 pub fn query_first<S: Alter, T, F: Fn(&Row) -> Result<T, StoreFault>>(
     tx: &mut Transaction<'_, S>,
     text: &str,

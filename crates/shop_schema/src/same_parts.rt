@@ -9,9 +9,9 @@ use sqlite_value::keys::Order;
 use sqlite_value::order::is_same;
 use sqlite_value::value::Bytes;
 
-/// Values of which a comparison decides whether they are the same.
+/// Values that can be compared: the comparison decides whether two are the same.
 pub(crate) trait Same: Sized {
-    /// Whether the two are the same value.
+    /// Returns whether the two are the same value.
     fn same(&self, other: &Self) -> bool
         ensures { IsTrue result ↔ (self.now ≡ other.now) };
 }
@@ -93,7 +93,7 @@ impl Same for Reference {
     }
 }
 
-/// The name, and the trees of the index and of its table.
+/// Returns whether the two have the same name, the same tree, and the same tree of their table.
 fn same_tree(first: &Index, second: &Index) -> bool
     ensures { IsTrue result
         ↔ ((first.now.name ≡ second.now.name)
@@ -102,7 +102,7 @@ fn same_tree(first: &Index, second: &Index) -> bool
     first.name.same(&second.name) && first.tree == second.tree && first.table == second.table
 }
 
-/// The columns and how they are sorted.
+/// Returns whether the two have the same columns, sorted in the same way, and are both unique or both not.
 fn same_order(first: &Index, second: &Index) -> bool
     ensures { IsTrue result ↔ ((first.now.columns ≡ second.now.columns)
         × ((first.now.order ≡ second.now.order) × (first.now.is_unique ≡ second.now.is_unique))) }

@@ -32,7 +32,7 @@ fn same_key(first: Option<usize>, second: Option<usize>) -> bool
     first == second
 }
 
-/// The columns and the primary key.
+/// Returns whether the two have the same columns and the same primary key.
 fn same_columns(first: &Table, second: &Table) -> bool
     ensures { IsTrue result
         ↔ ((first.now.columns ≡ second.now.columns)
@@ -43,7 +43,7 @@ fn same_columns(first: &Table, second: &Table) -> bool
         && first.primary.same(&second.primary)
 }
 
-/// The other keys.
+/// Returns whether the two have the same other keys.
 fn same_keys(first: &Table, second: &Table) -> bool
     ensures { IsTrue result ↔ ((first.now.uniques ≡ second.now.uniques)
         × ((first.now.orders ≡ second.now.orders) × (first.now.references ≡ second.now.references))) }
@@ -95,8 +95,8 @@ fn same_tables(first: &[Table], second: &[Table]) -> bool
     same_table(a, b) && same_tables(more, others)
 }
 
-/// Whether the first schema is the second, and the second is an expected one: with no view, no CHECK and no default
-/// that is computed.
+/// Returns whether the first schema is the second, and the second has no view, no CHECK and no default that is
+/// computed.
 pub fn same_schema(first: &Schema, second: &Schema) -> bool
     ensures { IsTrue result ↔ ((first.now ≡ second.now) × IsPlain second.now) }
 {
@@ -106,8 +106,8 @@ pub fn same_schema(first: &Schema, second: &Schema) -> bool
         && second.views.is_empty()
 }
 
-/// Whether the first schema has just so many of the tables and indexes with which the second begins, of which none
-/// has a CHECK or a default that is computed.
+/// Returns whether the first schema has exactly the first `tables` tables and `indexes` indexes of the second. In that
+/// part no table may have a CHECK or a default that is computed.
 pub(crate) fn same_begun(first: &Schema, second: &Schema, tables: usize, indexes: usize) -> bool
     requires tables { tables ≤ length second.now.tables }
     requires indexes { indexes ≤ length second.now.indexes }
@@ -122,7 +122,8 @@ pub(crate) fn same_begun(first: &Schema, second: &Schema, tables: usize, indexes
         && first.views.is_empty()
 }
 
-/// Whether the first tables of the two are the same, whatever else the schemas have, and no term stands in that table.
+/// Returns whether the first tables of the two are the same, whatever else the schemas have, and no term stands in
+/// that table.
 pub(crate) fn same_first(first: &Schema, second: &Schema) -> bool
     ensures { IsTrue result ↔ HaveFirst first.now.tables second.now.tables }
 {

@@ -240,7 +240,7 @@ impl Cell for DispatchPlace {
     }
 }
 
-/// The version of these tables, as the one row of `chain` has it.
+/// The version of this program's tables, which is in the one row of `chain`.
 #[derive(Clone, Copy)]
 pub struct ThisVersion;
 

@@ -7,7 +7,7 @@ ghost use Rattle.shop_schema.specs.RowValues.{state_value, line_value};
 
 use shop_types::{CopyState, LineState};
 
-/// The number that stands for where a copy is.
+/// Returns the number that stands for where a copy is.
 pub fn state_code(state: CopyState) -> u32
     ensures { number_value result ≡ state_value (seen_state state) }
 {
@@ -18,7 +18,7 @@ pub fn state_code(state: CopyState) -> u32
     }
 }
 
-/// The number that stands for what became of a line.
+/// Returns the number that stands for a line's state.
 pub fn line_state_code(state: LineState) -> u32
     ensures { number_value result ≡ line_value (seen_line_state state) }
 {

@@ -1,5 +1,5 @@
-//! The tables: the texts that make them, and the columns of each, in order, as the pair of the first and those behind
-//! it.
+//! The tables: the texts that make them, and the columns of each, in order. The columns are the pair of the first
+//! column and the columns after it.
 
 use crate::place::DispatchPlace;
 use crate::shop_cells::ThisVersion;
@@ -10,8 +10,8 @@ use shop_types::{
 };
 use sql_rows::{Bytes, Words};
 
-/// What makes the tables: the texts of version 1, each of which makes a table or an index, and then those that version
-/// 2 has more.
+/// The statements that make the tables. Each statement makes a table or an index. The statements of version 1 are
+/// first, and then the ones that version 2 adds.
 pub(crate) const TEXTS: [&str; 33] = [
     "CREATE TABLE chain (version INTEGER NOT NULL, office_token TEXT NOT NULL) STRICT",
     "CREATE TABLE country (number INT NOT NULL, name TEXT NOT NULL, PRIMARY KEY (number), UNIQUE (name)) STRICT",

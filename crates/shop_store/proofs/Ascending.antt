@@ -1,4 +1,4 @@
--- Rows of a branch, in the order of their numbers and by these.
+-- Rows of a branch, in the order of their numbers and by their numbers.
 use Rattle.shop_schema.proofs.Common.{◌≡◌, ◌<◌, ◌==◌, ◌+◌, ◌-◌, ℕ, List, [], ◌∷◌, ◌++◌, length, false, ap, refl, ◌∙◌, arith, is_eq, is_lt, inl, inr, AllByRecursion, nat_cmp, cases_Bool, nat_tests, Row, at, is_of, of, differ_test, IsRow}
 
 pub not_equal : (m n : ℕ) → m < n → is_eq (nat_cmp m n) ≡ false

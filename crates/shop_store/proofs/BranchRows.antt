@@ -27,13 +27,13 @@ replaced n y [] = []
 replaced zero y (x ∷ xs) = y ∷ xs
 replaced (suc n) y (x ∷ xs) = x ∷ replaced n y xs
 
--- others at these places
+-- the list with other items at the given places
 abbrev pub written : {X : Type 0} → List ℕ → List X → List X → List X
 written [] ys xs = xs
 written (n ∷ ns) [] xs = xs
 written (n ∷ ns) (y ∷ ys) xs = written ns ys (replaced n y xs)
 
--- what an UPDATE of the columns at these places computes, by the parameters from that one on
+-- what an UPDATE of the columns at the given places computes, from the parameter `first` on
 abbrev pub set_terms : ℕ → ℕ → List ℕ → List Term
 set_terms first width places = col 1 0 ∷ col 1 0 ∷ written places (cols 0 first (length places)) (cols 1 1 width)
 
@@ -122,12 +122,12 @@ module _ {A : Type 0} (t : BranchRows A) where
           )
 
   module _ {R : Type 0} (seen : R → Row A) (text : List ℕ) where
-    -- those of a branch whose rows pass a test
+    -- the statement reads a branch's items that pass a test
     abbrev pub ReadsWhich : sql.Row → ℕ → (A → Bool) → Type 1
     ReadsWhich params b which = (old new : State) (rows : List sql.Row) (all : List R) → Shown text params old new rows → map (λ x. columns (seen x)) all ≡ rows → AllByRecursion (λ x. IsRow t.Fits (seen x)) all
         → Reads old new (λ books. map (λ x. (seen x).it) all ≡ filter which (of b (items books)))
 
-    -- `tested` says that of a row's columns the filter is the test; `only` is `refl`
+    -- `tested` says that the filter on a row's columns is the test; `only` is `refl`
     pub reads_which : (tests : List Term) → Selects shop_schema text (sorted_query tests) → (params : sql.Row) (b : ℕ) (test : sql.Row → Bool) (which : A → Bool) → ((row : Row A) → test (columns row) ≡ of_which which b row)
         → ((r : sql.Row) → cond (list_all (holds (params ∷ r ∷ [])) tests) (output (sorted_query tests) (params ∷ r ∷ []) ∷ []) [] ≡ cond (test (columns_of wide r)) ((column (columns_of wide r) 1 ∷ [], columns_of wide r) ∷ []) [])
         → ReadsWhich params b which
@@ -140,7 +140,7 @@ module _ {A : Type 0} (t : BranchRows A) where
   abbrev pub PutsRow : List ℕ → Type 1
   PutsRow text = PutsLast t.rows text
 
-  -- the premises are `refl` where the text is known
+  -- the premises are `refl` if the text is known
   pub puts_row : (text : List ℕ) → Means shop_schema text (Insert t.rows.place (Values (values wide) (suc wide)))
       → ((x : Row A) → value_rows (columns x) (suc wide) (length (values wide) / suc wide) (values wide) ≡ eval_all (values wide) (columns x ∷ []) ∷ [])
       → ((x : Row A) → eval_all (values wide) (columns x ∷ []) ≡ Null ∷ columns x) → ((x : Row A) (id : Value) → columns_of wide (id ∷ columns x) ≡ columns x) → PutsRow text
@@ -148,7 +148,7 @@ module _ {A : Type 0} (t : BranchRows A) where
 
   -- ---- an UPDATE of some columns of one row
 
-  -- `places` are the columns', from 0; all premises are `refl` where the text is known
+  -- `places` are the places of the columns, from 0; all premises are `refl` if the text is known
   module _ (text : List ℕ) (places : List ℕ) (vs : List Value) (f : A → A) (b n : ℕ) where
     abbrev pub set_columns : sql.Row → sql.Row
     set_columns row = written places vs (columns_from 0 wide row)

@@ -19,7 +19,7 @@ pub record ByNumber (A : Type 0) : Type 0 where
   pub changed : (counts : Counts) (books : Books) (xs : List A) (old new : Trees) → SameBut shop_schema table.tree old new → StandsWith counts old books
       → HasRows (length table.columns) (new table.tree) (map (columns books) (numbered xs)) → StandsWith counts new (part.filled xs books)
 
--- `numbers` is `refl` where the table is known
+-- `numbers` is `refl` if the table is known
 abbrev pub by_number : {A : Type 0} (t : Shared A) → ((it : ℕ × A) → column (t.columns it) 0 ≡ number_value it.0) → ByNumber A
 by_number t numbers = record {
   place = t.place;

@@ -14,7 +14,7 @@ use Rattle.shop_store.specs.declared.lasts.SharedTable.TheVariants as shared
 use Rattle.shop_store.specs.SharedSeen.{IsFirstNumber, last_text, how_many}
 use Rattle.shop_ledger.proofs.Rising.{counted_above, counted_rise, numbered_items}
 use Rattle.shop_store.proofs.ByNumber.{ByNumber, countries, languages, categories, cities, actors, films, branches, staff}
-use Rattle.shop_store.proofs.LastRow.{ending, first_query, descending, projects_last}
+use Rattle.sql_rows.proofs.LastRow.{ending, first_query, descending, projects_last}
 
 pub above_from : {A : Type 0} (k : ℕ) (xs : List A) (n : ℕ) → n < k → AllByRecursion (λ (it : ℕ × A). n < it.0) (numbered_from k xs)
 above_from {A} k xs n low = counted_above (λ (it : ℕ × A). it.0) k (numbered_from k xs) n low (numbered_counted k xs)
@@ -57,7 +57,7 @@ abbrev pub falling : ℕ → ℕ → Query
 falling tree place = plain_query tree [] (col 1 (suc place) ∷ []) ((col 1 (suc place), descending) ∷ [])
 
 module _ {X : Type 0} (text : List ℕ) (tree width place : ℕ) where
-  -- `means` and `only` are `refl` where the text and the table are known
+  -- `means` and `only` are `refl` if the text and the table are known
   pub reads_greatest : Selects shop_schema text (last_query tree place)
       → ((r : sql.Row) → output (falling tree place) ([] ∷ r ∷ []) ∷ [] ≡ (column (columns_of width r) place ∷ [], column (columns_of width r) place ∷ []) ∷ [])
       → (columns : Books → X → sql.Row) (items : Books → List X) → ((books : Books) (trees : Trees) → StandsFor trees books → HasRows width (trees tree) (map (columns books) (items books)))
@@ -88,7 +88,7 @@ module _ {A : Type 0} (t : ByNumber A) (text : List ℕ) where
       (λ it. it.0) t.numbers (λ them held. numbered_counted 1 (t.part.items them)) old new n told.0 told.1 told.2 books holds held in
       (found.0, found.1 ∙ sym (length-map (λ (it : ℕ × A). it.1) (numbered (t.part.items books))) ∙ ap length (numbered_items 1 (t.part.items books)))
 
--- the table's text tells how many rows it has
+-- the table's statement returns how many rows the table has
 pub last_of : (table : SharedTable) (old new : State) (n : ℕ) → (rows : List sql.Row) × Shown (last_text table) [] old new rows × IsFirstNumber rows n → Reads old new (λ books. n ≡ how_many table books.catalogue)
 unfolding understood everything
 last_of shared.Country = reads_last countries _ (record { names = _; is = refl; plain = (refl, refl); unlisted = refl }) (λ r. refl)

@@ -1,7 +1,6 @@
 pub mod ByNumber
 pub mod SharedReads
 pub mod Whether
-pub mod LastRow
 pub mod LastNumbers
 pub mod TokenReads
 pub mod PutTexts

@@ -9,11 +9,11 @@ use Rattle.shop_store.specs.declared.opening.TheConstants.{ROWS}
 use Rattle.shop_store.specs.Runs.{Runs}
 use Rattle.shop_store.proofs.PutTexts.{adds_branch}
 
--- where the statement runs, tables that stand for the first books come to stand for the second ones
+-- if the statement runs on tables that stand for the books `a`, the tables stand for the books `b` afterwards
 record Goes (text : List ℕ) (a b : Books) : Type 1 where
   goes : (counts : Counts) (old new : State) (count : ℕ) → ExecutesInside 0 text [] old new (Ok count) → HoldsWith counts old a → HoldsWith counts new b
 
--- ---- one row, whose values stand in the statement; the premises before the books are `refl` where the text is known
+-- ---- one row, whose values are in the statement; the premises before the books are `refl` if the text is known
 
 abbrev literals : sql.Row → List Term
 literals row = lit Null ∷ map lit row
@@ -55,7 +55,7 @@ module _ (text : List ℕ) (n : ℕ) (x : Branch) where
 
 -- ---- statements one after another
 
--- where the statements run, tables that stand for the first books come to stand for the others, beside the same counts
+-- if the statements run on tables that stand for the books `a`, the tables stand for the books `b` afterwards, with the same counts
 record Leads (texts : List (List ℕ)) (counts : Counts) (a b : Books) : Type 1 where
   leads : {S : Type 0} (g : Ghosts S) (old new : Held S) → Runs g texts old new → HoldsWith counts (state g old) a → HoldsWith counts (state g new) b
 
@@ -73,7 +73,7 @@ texts = map (λ t. t.now) ROWS
 abbrev text : ℕ → List ℕ
 text n = get_or texts n []
 
--- the books after so many of them
+-- the books after the first `n` statements
 abbrev stage : ℕ → Books
 stage n = opening (record {
   office_token = token_of 0;

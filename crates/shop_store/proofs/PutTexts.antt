@@ -13,6 +13,7 @@ use Rattle.shop_ledger.proofs.Puts.{puts_row}
 use Rattle.shop_store.specs.declared.opening.TheConstants.{INSERT_RULE, INSERT_CHAIN}
 use Rattle.shop_store.specs.declared.puts.TheConstants.{INSERT_BRANCH}
 use Rattle.shop_store.specs.New.{branch_params, IsRuled}
+use Rattle.shop_schema.specs.Trees.{chain_rule_tree}
 
 -- ---- the rule, and head office's token
 
@@ -35,7 +36,7 @@ ruled_first old new count h shop keyed empty =
       before = old.now.trees;
       empty = empty;
       same = done.others;
-      rule = done.rows [] (none_yet 1 (old.now.trees 59) empty.1.1.1.1.1.1.1.1.1.1.1.1.1.1.1.1.1.1.1.1.1.1.0);
+      rule = done.rows [] (none_yet 1 (old.now.trees chain_rule_tree) empty.1.1.1.1.1.1.1.1.1.1.1.1.1.1.1.1.1.1.1.1.1.1.0);
     }
 
 abbrev pub token_terms : List Term
@@ -80,7 +81,7 @@ one_more books n x next none =
     ap (λ (row : sql.Row). map (branch_columns books.lasts) (numbered books.catalogue.branches) ++ row ∷ []) (new_branch books n x none)
     ∙ sym (ap (map (branch_columns books.lasts)) (next_row books.catalogue.branches x n next) ∙ map_push (branch_columns books.lasts) (numbered books.catalogue.branches) (n, x))
 
--- by any statement; its premises are `refl` where it is known
+-- by any statement; the premises are `refl` if the statement is known
 pub adds_branch : (text : List ℕ) (terms : List Term) → Means shop_schema text (Insert 8 (Values terms 9)) → (params : sql.Row) (n : ℕ) (x : Branch)
     → value_rows params 9 (length terms / 9) terms ≡ eval_all terms (params ∷ []) ∷ [] → eval_all terms (params ∷ []) ≡ Null ∷ branch_columns [] (n, x)
     → are_kept branch_table.columns (branch_columns [] (n, x)) ≡ true → ((id : Value) → columns_of 8 (id ∷ branch_columns [] (n, x)) ≡ branch_columns [] (n, x))

@@ -48,7 +48,7 @@ module _ {A : Type 0} (t : ByNumber A) (text : List ℕ) (shown : List Term) whe
         none_there [] = refl
         none_there (x ∷ xs) = grind (arith, nat_tests)
 
-    -- what the first row tells: `means_it` says that a value that its columns fit is that of the shared row
+    -- what the first row says of the books: `means_it` says that a value that fits the row's columns is the value of the shared row
     pub reads_first : {V : Type 0} (told : A → V) (Fits : sql.Row → V → Type 0) → ((books : Books) (x : A) (v : V) → Fits (show (t.columns books (n, x))) v → v ≡ told x) → (slice : List sql.Row) → slice ≡ rows
         → (None ≡ slice_get slice 0 → Reads old new (λ books. None ≡ head (map told (at n (t.part.items books)))))
         × ((row : sql.Row) (v : V) → Some row ≡ slice_get slice 0 → Fits row v → Reads old new (λ books. Some v ≡ head (map told (at n (t.part.items books)))))
@@ -60,7 +60,7 @@ module _ {A : Type 0} (t : ByNumber A) (text : List ℕ) (shown : List Term) whe
       ),
     )
 
--- what the first row tells of a shared row
+-- what the statement's first row says of the shared row of the number
 abbrev pub ReadsFirst : {A V : Type 0} → ByNumber A → List ℕ → (A → V) → (sql.Row → V → Type 0) → Type 1
 ReadsFirst {A} {V} t text told Fits =
     (old new : State) (n : ℕ) (rows slice : List sql.Row) → Shown text (number_value n ∷ []) old new rows → 1 ≤ n → slice ≡ rows

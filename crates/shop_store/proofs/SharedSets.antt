@@ -62,7 +62,7 @@ module _ {A : Type 0} (t : ByNumber A) (text : List ℕ) (places : List ℕ) (vs
   abbrev pub SetsByNumber : Type 1
   SetsByNumber = (old new : State) (count : ℕ) → 1 ≤ n → ExecutesInside 0 text params old new (Ok count) → Writes old new (λ _. ⊤) change
 
-  -- the premises are `refl` where the text is known, but `kept` where a column may be NULL
+  -- the premises are `refl` if the text is known, except `kept` if a column may be NULL
   pub sets_by_number : Means shop_schema text (Update t.place (record { lets = []; body = plain_query t.table.tree of_number terms [] }))
       → ((books : Books) (it : ℕ × A) → set_columns (t.columns books it) ≡ t.columns books (set_item f it))
       → ((books : Books) (it : ℕ × A) → are_kept t.table.columns (set_columns (t.columns books it)) ≡ true)

@@ -14,6 +14,7 @@ use Rattle.shop_store.proofs.Whether.{reads_any}
 use Rattle.shop_store.proofs.SharedReads.{reads_only}
 use Rattle.shop_store.specs.declared.branches.TheConstants.{SELECT_WITH_TOKEN}
 use Rattle.shop_store.specs.declared.chain.TheConstants.{SELECT_OFFICE, SELECT_OFFICE_TOKEN}
+use Rattle.shop_schema.specs.Trees.{branch_tree}
 
 -- ---- head office
 
@@ -39,7 +40,7 @@ read_office_token =
 
 -- ---- a branch
 
-pub select_branch_means : Selects shop_schema SELECT_WITH_TOKEN.now (plain_query 18 of_token (col 1 1 ∷ []) [])
+pub select_branch_means : Selects shop_schema SELECT_WITH_TOKEN.now (plain_query branch_tree of_token (col 1 1 ∷ []) [])
 unfolding understood everything
 select_branch_means = record { names = _; is = refl; plain = (refl, refl); unlisted = refl }
 
@@ -49,7 +50,7 @@ has_token token branch = bytes_eq branch.token token
 abbrev numbered_has : List ℕ → ℕ × Branch → Bool
 numbered_has token it = has_token token it.1
 
--- the first of the branches that have the token is the one that is meant
+-- the first branch that has the token is the one that `branch_with` finds
 caller_is : (token : List ℕ) (k : ℕ) (branches : List Branch) → branch_caller (head (map (λ (it : ℕ × Branch). it.0) (filter (numbered_has token) (numbered_from k branches)))) ≡ branch_with token k branches
 caller_is token k [] = refl
 caller_is token k (branch ∷ branches) =
@@ -76,7 +77,7 @@ module _ (old new : State) (token : List ℕ) (rows : List sql.Row) (h : Shown S
   abbrev shown : ℕ × Branch → sql.Row
   shown it = number_value it.0 ∷ []
 
-  -- what the first row tells
+  -- what the first row says of the books
   pub read_branch : (None ≡ slice_get rows 0 → Reads old new (λ books. Nobody ≡ branch_with token 1 books.catalogue.branches))
       × ((row : sql.Row) (n : ℕ) → Some row ≡ slice_get rows 0 → column row 0 ≡ number_value n → Reads old new (λ books. Counter n ≡ branch_with token 1 books.catalogue.branches))
   read_branch = (

@@ -1,4 +1,4 @@
--- Whether a SELECT shows a row, as a call tells it.
+-- Calls that return whether a SELECT shows a row.
 use Rattle.shop_schema.proofs.Common.{◌≡◌, ◌==◌, ◌+◌, ◌&&◌, ◌||◌, ℕ, suc, List, [], ◌∷◌, map, filter, length, cond, not, Bool, true, false, Result, refl, ap, ◌∙◌, arith, MutBor, list_all, list_any, bytes_eq, nat_tests, column, Binary, Trees, Term, col, op2, holds, Query, output, Compare, Eq, is_true, Ghosts, Held, state, State, HasRows, columns_of, StoreFault, Selects, plain_query, text_test, text_tested, one_tested, projects_count, still_holds, numbered, numbered_from, Books, shop_schema, counts_of, StandsFor, Reads}
 use Rattle.sqlite.specs.declared.types.Value.TheVariants.{Text}
 use Rattle.sqlite_value.specs.Order as sql
@@ -13,7 +13,7 @@ use Rattle.shop_ledger.specs.Calls.{Finds}
 use Rattle.shop_ledger.proofs.Doing.{does_so}
 use Rattle.shop_store.proofs.ByNumber.{ByNumber}
 
--- the call tells it
+-- the call returns whether the SELECT shows a row
 pub tells : {S : Type 0} {g : Ghosts S} {a b : MutBor (Held S)} {r : Result Bool StoreFault} {P : Books → Bool} (text : List ℕ) (params : sql.Row)
     → DoesInside g a b r (λ shows old new. (rows : List sql.Row) × Shown text params old new rows × (shows ≡ not (length rows == 0)))
     → ((rows : List sql.Row) → Shown text params (state g a.now) (state g b.now) rows → Reads (state g a.now) (state g b.now) (λ books. not (length rows == 0) ≡ P books))
@@ -31,7 +31,7 @@ any_there {X} p (x ∷ xs) =
     more_than_none : (n : ℕ) → not (suc n == 0) ≡ true
     more_than_none n = grind (arith, nat_tests)
 
--- among the items of those that pass a test
+-- some value that is `own` has an item that passes `q` exactly if some item of the `own` values passes it
 pub any_own : {X A : Type 0} (own : X → Bool) (item : X → A) (q : A → Bool) (xs : List X) → list_any (λ x. own x && q (item x)) xs ≡ list_any q (map item (filter own xs))
 any_own own item q [] = refl
 any_own own item q (x ∷ xs) =
@@ -67,7 +67,7 @@ module _ {A : Type 0} (t : ByNumber A) (text : List ℕ) (place : ℕ) where
   abbrev pub with_text : Query
   with_text = plain_query t.table.tree of_text (col 1 1 ∷ []) []
 
-  -- the premises are `refl` where the text and the table are known
+  -- the premises are `refl` if the text and the table are known
   pub reads_text : Selects shop_schema text with_text → (of : A → List ℕ) → ((books : Books) (it : ℕ × A) → column (t.columns books it) place ≡ Text (of it.1))
       → ((name : List ℕ) (r : sql.Row) → cond (list_all (holds ((Text name ∷ []) ∷ r ∷ [])) of_text) (output with_text ((Text name ∷ []) ∷ r ∷ []) ∷ []) []
       ≡ cond (text_test place name (columns_of (length t.table.columns) r) && true) (([], column (columns_of (length t.table.columns) r) 0 ∷ []) ∷ []) [])

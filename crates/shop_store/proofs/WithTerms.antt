@@ -11,7 +11,7 @@ use Rattle.sqlite_value.specs.Order as sql
 
 -- ---- what is shown
 
--- the columns of the first of these, NULLs where there is none
+-- the columns of the first rental, or NULLs if there is none
 abbrev pub rental_shown : List Rental → sql.Row
 rental_shown [] = Null ∷ Null ∷ Null ∷ Null ∷ Null ∷ []
 rental_shown (it ∷ rentals) = moment_value it.rented ∷ number_value it.copy ∷ number_value it.customer ∷ or_null moment_value it.returned ∷ number_value it.staff ∷ []
@@ -95,7 +95,7 @@ all_termed [] (t ∷ terms) p q = tt
 all_termed (rental ∷ rentals) [] p q = tt
 all_termed (rental ∷ rentals) (t ∷ terms) p q = ((p.0, q.0), all_termed rentals terms p.1 q.1)
 
--- rows with the columns of some of the branch's rentals are these
+-- rows that have the columns of some of the branch's rentals are these rentals
 pub termed_told : (b : ℕ) (q : Rental × Terms → Bool) (books : Books) → IsHeld books → (items : List TermedRental) → AllByRecursion (λ (it : TermedRental). IsTermed (seen_termed it)) items
     → map (λ (it : TermedRental). termed_columns (seen_termed it)) items ≡ map termed_columns (filter q (termed (shop_of b books))) → map seen_termed items ≡ filter q (termed (shop_of b books))
 termed_told b q books held items kinds is =

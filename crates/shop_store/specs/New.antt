@@ -1,4 +1,4 @@
--- What new shared rows mean, the number of each standing apart from it, and new tables that have the row of their rule.
+-- Defines what new shared rows mean, each apart from its number, and new tables that have the row of their rule.
 use Rattle.std.specs.Prelude.{ℕ, [], ◌∷◌}
 use Rattle.sqlite_trees.specs.Tree.{Trees}
 use Rattle.sqlite.specs.State.{State}
@@ -14,6 +14,7 @@ use Rattle.shop_store.specs.declared.puts.NewActor.{NewActor}
 use Rattle.shop_store.specs.declared.puts.NewFilm.{NewFilm}
 use Rattle.shop_store.specs.declared.puts.NewBranch.{NewBranch}
 use Rattle.shop_store.specs.declared.puts.NewStaff.{NewStaff}
+use Rattle.shop_schema.specs.Trees.{chain_rule_tree}
 
 abbrev pub seen_city : NewCity → City
 seen_city it = record { name = it.name.now; country = it.country }
@@ -50,15 +51,15 @@ seen_staff it = record {
   gone = it.gone;
 }
 
--- new tables, with no row but that of the rule, which is the manual's code
+-- new tables whose only row is the row of the rule, which is the manual's code
 pub record IsRuled (s : State) : Type 0 where
   pub shop : IsShop s
   pub keyed : IsKeyed s
   pub before : Trees
   pub empty : HaveNoRows before
   pub same : SameBut shop_schema 59 before s.now.trees
-  pub rule : HasRows 1 (s.now.trees 59) (rule_columns ByCode ∷ [])
+  pub rule : HasRows 1 (s.now.trees chain_rule_tree) (rule_columns ByCode ∷ [])
 
--- from new tables, which have no row, the tables come to have what this says
+-- the call fills new tables, which have no row, and `Has` holds afterwards
 abbrev pub Fills : (State → Type 0) → State → State → Type 0
 Fills Has old new = IsShop old → IsKeyed old → HaveNoRows old.now.trees → Has new

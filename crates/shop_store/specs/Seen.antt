@@ -24,7 +24,7 @@ seen_row row = record { branch = row.branch; number = row.number; it = seen_cust
 abbrev pub seen_copy_row : CopyRow → Row BookCopy
 seen_copy_row row = record { branch = row.branch; number = row.number; it = record { film = row.film; state = seen_state row.state; mark = seen_mark row.mark } }
 
--- a copy as it stands, as its branch's shop has it
+-- the current state of a copy, as it is in its branch's shop
 abbrev pub seen_copy_now : CopyNow → Copy
 seen_copy_now it = record { film = it.film; state = seen_state it.state }
 
@@ -32,7 +32,7 @@ seen_copy_now it = record { film = it.film; state = seen_state it.state }
 abbrev pub seen_rental_row : RentalRow → Row Rental
 seen_rental_row row = record { branch = row.branch; number = row.number; it = seen_rental row.rental }
 
--- the same as an open one
+-- the same rental as an open one
 abbrev pub opened_row : RentalRow → Row Rental
 opened_row row = record { branch = row.branch; number = row.number; it = record (seen_rental row.rental) { returned = None } }
 
@@ -49,7 +49,7 @@ seen_payment_row row = record { branch = row.branch; number = row.number; it = s
 abbrev pub seen_termed : TermedRental → Rental × Terms
 seen_termed it = (seen_rental it.rental, seen_terms it.terms)
 
--- the columns that are read of them
+-- the columns that are read of a rental and its terms
 abbrev pub termed_columns : Rental × Terms → sql.Row
 termed_columns it =
     moment_value it.0.rented ∷ number_value it.0.copy ∷ number_value it.0.customer ∷ or_null moment_value it.0.returned ∷ number_value it.0.staff

@@ -1,4 +1,4 @@
--- What is found of shared rows, as the model has it.
+-- Defines what is found of shared rows, in the values of the model.
 use Rattle.std.specs.Prelude.{◌≡◌, ℕ, Bool, List, [], ◌∷◌, length, Option, Some, None}
 use Rattle.sqlite_value.specs.Order as sql
 use Rattle.sqlite_value.specs.Order.{column}
@@ -27,12 +27,12 @@ seen_film_row row = record (seen_film row.film) { withdrawn = row.withdrawn }
 abbrev pub manager_of : Branch → Option ℕ
 manager_of branch = branch.manager
 
--- the number in the first row of those that a query shows, or 0 where it shows none
+-- the number in the first row that a query shows, or 0 if it shows none
 abbrev pub IsFirstNumber : List sql.Row → ℕ → Type 0
 IsFirstNumber [] n = n ≡ 0
 IsFirstNumber (row ∷ rows) n = column row 0 ≡ number_value n
 
--- rows of the table, which are numbered from 1 without a gap
+-- how many rows the table has, which are numbered from 1 without a gap
 abbrev pub how_many : SharedTable → Catalogue → ℕ
 how_many table.Country it = length it.countries
 how_many table.Language it = length it.languages
@@ -43,7 +43,7 @@ how_many table.Film it = length it.films
 how_many table.Branch it = length it.branches
 how_many table.Staff it = length it.staff
 
--- the statement that shows the number of its last row
+-- the statement that shows the number of the table's last row
 abbrev pub last_text : SharedTable → List ℕ
 last_text table.Country = SELECT_LAST_COUNTRY.now
 last_text table.Language = SELECT_LAST_LANGUAGE.now

@@ -16,7 +16,7 @@ use sqlite::{Alter, Transaction};
 
 pub(crate) const SELECT_WITH_TOKEN: &str = "SELECT number FROM branch WHERE token = ?1";
 
-/// The branch whose token it is.
+/// Returns the branch that has the token.
 pub fn branch_with<S: Alter>(
     tx: &mut Transaction<'_, S>,
     token: &Token,
@@ -34,7 +34,8 @@ pub fn branch_with<S: Alter>(
 
 const SELECT_MANAGER: &str = "SELECT manager FROM branch WHERE number = ?1";
 
-/// Who manages the branch of the number, if anyone; nothing at all where there is no such branch.
+/// Returns the manager of the branch of the number. The inner option is none if nobody manages the branch. The outer
+/// option is none if there is no such branch.
 pub fn branch_manager<S: Alter>(
     tx: &mut Transaction<'_, S>,
     branch: BranchNo,

@@ -1,4 +1,4 @@
-//! What the chain has of itself: head office's token, and the rule by which balances go.
+//! The chain's own row and rule: head office's token, and the rule for balances.
 
 ghost use Rattle.std.specs.Prelude.{⊤, ◌≡◌, IfOk};
 ghost use Rattle.std.specs.Str.{bytes_eq};
@@ -19,7 +19,7 @@ use sqlite::{Alter, Row, Transaction};
 
 const SELECT_OFFICE: &str = "SELECT version FROM chain WHERE office_token = ?1";
 
-/// Whether it is head office's token.
+/// Returns whether the token is head office's.
 pub fn is_office<S: Alter>(tx: &mut Transaction<'_, S>, token: &Token) -> Result<bool, StoreFault>
     ensures { DoesInside S.Store tx.old.conn tx.new.conn result
         (λ is. Finds (λ books. is ≡ bytes_eq token.now books.catalogue.office_token)) }
@@ -29,7 +29,7 @@ pub fn is_office<S: Alter>(tx: &mut Transaction<'_, S>, token: &Token) -> Result
 
 const SELECT_OFFICE_TOKEN: &str = "SELECT office_token FROM chain";
 
-/// Head office's token.
+/// Returns head office's token.
 pub fn office_token<S: Alter>(tx: &mut Transaction<'_, S>) -> Result<Token, StoreFault>
     ensures { DoesInside S.Store tx.old.conn tx.new.conn result
         (λ token. Finds (λ books. token ≡ books.catalogue.office_token)) }
@@ -40,7 +40,7 @@ pub fn office_token<S: Alter>(tx: &mut Transaction<'_, S>) -> Result<Token, Stor
     }
 }
 
-/// The rule in the row.
+/// Reads the rule in the row.
 fn rule_in(row: &Row) -> Result<Rule, StoreFault>
     ensures { IfOk result (λ rule. column row.now 0 ≡ rule_value (seen_rule rule)) }
 {
@@ -51,7 +51,7 @@ fn rule_in(row: &Row) -> Result<Rule, StoreFault>
     }
 }
 
-/// The number of the rule, as the table has it.
+/// Returns the rule's number in the table.
 fn rule_code(rule: Rule) -> u32
     ensures { number_value result ≡ rule_value (seen_rule rule) }
 {
@@ -63,7 +63,7 @@ fn rule_code(rule: Rule) -> u32
 
 const SELECT_RULE: &str = "SELECT comment_rule FROM chain_rule";
 
-/// By which rule balances go.
+/// Returns the rule for balances.
 pub fn rule_at<S: Alter>(tx: &mut Transaction<'_, S>) -> Result<Rule, StoreFault>
     ensures { DoesInside S.Store tx.old.conn tx.new.conn result
         (λ rule. Finds (λ books. seen_rule rule ≡ books.catalogue.rule)) }
@@ -76,7 +76,7 @@ pub fn rule_at<S: Alter>(tx: &mut Transaction<'_, S>) -> Result<Rule, StoreFault
 
 const UPDATE_RULE: &str = "UPDATE chain_rule SET comment_rule = ?1";
 
-/// Sets by which rule balances go. After a fault the transaction may be rolled back.
+/// Sets the rule for balances. After a fault the transaction may be rolled back.
 pub fn set_rule<S: Alter>(tx: &mut Transaction<'_, S>, rule: Rule) -> Result<(), StoreFault>
     ensures { DoesInside S.Store tx.old.conn tx.new.conn result
         (λ _. Stores (λ _. ⊤)

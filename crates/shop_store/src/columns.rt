@@ -1,4 +1,4 @@
-//! Tokens as texts, and read from a column. Where that holds none, the fault is `Failed`.
+//! Tokens as texts, and tokens read from a column. If the column holds no token, the fault is `Failed`.
 
 ghost use Rattle.std.specs.Prelude.{◌≡◌, IfOk};
 ghost use Rattle.sqlite.specs.declared.types.Value.TheVariants.{Text as SqlText};
@@ -9,14 +9,14 @@ use shop_types::Token;
 use sql_rows::StoreFault;
 use sqlite::Row;
 
-/// The token as a text.
+/// Returns the token as a text.
 pub(crate) fn token_text(token: &Token) -> &str
     ensures { result.now ≡ token.now }
 {
     std::str::from_utf8(token.as_bytes().as_slice()).unwrap()
 }
 
-/// The token in the column.
+/// Returns the token in the column.
 pub(crate) fn token_at(row: &Row, at: usize) -> Result<Token, StoreFault>
     ensures { IfOk result (λ token. column row.now at ≡ SqlText token) }
 {

@@ -26,7 +26,7 @@ use sqlite::types::{ToSql, ValueRef};
 use sqlite::{Alter, Row, Transaction};
 use std::alloc::Global;
 
-/// A copy of a branch, by the number that it has there.
+/// A copy of a branch, with its number there.
 #[derive(Clone, Copy, Drop)]
 pub struct CopyRow {
     pub branch: BranchNo,
@@ -36,7 +36,7 @@ pub struct CopyRow {
     pub mark: Mark,
 }
 
-/// How a copy stands: its film, where it is, and its open rental, where it is out.
+/// The current state of a copy: its film, where it is, and its open rental, if it is out.
 #[derive(Clone, Copy)]
 pub struct CopyNow {
     pub film: FilmNo,
@@ -67,7 +67,7 @@ impl Stored for CopyRow {
 }
 
 impl CopyRow {
-    /// The columns in order, as parameters.
+    /// Returns the columns in order, as parameters.
     fn values(&self) -> [ValueRef<'static>; 6]
         ensures { bound result ≡ copy_columns (seen_copy_row self.now) }
     {
@@ -85,7 +85,7 @@ impl CopyRow {
 const SELECT_COPY: &str =
     "SELECT branch, number, film, state, origin_branch, origin_copy FROM copy WHERE branch = ?1 AND number = ?2";
 
-/// The copy of the number, in whatever state, if the branch has it.
+/// Returns the branch's copy of the number, in whatever state, or none if there is no such copy.
 pub fn copy_at<S: Alter>(
     tx: &mut Transaction<'_, S>,
     branch: BranchNo,
@@ -102,7 +102,7 @@ pub fn copy_at<S: Alter>(
     )
 }
 
-/// How the copy in the row stands.
+/// Reads the current state of the copy in the row.
 fn now_in(row: &Row) -> Result<CopyNow, StoreFault>
     ensures { IfOk result (λ it. (column row.now 0 ≡ number_value it.film)
         × (column row.now 1 ≡ state_value (seen_state it.state)) × (column row.now 2 ≡ or_null number_value it.out)) }
@@ -117,7 +117,8 @@ fn now_in(row: &Row) -> Result<CopyNow, StoreFault>
 const SELECT_NOW: &str =
     "SELECT c.film, c.state, o.rental FROM copy AS c LEFT JOIN out_copy AS o ON o.branch = c.branch AND o.copy = c.number WHERE c.branch = ?1 AND c.number = ?2";
 
-/// How the copy of the number stands, if the branch has it. No copy has two open rentals.
+/// Returns the current state of the branch's copy of the number, or none if there is no such copy. No copy has two open
+/// rentals.
 pub fn copy_now_at<S: Alter>(
     tx: &mut Transaction<'_, S>,
     branch: BranchNo,
@@ -140,8 +141,8 @@ pub fn copy_now_at<S: Alter>(
 const SELECT_COPIES_OF_FILM: &str =
     "SELECT branch, number, film, state, origin_branch, origin_copy FROM copy WHERE branch = ?1 AND film = ?2 ORDER BY number";
 
-/// The copies of the film that the branch has, in whatever state, in order of number. After a fault the transaction
-/// may be rolled back.
+/// Returns the copies of the film that the branch has, in whatever state, in order of number. After a fault the
+/// transaction may be rolled back.
 pub fn copies_of_film<S: Alter>(
     alloc: Global,
     tx: &mut Transaction<'_, S>,
@@ -163,7 +164,8 @@ pub fn copies_of_film<S: Alter>(
 const SELECT_IN_STATE: &str =
     "SELECT number FROM copy WHERE branch = ?1 AND state = ?2 ORDER BY number";
 
-/// The numbers of the branch's copies in that state, in order. After a fault the transaction may be rolled back.
+/// Returns the numbers of the branch's copies in that state, in order. After a fault the transaction may be rolled
+/// back.
 pub fn copies_in_state<S: Alter>(
     alloc: Global,
     tx: &mut Transaction<'_, S>,
@@ -185,8 +187,8 @@ pub fn copies_in_state<S: Alter>(
 
 const UPDATE_STATE: &str = "UPDATE copy SET state = ?3 WHERE branch = ?1 AND number = ?2";
 
-/// Sets where the copy is, of which there are no two. A copy that isn't there is not made. After a fault the
-/// transaction may be rolled back.
+/// Sets where the copy is. The branch must have at most one copy of the number. A copy that isn't there is not made.
+/// After a fault the transaction may be rolled back.
 pub fn set_state<S: Alter>(
     tx: &mut Transaction<'_, S>,
     branch: BranchNo,
@@ -221,7 +223,7 @@ pub fn put_copy<S: Alter>(tx: &mut Transaction<'_, S>, row: CopyRow) -> Result<(
 
 const SELECT_LOT: &str = "SELECT name FROM lot WHERE branch = ?1 AND name = ?2";
 
-/// Whether the branch imported a lot of the name.
+/// Returns whether the branch imported a lot of the name.
 pub fn has_lot<S: Alter>(
     tx: &mut Transaction<'_, S>,
     branch: BranchNo,

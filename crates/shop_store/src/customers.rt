@@ -55,7 +55,7 @@ impl Stored for CustomerRow {
 }
 
 impl CustomerRow {
-    /// The columns in order, as parameters, without the moment.
+    /// Returns the columns in order, as parameters, without the moment.
     fn values<'a>(&'a self, created: &'a MomentText) -> [ValueRef<'a>; 10]
         requires { created.now ≡ moment_text self.now.customer.created }
         ensures { bound result ≡ customer_columns (seen_row self.now) }
@@ -78,7 +78,7 @@ impl CustomerRow {
 const SELECT_CUSTOMER: &str =
     "SELECT branch, number, first, last, address, postal, phone, city, active, created FROM customer WHERE branch = ?1 AND number = ?2";
 
-/// The customer of the number, if the branch has it.
+/// Returns the branch's customer of the number, or none if there is no such customer.
 pub fn customer_at<S: Alter>(
     tx: &mut Transaction<'_, S>,
     branch: BranchNo,
@@ -97,7 +97,7 @@ pub fn customer_at<S: Alter>(
 
 const SELECT_ACTIVE: &str = "SELECT active FROM customer WHERE branch = ?1 AND number = ?2";
 
-/// Whether the customer of the number may rent, if the branch has it.
+/// Returns whether the branch's customer of the number may rent, or none if there is no such customer.
 pub fn active_at<S: Alter>(
     tx: &mut Transaction<'_, S>,
     branch: BranchNo,

@@ -1,4 +1,4 @@
-//! Films: one with all its columns, what is asked of one, and what head office sets in it.
+//! Films: a film with all its columns, single columns of a film, and what head office sets in it.
 
 ghost use Rattle.std.specs.Prelude.{⊤, ◌≡◌, true, length, map, option_map};
 ghost use Rattle.std.specs.Option.{option_to_list};
@@ -57,7 +57,7 @@ impl Stored for FilmRow {
 const SELECT_FILM: &str =
     "SELECT number, title, description, language, category, period, rate, replacement, length, rating, features, withdrawn FROM film WHERE number = ?1";
 
-/// The film of the number, withdrawn or not, where there is such a film.
+/// Returns the film of the number, withdrawn or not, or none if there is no such film.
 pub fn film_row<S: Alter>(
     tx: &mut Transaction<'_, S>,
     number: FilmNo,
@@ -70,7 +70,7 @@ pub fn film_row<S: Alter>(
 
 const SELECT_WITHDRAWN: &str = "SELECT withdrawn FROM film WHERE number = ?1";
 
-/// Whether the film of the number is withdrawn, where there is such a film.
+/// Returns whether the film of the number is withdrawn, or none if there is no such film.
 pub fn film_withdrawn<S: Alter>(
     tx: &mut Transaction<'_, S>,
     film: FilmNo,
@@ -109,7 +109,8 @@ pub fn set_rate<S: Alter>(
 
 const UPDATE_WITHDRAWN: &str = "UPDATE film SET withdrawn = ?2 WHERE number = ?1";
 
-/// Takes the film out of the catalogue, where it stays as withdrawn. After a fault the transaction may be rolled back.
+/// Takes the film out of the catalogue. Its row stays, marked as withdrawn. After a fault the transaction may be rolled
+/// back.
 pub fn set_withdrawn<S: Alter>(tx: &mut Transaction<'_, S>, film: FilmNo) -> Result<(), StoreFault>
     ensures { DoesInside S.Store tx.old.conn tx.new.conn result
         (λ _. Stores (λ _. ⊤) (λ books. record books {

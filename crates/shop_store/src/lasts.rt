@@ -1,5 +1,5 @@
-//! The last number of each table of shared rows. Rows are numbered from 1 without a gap, so it is how many there are,
-//! and a new row's number is one more.
+//! The last number of each table of shared rows. Rows are numbered from 1 without a gap, so the last number is the
+//! count of rows, and a new row's number is one more.
 
 ghost use Rattle.std.specs.Prelude.{◌≡◌, List, []};
 ghost use Rattle.sqlite.specs.State.{Shown};
@@ -25,7 +25,7 @@ pub enum SharedTable {
     Staff,
 }
 
-/// The number in the first row that the query shows, or 0 where it shows none.
+/// Returns the number in the first row that the query shows, or 0 if it shows none.
 fn number_shown<S: Alter>(tx: &mut Transaction<'_, S>, text: &str) -> Result<u32, StoreFault>
     ensures { DoesInside S.Store tx.old.conn tx.new.conn result
         (λ n old new. (rows : List SqlRow) × Shown text.now [] old new rows × IsFirstNumber rows n) }
@@ -50,7 +50,7 @@ const SELECT_LAST_BRANCH: &str = "SELECT number FROM branch ORDER BY number DESC
 const SELECT_LAST_STAFF: &str = "SELECT number FROM staff ORDER BY number DESC LIMIT 1";
 
 impl SharedTable {
-    /// The statement that shows the number of the table's last row.
+    /// Returns the statement that shows the number of the table's last row.
     fn last_row(self) -> &'static str
         ensures { result.now ≡ last_text self }
     {
@@ -67,7 +67,7 @@ impl SharedTable {
     }
 }
 
-/// The number of the table's last row, or 0 where it has none.
+/// Returns the number of the table's last row, or 0 if the table has no row.
 pub fn last_number<S: Alter>(
     tx: &mut Transaction<'_, S>,
     table: SharedTable,

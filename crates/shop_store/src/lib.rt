@@ -1,7 +1,7 @@
-//! Rows of a branch's tables, customers, copies, lots, rentals with their terms and payments, and rows that all
-//! branches share: whose token it is, what there is of each table, how rows are added and what is set in them; and
-//! the chain's rule. One function a statement; each works inside a transaction of the caller's, and tells what it
-//! found or made of the books that the tables stand for.
+//! Reads and writes the rows of a branch's tables: customers, copies, lots, rentals with their terms, and payments. It
+//! also reads and writes the rows that all branches share, and the chain's rule: whose token it is, what each table
+//! has, how rows are added and what is set in them. Each statement has one function. Each function works inside a
+//! transaction of the caller. Its contract says what it found or changed in the books that the tables stand for.
 #![tactic(auto)]
 
 pub mod branches;

@@ -51,7 +51,7 @@ fn put_rule<S: Alter>(tx: &mut Transaction<'_, S>) -> Result<(), StoreFault>
 
 const INSERT_CHAIN: &str = "INSERT INTO chain (version, office_token) VALUES (2, ?1)";
 
-/// Gives new tables that have their rule their row of the table `chain`, and no count. After a fault the transaction
+/// Adds the row of the table `chain`, and no count, to new tables that have their rule. After a fault the transaction
 /// may be rolled back.
 fn put_chain<S: Alter>(tx: &mut Transaction<'_, S>, token: &Token) -> Result<(), StoreFault>
     ensures { DoesInside S.Store tx.old.conn tx.new.conn result
@@ -60,7 +60,7 @@ fn put_chain<S: Alter>(tx: &mut Transaction<'_, S>, token: &Token) -> Result<(),
     execute(tx, INSERT_CHAIN, &[ValueRef::Text(token.as_bytes())])
 }
 
-/// Gives new tables their rule, head office's token and its count, so that they are those of a chain with no shared
+/// Gives new tables their rule, head office's token and its count. Then they are the tables of a chain with no shared
 /// row. After a fault the transaction may be rolled back.
 pub fn put_token<S: Alter>(tx: &mut Transaction<'_, S>, token: &Token) -> Result<(), StoreFault>
     ensures { DoesInside S.Store tx.old.conn tx.new.conn result
@@ -71,7 +71,7 @@ pub fn put_token<S: Alter>(tx: &mut Transaction<'_, S>, token: &Token) -> Result
     put_count(tx, 0, 4, 0)
 }
 
-/// A token of 32 times the digit.
+/// Returns the token that has the digit 32 times.
 fn token_with(digit: u8) -> Token
     requires { digit < 10 }
     ensures { result ≡ token_of digit }

@@ -49,7 +49,7 @@ impl Stored for PaymentRow {
     }
 }
 
-/// The rental's number, or NULL where there is none.
+/// Returns the rental's number, or NULL if there is none.
 fn rental_or_null(rental: Option<RentalNo>) -> ValueRef<'static>
     ensures { owned result ≡ or_null number_value rental }
 {
@@ -59,7 +59,7 @@ fn rental_or_null(rental: Option<RentalNo>) -> ValueRef<'static>
     }
 }
 
-/// The columns of the payment in order, as parameters.
+/// Returns the columns of the payment in order, as parameters.
 fn values<'a>(row: &PaymentRow, paid: &'a MomentText) -> [ValueRef<'a>; 7]
     requires { paid.now ≡ moment_text row.now.payment.paid }
     ensures { bound result ≡ payment_columns (seen_payment_row row.now) }
@@ -78,7 +78,8 @@ fn values<'a>(row: &PaymentRow, paid: &'a MomentText) -> [ValueRef<'a>; 7]
 const SELECT_PAYMENTS_OF_CUSTOMER: &str =
     "SELECT branch, number, customer, staff, rental, amount, moment FROM payment WHERE branch = ?1 AND customer = ?2 ORDER BY number";
 
-/// All payments of the branch's customer, in order of number. After a fault the transaction may be rolled back.
+/// Returns all payments of the branch's customer, in order of number. After a fault the transaction may be rolled
+/// back.
 pub fn payments_of_customer<S: Alter>(
     alloc: Global,
     tx: &mut Transaction<'_, S>,
@@ -100,7 +101,7 @@ pub fn payments_of_customer<S: Alter>(
 const SELECT_PAYMENTS_BETWEEN: &str =
     "SELECT branch, number, customer, staff, rental, amount, moment FROM payment WHERE branch = ?1 AND moment >= ?2 AND moment < ?3 ORDER BY number";
 
-/// The branch's payments from the one moment on and before the other, in order of number. After a fault the
+/// Returns the branch's payments from the first moment on and before the second, in order of number. After a fault the
 /// transaction may be rolled back.
 pub fn payments_between<S: Alter>(
     alloc: Global,

@@ -43,11 +43,11 @@ pub struct NewFilm<'a> {
     pub category: CategoryNo,
     /// For how many days it is rented.
     pub period: u32,
-    /// What that costs, in cents.
+    /// What a rental costs, in cents.
     pub rate: u32,
-    /// What a copy costs that is not brought back, in cents.
+    /// What a copy that is not brought back costs, in cents.
     pub replacement: u32,
-    /// How long it takes, where that is known.
+    /// How long it takes, if that is known.
     pub minutes: Option<u32>,
     pub rating: &'a str,
     /// The special features, as the sample database writes them.
@@ -137,7 +137,7 @@ impl NewFilm<'_> {
 }
 
 impl NewBranch<'_> {
-    /// The columns but the last moment, which is NULL.
+    /// Returns the columns but the last moment, which is NULL.
     fn values(&self) -> [ValueRef<'_>; 7]
         ensures { bound result ≡ branch_params self.now.number (seen_branch self.now) }
     {

@@ -48,7 +48,7 @@ impl Stored for RentalRow {
     }
 }
 
-/// The columns of the rental in order, as parameters, with no moment of return.
+/// Returns the columns of the rental in order, as parameters, with no moment of return.
 fn values<'a>(row: &RentalRow, rented: &'a MomentText) -> [ValueRef<'a>; 7]
     requires { rented.now ≡ moment_text row.now.rental.rented }
     ensures { bound result ≡ rental_columns (opened_row row.now) }
@@ -67,7 +67,7 @@ fn values<'a>(row: &RentalRow, rented: &'a MomentText) -> [ValueRef<'a>; 7]
 const SELECT_RENTAL: &str =
     "SELECT branch, number, moment, copy, customer, returned, staff FROM rental WHERE branch = ?1 AND number = ?2";
 
-/// The rental of the number, if the branch has it.
+/// Returns the branch's rental of the number, or none if there is no such rental.
 pub fn rental_at<S: Alter>(
     tx: &mut Transaction<'_, S>,
     branch: BranchNo,
@@ -87,7 +87,8 @@ pub fn rental_at<S: Alter>(
 const SELECT_SAME_RENTAL: &str =
     "SELECT number FROM rental WHERE branch = ?1 AND moment = ?2 AND copy = ?3 AND customer = ?4";
 
-/// Whether the branch has a rental of the moment, copy and customer. No two rentals share these, and one row is read.
+/// Returns whether the branch has a rental of the moment, copy and customer. No two rentals share all three, and one
+/// row is read.
 pub fn has_rental<S: Alter>(
     tx: &mut Transaction<'_, S>,
     branch: BranchNo,

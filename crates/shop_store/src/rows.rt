@@ -17,7 +17,7 @@ use sql_rows::{StoreFault, query};
 use sqlite::types::{ToSql, ValueRef};
 use sqlite::{Alter, Transaction};
 
-/// Whether the query shows a row.
+/// Returns whether the query shows a row.
 pub(crate) fn shows_row<S: Alter>(
     tx: &mut Transaction<'_, S>,
     text: &str,
@@ -33,7 +33,7 @@ pub(crate) fn shows_row<S: Alter>(
 
 const SELECT_COUNTRY: &str = "SELECT number FROM country WHERE number = ?1";
 
-/// Whether there is a country of the number.
+/// Returns whether there is a country of the number.
 pub fn has_country<S: Alter>(
     tx: &mut Transaction<'_, S>,
     country: CountryNo,
@@ -46,7 +46,7 @@ pub fn has_country<S: Alter>(
 
 const SELECT_LANGUAGE: &str = "SELECT number FROM language WHERE number = ?1";
 
-/// Whether there is a language of the number.
+/// Returns whether there is a language of the number.
 pub fn has_language<S: Alter>(
     tx: &mut Transaction<'_, S>,
     language: LanguageNo,
@@ -59,7 +59,7 @@ pub fn has_language<S: Alter>(
 
 const SELECT_CATEGORY: &str = "SELECT number FROM category WHERE number = ?1";
 
-/// Whether there is a category of the number.
+/// Returns whether there is a category of the number.
 pub fn has_category<S: Alter>(
     tx: &mut Transaction<'_, S>,
     category: CategoryNo,
@@ -72,7 +72,7 @@ pub fn has_category<S: Alter>(
 
 const SELECT_CITY: &str = "SELECT number FROM city WHERE number = ?1";
 
-/// Whether there is a city of the number.
+/// Returns whether there is a city of the number.
 pub fn has_city<S: Alter>(tx: &mut Transaction<'_, S>, city: CityNo) -> Result<bool, StoreFault>
     ensures { DoesInside S.Store tx.old.conn tx.new.conn result
         (λ has. Finds (λ books. has ≡ not (lacks books.catalogue.cities city))) }
@@ -82,7 +82,7 @@ pub fn has_city<S: Alter>(tx: &mut Transaction<'_, S>, city: CityNo) -> Result<b
 
 const SELECT_ACTOR: &str = "SELECT number FROM actor WHERE number = ?1";
 
-/// Whether there is an actor of the number.
+/// Returns whether there is an actor of the number.
 pub fn has_actor<S: Alter>(tx: &mut Transaction<'_, S>, actor: ActorNo) -> Result<bool, StoreFault>
     ensures { DoesInside S.Store tx.old.conn tx.new.conn result
         (λ has. Finds (λ books. has ≡ not (lacks books.catalogue.actors actor))) }
@@ -92,7 +92,7 @@ pub fn has_actor<S: Alter>(tx: &mut Transaction<'_, S>, actor: ActorNo) -> Resul
 
 const SELECT_COUNTRY_NAMED: &str = "SELECT number FROM country WHERE name = ?1";
 
-/// Whether a country has the name, by its bytes.
+/// Returns whether a country has the name, by its bytes.
 pub fn is_country<S: Alter>(tx: &mut Transaction<'_, S>, name: &str) -> Result<bool, StoreFault>
     ensures { DoesInside S.Store tx.old.conn tx.new.conn result
         (λ is. Finds (λ books. is ≡ list_any (bytes_eq name.now) books.catalogue.countries)) }
@@ -102,7 +102,7 @@ pub fn is_country<S: Alter>(tx: &mut Transaction<'_, S>, name: &str) -> Result<b
 
 const SELECT_LANGUAGE_NAMED: &str = "SELECT number FROM language WHERE name = ?1";
 
-/// Whether a language has the name, by its bytes.
+/// Returns whether a language has the name, by its bytes.
 pub fn is_language<S: Alter>(tx: &mut Transaction<'_, S>, name: &str) -> Result<bool, StoreFault>
     ensures { DoesInside S.Store tx.old.conn tx.new.conn result
         (λ is. Finds (λ books. is ≡ list_any (bytes_eq name.now) books.catalogue.languages)) }
@@ -112,7 +112,7 @@ pub fn is_language<S: Alter>(tx: &mut Transaction<'_, S>, name: &str) -> Result<
 
 const SELECT_CATEGORY_NAMED: &str = "SELECT number FROM category WHERE name = ?1";
 
-/// Whether a category has the name, by its bytes.
+/// Returns whether a category has the name, by its bytes.
 pub fn is_category<S: Alter>(tx: &mut Transaction<'_, S>, name: &str) -> Result<bool, StoreFault>
     ensures { DoesInside S.Store tx.old.conn tx.new.conn result
         (λ is. Finds (λ books. is ≡ list_any (bytes_eq name.now) books.catalogue.categories)) }
@@ -120,7 +120,7 @@ pub fn is_category<S: Alter>(tx: &mut Transaction<'_, S>, name: &str) -> Result<
     shows_row(tx, SELECT_CATEGORY_NAMED, &[name.to_sql()])
 }
 
-/// Whether a branch has the token. Head office's is another question.
+/// Returns whether a branch has the token. Head office's token is not checked.
 pub fn has_token<S: Alter>(tx: &mut Transaction<'_, S>, token: &Token) -> Result<bool, StoreFault>
     ensures { DoesInside S.Store tx.old.conn tx.new.conn result
         (λ has. Finds (λ books. has ≡ list_any (λ it. bytes_eq it.token token.now) books.catalogue.branches)) }
@@ -130,7 +130,7 @@ pub fn has_token<S: Alter>(tx: &mut Transaction<'_, S>, token: &Token) -> Result
 
 const SELECT_CAST: &str = "SELECT film FROM film_actor WHERE film = ?1 AND actor = ?2";
 
-/// Whether the actor is in the film's cast.
+/// Returns whether the actor is in the film's cast.
 pub fn has_cast<S: Alter>(
     tx: &mut Transaction<'_, S>,
     film: FilmNo,

@@ -15,7 +15,7 @@ use sql_rows::{StoreFault, execute, flag_at};
 use sqlite::types::ToSql;
 use sqlite::{Alter, Row, Transaction};
 
-/// Where the member of staff in the row works.
+/// Returns where the member of staff in the row works.
 fn post_in(row: &Row) -> Result<StaffFound, StoreFault>
     ensures { IfOk result (λ it. (column row.now 0 ≡ number_value it.branch)
         × (column row.now 1 ≡ flag_value it.gone)) }
@@ -28,7 +28,7 @@ fn post_in(row: &Row) -> Result<StaffFound, StoreFault>
 
 const SELECT_POST: &str = "SELECT branch, gone FROM staff WHERE number = ?1";
 
-/// Where the member of staff of the number works, or worked before leaving.
+/// Returns where the member of staff of the number works, or worked before leaving.
 pub fn staff_at<S: Alter>(
     tx: &mut Transaction<'_, S>,
     staff: StaffNo,

@@ -65,8 +65,8 @@ impl Stored for TermedRental {
 const SELECT_TERMED: &str =
     "SELECT r.moment, r.copy, r.customer, r.returned, r.staff, t.rate, t.period, t.replacement FROM rental AS r LEFT JOIN rental_terms AS t ON t.branch = r.branch AND t.rental = r.number WHERE r.branch = ?1 AND r.customer = ?2 ORDER BY r.number";
 
-/// The rentals of the branch's customer, in order of number, each with its terms. A rental without terms is the fault
-/// `Failed`; no sound table has one. After a fault the transaction may be rolled back.
+/// Returns the rentals of the branch's customer, in order of number, each with its terms. A rental without terms is
+/// the fault `Failed`; no sound table has one. After a fault the transaction may be rolled back.
 pub fn termed_of_customer<S: Alter>(
     alloc: Global,
     tx: &mut Transaction<'_, S>,

@@ -18,7 +18,7 @@ pub struct TermsRow {
     pub terms: Terms,
 }
 
-/// The columns of the terms in order, as parameters.
+/// Returns the columns of the terms in order, as parameters.
 fn values(row: &TermsRow) -> [ValueRef<'_>; 5]
     ensures { bound result ≡ terms_columns (seen_terms_row row.now) }
 {

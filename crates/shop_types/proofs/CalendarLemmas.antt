@@ -1,4 +1,4 @@
--- The day numbers of our calendar are those of jiff's.
+-- Our calendar and jiff's calendar give each day the same number.
 use Rattle.shop_model.proofs.Common.{◌≡◌, ◌∙◌, refl, sym, ap, arith, ℕ, zero, suc, ℤ, pos, ◌+◌, ◌-◌, ◌≤◌, negsuc, Moment, IsMoment, days_in_month}
 use Rattle.jiff_core.proofs.SignedLemmas.{signed_arith}
 use Rattle.jiff_core.proofs.CalendarLemmas.{day_count-epoch, day_count-next_year, day_count-day_of_year, days_from_civil-day_count}

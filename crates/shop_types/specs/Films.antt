@@ -1,4 +1,4 @@
--- What a film's rating and special features are as texts: those of the Sakila sample database.
+-- Defines the texts of a film's rating and special features, which are the same as in the Sakila sample database.
 use Rattle.std.specs.Prelude.{ℕ, Bool, true, false, List, [], ◌++◌, ◌∷◌, Option, codes, find}
 use Rattle.std.specs.Str.{bytes_eq}
 use Rattle.shop_types.specs.declared.film.Rating.{Rating}

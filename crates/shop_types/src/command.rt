@@ -43,7 +43,7 @@ pub enum Act {
         number: ConsignmentNo,
         missing: LineNos,
     },
-    /// Takes a copy out of the shop for good.
+    /// Takes a copy out of the shop permanently.
     Scrap(CopyNo),
 }
 

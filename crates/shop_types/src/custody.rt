@@ -40,7 +40,7 @@ pub enum CopyState {
     Scrapped,
 }
 
-/// Whether a copy in that state is in the branch, or rented out by it.
+/// Returns whether a copy in that state is in the branch, or rented out by it.
 pub fn is_here(state: CopyState) -> bool
     ensures { (film : ℕ) → result ≡ is_here (record { film = film; state = seen_state state }) }
 {
@@ -50,7 +50,7 @@ pub fn is_here(state: CopyState) -> bool
     }
 }
 
-/// What became of a line of a consignment.
+/// The state of a line of a consignment.
 #[derive(Clone, Copy)]
 pub enum LineState {
     /// The consignment isn't received yet.

@@ -23,7 +23,7 @@ impl Model for Period {
 }
 
 impl Period {
-    /// The period, where it is not 0.
+    /// Returns the period, or none if it is 0.
     pub fn new(days: u8) -> Option<Period>
         ensures { result ≡ (if nat_lt 0 days then Some days else None) }
     {
@@ -55,7 +55,7 @@ impl Model for Minutes {
 }
 
 impl Minutes {
-    /// The length, where it is not 0.
+    /// Returns the length, or none if it is 0.
     pub fn new(minutes: u16) -> Option<Minutes>
         ensures { result ≡ (if nat_lt 0 minutes then Some minutes else None) }
     {
@@ -98,7 +98,7 @@ impl Rating {
         }
     }
 
-    /// The rating that the sample database spells so.
+    /// Returns the rating that the sample database spells so.
     pub fn read(text: &str) -> Option<Rating>
         ensures value { result ≡ rating_of text.now }
         ensures some { IfSome result (λ rating. rating_text rating ≡ text.now) }
@@ -154,7 +154,8 @@ impl Features {
         }
     }
 
-    /// The features whose names the text has: each at most once, in the sample database's order, with commas between.
+    /// Returns the features whose names the text has: each at most once, in the sample database's order, with commas
+    /// between.
     pub fn read(text: &str) -> Option<Features>
         ensures value { result ≡ features_of text.now }
         ensures some { IfSome result (λ features. features_text features ≡ text.now) }

@@ -53,7 +53,7 @@ fn fits(text: &str) -> bool
 }
 
 impl<const KIND: u8> Name<KIND> {
-    /// The name, where the text is one. It takes the `String`, and so no memory.
+    /// Returns the name, if the text is one. It takes the `String`, and so no memory.
     pub fn read(text: String) -> Option<Name<KIND>>
         ensures { result ≡ (if is_key (string_bytes text) then Some (string_bytes text) else None) }
     {

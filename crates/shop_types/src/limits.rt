@@ -30,7 +30,7 @@ fn is_in_range(number: u32) -> bool
 }
 
 impl Limits {
-    /// The limits, where both numbers are from 1 to 1,000,000.
+    /// Returns the limits, if both numbers are from 1 to 1,000,000.
     pub fn new(commands: u32, copies: u32) -> Option<Limits>
         ensures { result ≡ limits_of commands copies }
     {

@@ -35,7 +35,7 @@ fn is_digit(b: u8) -> bool
     b >= b'0' && b <= b'9'
 }
 
-/// The number that the two bytes from `at` on write in decimal, where they are digits.
+/// Returns the number that the two bytes from `at` on write in decimal, if they are digits.
 fn pair(bytes: &[u8], at: usize) -> u8
     requires { at + 1 < length bytes.now }
     ensures { (n : ℕ) → IsDigits n (slice_index bytes.now at) (slice_index bytes.now (at + 1)) → result ≡ n }
@@ -49,7 +49,7 @@ fn pair(bytes: &[u8], at: usize) -> u8
     }
 }
 
-/// The last decimal digit of a number, as a byte.
+/// Returns the last decimal digit of a number, as a byte.
 fn digit_of(n: u16) -> u8
     ensures { result ≡ digit n }
 {
@@ -57,7 +57,7 @@ fn digit_of(n: u16) -> u8
 }
 
 impl Moment {
-    /// The moment of these parts, where the calendar has it.
+    /// Returns the moment with the given parts, or none if the calendar has no such moment.
     fn from_parts(year: u16, month: u8, day: u8, hour: u8, minute: u8, second: u8) -> Option<Moment>
         ensures some { IfSome result (λ m. (m ≡ record
             { year = year; month = month; day = day; hour = hour; minute = minute; second = second })
@@ -88,7 +88,7 @@ impl Moment {
         })
     }
 
-    /// The first second of a month.
+    /// Returns the first second of a month.
     pub fn month_start(year: u16, month: u8) -> Moment
         requires year_low { 1970 ≤ year }
         requires year_high { year ≤ 9999 }
@@ -106,8 +106,8 @@ impl Moment {
         }
     }
 
-    /// The moment that the 19 bytes `YYYY-MM-DDTHH:MM:SS` write: a date of the calendar from 1970 to 9999 and a time
-    /// of day.
+    /// Returns the moment that the 19 bytes `YYYY-MM-DDTHH:MM:SS` write: a date of the calendar from 1970 to 9999 and
+    /// a time of day.
     pub fn read(text: &str) -> Option<Moment>
         ensures some { IfSome result (λ m. IsTextOf text.now m) }
         ensures none { IfNone result ((m : Value) → IsMoment m → ¬ (moment_text m ≡ text.now)) }
@@ -136,7 +136,7 @@ impl Moment {
         }
     }
 
-    /// The 19 bytes `YYYY-MM-DDTHH:MM:SS`, which `read` reads back.
+    /// Returns the 19 bytes `YYYY-MM-DDTHH:MM:SS`, which `read` reads back.
     pub fn text(self) -> [u8; 19]
         ensures value { result ≡ moment_text self }
         ensures kind { IsMoment self }
@@ -184,7 +184,7 @@ impl Moment {
         self.month
     }
 
-    /// The number of its day: 0 for 1970-01-01, 2,932,896 for 9999-12-31.
+    /// Returns the number of its day: 0 for 1970-01-01, 2,932,896 for 9999-12-31.
     pub fn day(self) -> i32
         ensures value { result ≡ pos (day_of self) }
         ensures high { result ≤ℤ pos 2_932_896 }
@@ -193,7 +193,7 @@ impl Moment {
         date.to_plain().to_unix_epoch_day()
     }
 
-    /// The seconds since 1970-01-01T00:00:00, by which moments are in order.
+    /// Returns the seconds since 1970-01-01T00:00:00, by which moments are in order.
     pub fn seconds(self) -> u64
         ensures { result ≡ seconds_of self }
     {
@@ -201,7 +201,7 @@ impl Moment {
         day * 86400 + (self.hour as u64 * 3600 + (self.minute as u64 * 60 + self.second as u64))
     }
 
-    /// Whether this moment is before the other. No moment is before itself.
+    /// Returns whether this moment is before the other. No moment is before itself.
     pub fn is_earlier(self, other: Moment) -> bool
         ensures { result ≡ is_earlier self other }
     {

@@ -47,7 +47,7 @@ impl Model for Rate {
 }
 
 impl Rate {
-    /// The rate, where it is not above 9,999 cents.
+    /// Returns the rate, if it is not above 9,999 cents.
     pub fn new(cents: u16) -> Option<Rate>
         ensures { result ≡ (if nat_le cents 9_999 then Some cents else None) }
     {
@@ -83,7 +83,7 @@ impl Model for Amount {
 }
 
 impl Amount {
-    /// The amount, where it is not above 99,999 cents.
+    /// Returns the amount, if it is not above 99,999 cents.
     pub fn new(cents: u32) -> Option<Amount>
         ensures { result ≡ (if nat_le cents 99_999 then Some cents else None) }
     {

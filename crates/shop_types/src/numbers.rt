@@ -14,7 +14,7 @@ pub struct Numbers<const KIND: u8> {
 /// Copies of a branch by their numbers.
 pub type CopyNos = Numbers<4>;
 
-/// Lines of a consignment by their places, the first of which is 1.
+/// Lines of a consignment by their places. The first place is 1.
 pub type LineNos = Numbers<14>;
 
 impl<const KIND: u8> Model for Numbers<KIND> {
@@ -29,7 +29,7 @@ impl<const KIND: u8> Model for Numbers<KIND> {
 }
 
 impl<const KIND: u8> Numbers<KIND> {
-    /// The list, where it has no more than 65,536 numbers. It takes the `Vec`, and so no memory.
+    /// Returns the list, if it has no more than 65,536 numbers. It takes the `Vec`, and so no memory.
     pub fn new(numbers: Vec<RowNumber<KIND>>) -> Option<Numbers<KIND>>
         ensures { result ≡ (if is_number_list numbers.entry.items then Some numbers.entry.items else None) }
     {

@@ -19,11 +19,11 @@ pub enum OfficeAct {
     Cast { film: FilmNo, actor: ActorNo },
     Branch(Branch),
     Staff(Staff),
-    /// A member of staff leaves for good. A manager who leaves stays named.
+    /// A member of staff leaves permanently. A manager who leaves stays named.
     Leave(StaffNo),
     /// Makes a member of staff of the branch its manager.
     Manager { branch: BranchNo, staff: StaffNo },
-    /// Chooses by which rule balances go, for the whole chain.
+    /// Chooses the rule for balances, for the whole chain.
     Rule(Rule),
 }
 

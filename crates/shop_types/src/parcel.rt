@@ -30,7 +30,7 @@ impl Model for ParcelLines {
 }
 
 impl ParcelLines {
-    /// The lines, where they are no more than 100. It takes the `Vec`, and so no memory.
+    /// Returns the lines, if they are no more than 100. It takes the `Vec`, and so no memory.
     pub fn new(lines: Vec<ParcelLine>) -> Option<ParcelLines>
         ensures { result ≡ (if are_few lines.items then Some lines.items else None) }
     {

@@ -13,7 +13,7 @@ pub struct Person {
     pub city: CityNo,
 }
 
-/// What is told of a customer who is added.
+/// The data of a customer who is added.
 #[derive(Drop)]
 pub struct NewCustomer {
     pub person: Person,

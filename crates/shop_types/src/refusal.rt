@@ -8,11 +8,11 @@ pub struct BadCsv {
     pub line: u32,
 }
 
-/// Why a request is refused. Of those that hold a caller is told the one with the lowest number, but that `Usage` is
-/// looked for before `KeyUsed`, and the last three may come at any point.
+/// Says why a request is refused. If several refusals apply, the reply names the one with the lowest number. There are
+/// two exceptions: `Usage` is checked before `KeyUsed`, and the last three may occur at any point.
 #[derive(Clone, Copy)]
 pub enum Refusal {
-    /// The head of the message is none that is served.
+    /// The server does not serve a message with this head.
     BadHead,
     /// The head is longer than 8,192 bytes, or the body longer than 65,536.
     TooLong,
@@ -128,7 +128,7 @@ impl Refusal {
         }
     }
 
-    /// Its name, as a reply has it.
+    /// Returns the name that a reply gives to the refusal.
     pub fn name(&self) -> &'static str
         ensures { result.now ≡ problem_name (seen_refusal self.now) }
     {
@@ -171,7 +171,7 @@ impl Refusal {
         }
     }
 
-    /// The status of its reply, which is one of RFC 9110: 400, 403, 404, 409 or 503.
+    /// Returns the status of its reply, which is one of RFC 9110: 400, 403, 404, 409 or 503.
     pub fn status(&self) -> u16
         ensures { result ≡ problem_status (seen_refusal self.now) }
     {

@@ -10,11 +10,11 @@ use std::alloc::Global;
 #[derive(Drop)]
 pub enum Body {
     Text(String),
-    /// A text that stands in the program, and so takes no memory.
+    /// A text that is in the program, and so takes no memory.
     Fixed(&'static str),
 }
 
-/// What a caller is told.
+/// The reply to a caller.
 #[derive(Drop)]
 pub struct Reply {
     /// A status of RFC 9110.
@@ -23,7 +23,7 @@ pub struct Reply {
 }
 
 impl Reply {
-    /// The bytes of the body.
+    /// Returns the bytes of the body.
     pub fn body_bytes(&self) -> &[u8]
         ensures { result.now ≡ body_bytes self.now.body }
     {
@@ -33,7 +33,7 @@ impl Reply {
         }
     }
 
-    /// The reply to what was done or read, with its body.
+    /// Returns the reply to what was done or read, with its body.
     pub fn accepted(body: String) -> Reply
         ensures { seen_reply result ≡ accepted_answer (string_bytes body) }
     {
@@ -43,7 +43,8 @@ impl Reply {
         }
     }
 
-    /// The reply to what is refused. It takes no memory; where a stock file is at fault, `bad_csv` makes it.
+    /// Returns the reply to what is refused. It takes no memory. If a stock file is at fault, `bad_csv` makes the
+    /// reply.
     pub fn refused(refusal: Refusal) -> Reply
         requires { has_fixed_body refusal ≡ true }
         ensures { seen_reply result ≡ problem_answer (seen_refusal refusal) }
@@ -54,7 +55,7 @@ impl Reply {
         }
     }
 
-    /// The reply to a stock file that is at fault, with the line in its body.
+    /// Returns the reply to a stock file that is at fault, with the line in its body.
     #[tactic(auto, unfolding(shop_model::specs::Json::escape_byte))]
     pub fn bad_csv(alloc: Global, fault: BadCsv) -> Result<Reply, NoMemory>
         ensures { IfOk result (λ reply. seen_reply reply ≡ problem_answer (seen_refusal (Refusal.BadCsv fault))) }
@@ -67,7 +68,7 @@ impl Reply {
     }
 }
 
-/// The body of a refusal's reply.
+/// Returns the body of a refusal's reply.
 #[tactic(auto, using(crate::proofs::ReplyLemmas::fixed_text))]
 fn fixed_body(refusal: Refusal) -> &'static str
     requires { has_fixed_body refusal ≡ true }

@@ -3,7 +3,7 @@ ghost use Rattle.shop_types.specs.Numbers.{row_number_of, ten_digits_value};
 
 use std::marker::Model;
 
-/// The number of a row, from 1 to 4,294,967,295. KIND says of which table, so that the numbers of two tables don't mix.
+/// The number of a row, from 1 to 4,294,967,295. KIND names the table, so that the numbers of two tables don't mix.
 #[derive(Clone, Copy, PartialEq, Eq, PartialOrd, Ord)]
 pub struct RowNumber<const KIND: u8>(u32);
 
@@ -47,7 +47,7 @@ impl<const KIND: u8> Model for RowNumber<KIND> {
     ghost inverse = { λ n. record { 0 = n } };
 }
 
-/// The number that 1 to 10 digits write.
+/// Returns the number that 1 to 10 digits write.
 fn ten_digits(bytes: &[u8]) -> Option<u64>
     ensures { result ≡ ten_digits_value bytes.now }
 {
@@ -65,7 +65,7 @@ fn ten_digits(bytes: &[u8]) -> Option<u64>
 }
 
 impl<const KIND: u8> RowNumber<KIND> {
-    /// The number, where it is not 0.
+    /// Returns the number, or none if it is 0.
     pub fn new(number: u32) -> Option<RowNumber<KIND>>
         ensures { result ≡ (if number == 0 then None else Some number) }
     {
@@ -83,7 +83,7 @@ impl<const KIND: u8> RowNumber<KIND> {
         self.0
     }
 
-    /// The number that the bytes write in decimal: 1 to 10 ASCII digits, no leading zero, no sign.
+    /// Returns the number that the bytes write in decimal: 1 to 10 ASCII digits, no leading zero, no sign.
     pub fn read(digits: &[u8]) -> Option<RowNumber<KIND>>
         ensures { result ≡ row_number_of digits.now }
     {

@@ -21,7 +21,7 @@ impl Model for StockFile {
 }
 
 impl StockFile {
-    /// The file, where it has no more than 65,536 bytes. It takes the `Vec`, and so no memory.
+    /// Returns the file, if it has no more than 65,536 bytes. It takes the `Vec`, and so no memory.
     pub fn new(bytes: Vec<u8>) -> Option<StockFile>
         ensures { result ≡ (if is_stock_file bytes.items then Some bytes.items else None) }
     {

@@ -58,7 +58,7 @@ fn fits(text: &str, low: usize, high: usize) -> bool
 }
 
 impl<const LOW: usize, const HIGH: usize> Text<LOW, HIGH> {
-    /// The text, where it is one of the kind. It takes the `String`, and so no memory.
+    /// Returns the text, if it is one of the kind. It takes the `String`, and so no memory.
     pub fn read(text: String) -> Option<Text<LOW, HIGH>>
         ensures { result ≡ (if is_text LOW HIGH (string_bytes text) then Some (string_bytes text) else None) }
     {

@@ -36,7 +36,7 @@ fn all_hex(bytes: &[u8]) -> bool
 }
 
 impl Token {
-    /// The token that the bytes write.
+    /// Returns the token that the bytes write.
     pub fn read(bytes: &[u8]) -> Option<Token>
         ensures { result ≡ (if is_token bytes.now then Some bytes.now else None) }
     {

@@ -1,4 +1,4 @@
--- What is written for a film is its body.
+-- The value that is written for a film is the film's body.
 use Rattle.shop_types.proofs.Common.{◌≡◌, refl, ℕ, false, Option, Some, None, Film, film_text}
 use Rattle.serde_json.specs.Written as written
 use Rattle.shop_views.specs.Texts.{json_text}

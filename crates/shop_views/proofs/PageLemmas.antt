@@ -68,7 +68,7 @@ float_push : (ds : List Data) (d : Data) → items_have_float (items_of ds) ≡ 
 float_push [] d none one = (λ i. one i || false)
 float_push (e ∷ ds) d none one = let each = or_parts (has_float e) (items_have_float (items_of ds)) none in (λ i. each.0 i || float_push ds d each.1 one i)
 
--- the values are these, are written as these texts, and none has a float
+-- the values are `jsons`, are written as the texts, and none of them has a float
 pub record AreWritten (jsons : List Data) (texts : List Text) (values : List Data) : Type 0 where
   pub are : values ≡ jsons
   pub texts_are : map compact_text values ≡ texts

@@ -10,7 +10,7 @@ use Rattle.shop_views.specs.Bodies.{numbers_value}
 use Rattle.shop_views.specs.Consignments.{Listed, arrival_data, arrival_text, sent_data, sent_text, transit_data, transit_text}
 use Rattle.shop_views.specs.Lists.{IsWritten, IsRow}
 
--- a value that is this one, whose text is known
+-- a value that equals the given one, and whose text is known
 pub is_written : (json : Data) (written : Text) (value : Data) → value ≡ json → json_text json ≡ written → has_float json ≡ false → IsWritten json written value
 is_written json written value is told none = record { is = is; text = ap compact_text is ∙ same_text json ∙ told; no_float = ap has_float is ∙ none }
 

@@ -1,4 +1,4 @@
--- What serde_json writes is JSON text as the definitions of the shop have it.
+-- The text that serde_json writes is the JSON text that the definitions of the shop give.
 use Rattle.shop_types.proofs.Common.{◌≡◌, ◌∙◌, refl, ap, ℕ, true, false, Bool, List, [], ◌∷◌, ◌++◌, map, decimal, Result, IfOk, String, Global, IfOk-weaker, Text}
 use Rattle.std.specs.Prelude.{string_bytes}
 use Rattle.json.specs.Print as print
@@ -16,7 +16,7 @@ same_escapes = refl
 pub same_quoted : (s : Text) → print.quoted s ≡ json.quoted s
 same_quoted s = rw same_escapes refl
 
--- the two texts are one
+-- both texts are the same
 mutual
   pub same_text : (d : Data) → written.compact_text d ≡ json_text d
   same_text null = refl
@@ -49,7 +49,7 @@ pub numbers_texts : (ns : List ℕ) → item_texts (items_of (map (λ n. number 
 numbers_texts [] = refl
 numbers_texts (n ∷ ns) = ap (λ (ts : List Text). decimal n ∷ ts) (numbers_texts ns)
 
--- what is written for a value that is d, where d has no float
+-- the text that is written for a value equal to d, if d has no float
 pub text_of_value : {E : Type 0} (r : Result (String Global) E) (value d : Data) → value ≡ d → written.has_float d ≡ false
     → IfOk r (λ s. written.has_float value ≡ false → string_bytes s ≡ written.compact_text value)
     → IfOk r (λ s. string_bytes s ≡ json_text d)

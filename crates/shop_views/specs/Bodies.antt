@@ -11,11 +11,11 @@ use Rattle.shop_model.specs.OfficeActs.{rule_name}
 abbrev pub numbers_value : List ℕ → Data
 numbers_value ns = array (items_of (map (λ n. number (unsigned n)) ns))
 
--- numbers under that name, with their count
+-- numbers under the name, with their count
 abbrev pub listed_value : Text → List ℕ → Data
 listed_value name ns = object (put (codes "count") (number (unsigned (length ns))) (put name (numbers_value ns) no_members))
 
--- numbers under that name alone
+-- numbers under the name, without their count
 abbrev pub named_value : Text → List ℕ → Data
 named_value name ns = object (put name (numbers_value ns) no_members)
 
@@ -23,7 +23,8 @@ named_value name ns = object (put name (numbers_value ns) no_members)
 abbrev pub balance_value : ℤ → Data
 balance_value cents = object (member (codes "balance") (number (of_integer cents)) no_members)
 
--- what a command of head office is told: the number of its new row, which is the next one of its kind, or the rows or the rule that it names
+-- the reply to a command of head office: the number of the command's new row, which is the next one of its kind, or the rows or the rule that the command
+-- names
 abbrev pub office_members : OfficeAct → ℕ → List (Text × Text)
 office_members (AddCountry name) next = (codes "country", decimal next) ∷ []
 office_members (AddCity city) next = (codes "city", decimal next) ∷ []

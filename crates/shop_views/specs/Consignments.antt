@@ -7,7 +7,7 @@ use Rattle.shop_model.specs.Values.{Text}
 use Rattle.shop_views.specs.Bodies.{numbers_value}
 use Rattle.shop_views.specs.declared.consignments.ListedConsignment.{ListedConsignment}
 
--- whom it is from and to, its number among those of the two, whether it is received, and the films of its lines
+-- the sender, the addressee, the number among their consignments, whether the consignment is received, and the films of its lines
 pub record Listed : Type 0 where
   pub source : ℕ
   pub addressee : ℕ

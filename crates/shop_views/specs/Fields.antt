@@ -7,7 +7,7 @@ use Rattle.shop_views.specs.Bodies.{numbers_value}
 use Rattle.shop_views.specs.declared.fields.Field.{Field}
 use Rattle.shop_views.specs.declared.fields.Field.TheVariants.{Number, Flag, Text, Null, Films}
 
--- a member among others, which stand in the byte order of their names
+-- a member among other members, which are in the byte order of their names
 abbrev pub with_field : Field → Members → Members
 with_field (Number name n) ms = put name.now (number (unsigned n)) ms
 with_field (Flag name b) ms = put name.now (boolean b) ms
@@ -19,7 +19,7 @@ abbrev pub with_fields : List Field → Members → Members
 with_fields [] ms = ms
 with_fields (field ∷ fields) ms = with_fields fields (with_field field ms)
 
--- the object that has these members alone
+-- the object that has exactly the members
 abbrev pub fields_value : List Field → Data
 fields_value fields = object (with_fields fields no_members)
 

@@ -3,7 +3,7 @@ use Rattle.std.specs.Prelude.{ℕ, Option, None, Some, codes}
 use Rattle.serde_json.specs.Data.{Data, null, boolean, number, unsigned, string, object, member, no_members}
 use Rattle.shop_model.specs.Values.{Film}
 
--- a film's length, where it is known
+-- a film's length, if it is known
 abbrev pub minutes_value : Option ℕ → Data
 minutes_value None = null
 minutes_value (Some n) = number (unsigned n)

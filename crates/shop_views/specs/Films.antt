@@ -1,4 +1,4 @@
--- The list of films and that of actors, as JSON values.
+-- The list of films and the list of actors, as JSON values.
 use Rattle.std.specs.Prelude.{◌≡◌, ℕ, false, refl, Option, None, Some, ◌++◌, codes}
 use Rattle.std.specs.List.{join_by}
 use Rattle.serde_json.specs.Data.{Data, null, number, unsigned, string, object, member, no_members}
@@ -43,7 +43,7 @@ film_data it = object
     (member (codes "rating") (string it.rating)
     (member (codes "title") (string it.title) no_members))))))))
 
--- its text is that of the definitions, and it has no float: a length is a number or null
+-- the value's text is the definitions' text, and the value has no float: a length is a number or null
 pub film_written : (it : views.FilmRow) → json_text (film_data it) ≡ views.listed_film it
 film_written it = by_minutes it.minutes
   where

@@ -8,7 +8,7 @@ use Rattle.shop_views.specs.declared.people.ListedPerson.{ListedPerson}
 use Rattle.shop_views.specs.declared.people.ListedCustomer.{ListedCustomer}
 use Rattle.shop_views.specs.declared.people.ListedStaff.{ListedStaff}
 
--- a person of this number, by this name
+-- a person with the number and the name
 abbrev pub person_as : ℕ → Text → ListedPerson → PersonRow
 person_as n name person = record {
   branch = person.branch;

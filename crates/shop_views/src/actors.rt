@@ -1,4 +1,4 @@
-//! Actors as the list of actors shows them, each with the films by category.
+//! Actors in the list of actors, each with the actor's films by category.
 
 ghost use Rattle.std.specs.Prelude.{◌≡◌, refl, IfOk};
 ghost use Rattle.serde_json.specs.View.{view};
@@ -13,16 +13,16 @@ use serde_json::Value;
 use shop_types::{ActorNo, T45, T128};
 use std::alloc::{AllocError, Global};
 
-/// An actor's films of a category.
+/// An actor's films of one category.
 #[derive(Drop)]
 pub struct FilmGroup {
     /// The category's name.
     pub category: T45,
-    /// The titles, in the order of their bytes, and alike ones in that of their films' numbers.
+    /// The titles in byte order. Equal titles are in the order of their films' numbers.
     pub titles: Vec<T128>,
 }
 
-/// An actor with the films by category.
+/// An actor with the actor's films by category.
 #[derive(Drop)]
 pub struct ActorRow {
     pub number: ActorNo,
@@ -39,7 +39,7 @@ impl Told for T128 {
     }
 }
 
-/// The films of a category: its name, a colon and the titles, with a comma and a blank between.
+/// Writes the films of a category: its name, a colon, and the titles with a comma and a blank between them.
 impl Told for FilmGroup {
     ghost told = { films_text };
 
@@ -49,7 +49,7 @@ impl Told for FilmGroup {
     }
 }
 
-/// The actor with that text of the films.
+/// Makes the actor's object, with the text of the actor's films.
 fn actor_object<'a>(alloc: Global, row: &'a ActorRow, films: &'a str) -> Result<Value, AllocError>
     ensures { IfOk result (λ v. view v ≡ actor_data (record (seen_actor row.now) { films = films.now })) }
 {
@@ -64,7 +64,7 @@ fn actor_object<'a>(alloc: Global, row: &'a ActorRow, films: &'a str) -> Result<
     )
 }
 
-/// An actor of `actor_info`, as an object: who plays in no film has an empty `film_info`.
+/// An actor of `actor_info`, as an object. If the actor plays in no film, `film_info` is empty.
 impl ListedRow for ActorRow {
     ghost json = { λ row. actor_data (seen_actor row) };
 

@@ -6,7 +6,7 @@ use crate::fields::{Field, object_text};
 use shop_types::Audit;
 use std::alloc::{AllocError, Global};
 
-/// The body that tells head office what an audit says.
+/// Writes the body that reports an audit to head office.
 pub fn audit_text(alloc: Global, audit: Audit) -> Result<String, AllocError>
     ensures { IfOk result (λ s. string_bytes s ≡ shown_text (seen_audit audit)) }
 {

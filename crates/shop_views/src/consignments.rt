@@ -1,4 +1,4 @@
-//! Consignments as the lists of a branch and of head office show them.
+//! Consignments in the lists of a branch and of head office.
 
 ghost use Rattle.std.specs.Prelude.{◌≡◌, false, IfOk};
 ghost use Rattle.serde_json.specs.View.{view};
@@ -15,10 +15,10 @@ use std::alloc::{AllocError, Global};
 pub struct ListedConsignment {
     pub source: BranchNo,
     pub addressee: BranchNo,
-    /// Its number among those of the two.
+    /// The number among the consignments from this sender to this addressee.
     pub number: ConsignmentNo,
     pub received: bool,
-    /// The films of its lines, in their order.
+    /// The films of the consignment's lines, in the lines' order.
     pub films: Vec<FilmNo>,
 }
 
@@ -63,21 +63,22 @@ fn transit_value(alloc: Global, it: &ListedConsignment) -> Result<Value, AllocEr
     )
 }
 
-/// The consignment in the list of its addressee's arrivals, as an object.
+/// Makes the consignment's object in the list of its addressee's arrivals.
 pub fn arrival_row(alloc: Global, it: &ListedConsignment) -> Result<Value, AllocError>
     ensures { IfOk result (λ v. IsRow arrival_data arrival_text (seen_listed it.now) (view v)) }
 {
     arrival_value(alloc, it)
 }
 
-/// The consignment in the list of what its sender sent, as an object: whether it is received isn't shown.
+/// Makes the consignment's object in the list of its sender's consignments. It doesn't show whether the consignment is
+/// received.
 pub fn sent_row(alloc: Global, it: &ListedConsignment) -> Result<Value, AllocError>
     ensures { IfOk result (λ v. IsRow sent_data sent_text (seen_listed it.now) (view v)) }
 {
     sent_value(alloc, it)
 }
 
-/// The consignment in the list of all that are under way, as an object.
+/// Makes the consignment's object in the list of all consignments that are under way.
 pub fn transit_row(alloc: Global, it: &ListedConsignment) -> Result<Value, AllocError>
     ensures { IfOk result (λ v. IsRow transit_data transit_text (seen_listed it.now) (view v)) }
 {

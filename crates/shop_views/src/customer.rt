@@ -7,7 +7,7 @@ use crate::fields::{Field, object_text};
 use shop_types::{Customer, CustomerNo};
 use std::alloc::{AllocError, Global};
 
-/// The body with that text of the moment.
+/// Makes the body with the text of the moment.
 fn customer_body<'a>(
     alloc: Global,
     number: CustomerNo,
@@ -34,8 +34,8 @@ fn customer_body<'a>(
     )
 }
 
-/// The body that shows a customer and its number: the moment is its text, the city is its number, and an empty postal
-/// code or telephone number is an empty text.
+/// Writes the body that shows a customer and the customer's number. The moment is its text, and the city is its
+/// number. An empty postal code or telephone number is an empty text.
 pub fn customer_text(
     alloc: Global,
     number: CustomerNo,

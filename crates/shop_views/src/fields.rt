@@ -10,7 +10,7 @@ use serde_json::{Map, Value, put};
 use shop_types::{FilmNo, RowNumber};
 use std::alloc::{AllocError, Global};
 
-/// A member of an object: its name and what it holds.
+/// A member of an object: its name and its value.
 #[derive(Clone, Copy)]
 pub enum Field<'a> {
     Number(&'static str, u64),
@@ -20,7 +20,7 @@ pub enum Field<'a> {
     Films(&'static str, &'a [FilmNo]),
 }
 
-/// Puts the member among the others.
+/// Adds the member to the object's members.
 fn add(alloc: Global, map: &mut Map<String, Value>, field: Field) -> Result<(), AllocError>
     ensures { OnOk result (members_view map.new.entries ≡ with_field field.entry (members_view map.old.entries)) }
 {
@@ -39,7 +39,7 @@ fn add(alloc: Global, map: &mut Map<String, Value>, field: Field) -> Result<(), 
     }
 }
 
-/// The object that has these members, in the byte order of their names.
+/// Makes the object that has the members, in the byte order of their names.
 pub fn object_of(alloc: Global, fields: &[Field]) -> Result<Value, AllocError>
     ensures { IfOk result (λ v. view v ≡ fields_value fields.now) }
 {
@@ -50,14 +50,14 @@ pub fn object_of(alloc: Global, fields: &[Field]) -> Result<Value, AllocError>
     Ok(Value::Object(map))
 }
 
-/// The text of that object.
+/// Writes the text of the object that has the members.
 pub fn object_text(alloc: Global, fields: &[Field]) -> Result<String, AllocError>
     ensures { IfOk result (λ s. string_bytes s ≡ fields_text fields.now) }
 {
     object_of(alloc, fields)?.to_string(alloc)
 }
 
-/// The text of the object that has the number alone, under that name.
+/// Writes the text of the object that has only the number, under the name.
 pub fn number_text<const KIND: u8>(
     alloc: Global,
     name: &'static str,

@@ -40,8 +40,8 @@ fn film_value(
     )
 }
 
-/// The body that shows a film and its number, withdrawn or not: language and category are their numbers, and `length`
-/// is `null` where it isn't known.
+/// Writes the body that shows a film and its number, withdrawn or not. Language and category are their numbers.
+/// `length` is `null` if the length isn't known.
 pub fn film_text(
     alloc: Global,
     number: FilmNo,

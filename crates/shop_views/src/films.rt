@@ -1,4 +1,4 @@
-//! Films as the list of films shows them, each with its actors.
+//! Films in the list of films, each with its actors.
 
 ghost use Rattle.std.specs.Prelude.{◌≡◌, IfOk};
 ghost use Rattle.serde_json.specs.View.{view};
@@ -13,23 +13,23 @@ use serde_json::Value;
 use shop_types::{FilmNo, L45, L500, Minutes, Rate, Rating, T128};
 use std::alloc::{AllocError, Global};
 
-/// A film with the name of its category and those who play in it.
+/// A film with the name of its category and its actors.
 #[derive(Drop)]
 pub struct ListedFilm {
     pub number: FilmNo,
     pub title: T128,
     pub description: L500,
-    /// The category's name, empty where there is no such category.
+    /// The category's name. It is empty if there is no such category.
     pub category: L45,
-    /// What a rental of it costs.
+    /// The price of a rental of the film.
     pub rate: Rate,
     pub minutes: Option<Minutes>,
     pub rating: Rating,
-    /// The actors, in order of their numbers.
+    /// The actors, in the order of their numbers.
     pub actors: Vec<PersonName>,
 }
 
-/// The film with that text of its actors.
+/// Makes the film's object, with the text of its actors.
 fn film_object<'a>(alloc: Global, row: &'a ListedFilm, actors: &'a str) -> Result<Value, AllocError>
     ensures { IfOk result (λ v. view v ≡ film_data (film_with actors.now row.now)) }
 {
@@ -52,7 +52,7 @@ fn film_object<'a>(alloc: Global, row: &'a ListedFilm, actors: &'a str) -> Resul
     )
 }
 
-/// A film of `film_list`, as an object: `length` is `null` where it isn't known.
+/// A film of `film_list`, as an object. `length` is `null` if the length isn't known.
 impl ListedRow for ListedFilm {
     ghost json = { λ row. film_data (seen_film row) };
 

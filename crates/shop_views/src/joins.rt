@@ -1,4 +1,4 @@
-//! Values as texts, joined.
+//! Texts of values, joined.
 
 ghost use Rattle.std.specs.Prelude.{◌≡◌, map, IfOk, string_bytes};
 ghost use Rattle.std.specs.List.{join_by};
@@ -8,14 +8,14 @@ use std::alloc::{AllocError, Global};
 
 /// A value that has a text of its own.
 pub(crate) trait Told: Sized {
-    // the text
+    // the value's text
     ghost told: { Self → Text };
 
     fn text(alloc: Global, it: &Self) -> Result<String, AllocError>
         ensures { IfOk result (λ s. string_bytes s ≡ told it.now) };
 }
 
-/// The values, each as a text of its own.
+/// Writes each value as a text of its own.
 fn texts_of<T: Told>(alloc: Global, values: &[T]) -> Result<Vec<String>, AllocError>
     ensures { IfOk result (λ texts. map string_bytes texts.items ≡ map T.Told.told values.now) }
 {
@@ -26,7 +26,7 @@ fn texts_of<T: Told>(alloc: Global, values: &[T]) -> Result<Vec<String>, AllocEr
     Ok(texts)
 }
 
-/// The values' texts in their order, with that one between.
+/// Joins the values' texts in their order, with the separator between them.
 pub(crate) fn joined<T: Told>(
     alloc: Global,
     values: &[T],

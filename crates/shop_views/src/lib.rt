@@ -1,6 +1,6 @@
-//! Bodies of replies: JSON texts (RFC 8259) with no white space, the members of each object in the byte order of
-//! their names; and rows of views, each as such an object. A page takes rows one at a time, and is the text of their
-//! list; a list of rows is a JSON value.
+//! Bodies of replies, as JSON texts (RFC 8259) without white space. The members of each object are in the byte order
+//! of their names. Rows of views are such objects, too. A page takes rows one at a time and makes the text of their
+//! list. A list of rows is a JSON value.
 #![tactic(auto)]
 
 pub mod actors;

@@ -1,4 +1,5 @@
-//! The manual's views and the overdue rentals as JSON values, of rows that are handed in, each row by its own call.
+//! The manual's views and the overdue rentals, as JSON values. Each row that a caller passes is made into its value by
+//! a call of its own.
 
 ghost use Rattle.std.specs.Prelude.{◌≡◌, [], false, map, IfOk};
 ghost use Rattle.serde_json.specs.Data.{Data};
@@ -22,9 +23,9 @@ use crate::sales::{CategoryRow, StoreRow};
 use serde_json::Value;
 use std::alloc::{AllocError, Global};
 
-/// A row of a list, which has a JSON value of its own.
+/// A row of a list. It has a JSON value of its own.
 pub trait ListedRow: Sized {
-    // its value, and the value's text
+    // the row's value, and the value's text
     ghost json: { Self → Data };
 
     ghost written: { Self → Text };
@@ -37,7 +38,7 @@ pub trait ListedRow: Sized {
     ghost no_float: { (row : Self) → has_float (json row) ≡ false };
 }
 
-/// The rows in their order, as a list of their values.
+/// Makes the list of the rows' values, in the rows' order.
 fn list_value<R: ListedRow>(alloc: Global, rows: &[R]) -> Result<Value, AllocError>
     ensures { IfOk result (λ v. IsWritten (list_of (map R.ListedRow.json rows.now))
         (array (map R.ListedRow.written rows.now)) (view v)) }
@@ -49,7 +50,7 @@ fn list_value<R: ListedRow>(alloc: Global, rows: &[R]) -> Result<Value, AllocErr
     Ok(Value::Array(items))
 }
 
-/// Rentals that are overdue, in the order of the rows, as a list of objects.
+/// Makes the list of overdue rentals, as objects in the order of the rows.
 pub fn overdue(alloc: Global, rows: &[OverdueRow]) -> Result<Value, AllocError>
     ensures { IfOk result (λ v. IsWritten (list_of (map (λ row. overdue_data (seen_overdue row)) rows.now))
         (array (map (λ row. overdue_text (seen_overdue row)) rows.now)) (view v)) }
@@ -57,7 +58,7 @@ pub fn overdue(alloc: Global, rows: &[OverdueRow]) -> Result<Value, AllocError>
     list_value(alloc, rows)
 }
 
-/// `customer_list` of the manual, in the order of the rows, as a list of objects.
+/// Makes the manual's `customer_list`, as a list of objects in the order of the rows.
 pub fn customer_list(alloc: Global, rows: &[ListedCustomer]) -> Result<Value, AllocError>
     ensures { IfOk result (λ v. IsWritten (list_of (map (λ row. customer_data (seen_customer row)) rows.now))
         (array (map (λ row. listed_customer (seen_customer row)) rows.now)) (view v)) }
@@ -65,7 +66,7 @@ pub fn customer_list(alloc: Global, rows: &[ListedCustomer]) -> Result<Value, Al
     list_value(alloc, rows)
 }
 
-/// `staff_list` of the manual, in the order of the rows, as a list of objects.
+/// Makes the manual's `staff_list`, as a list of objects in the order of the rows.
 pub fn staff_list(alloc: Global, rows: &[ListedStaff]) -> Result<Value, AllocError>
     ensures { IfOk result (λ v. IsWritten (list_of (map (λ row. staff_data (seen_staff row)) rows.now))
         (array (map (λ row. person_text [] (seen_staff row)) rows.now)) (view v)) }
@@ -73,7 +74,7 @@ pub fn staff_list(alloc: Global, rows: &[ListedStaff]) -> Result<Value, AllocErr
     list_value(alloc, rows)
 }
 
-/// `film_list` of the manual, in the order of the rows, as a list of objects.
+/// Makes the manual's `film_list`, as a list of objects in the order of the rows.
 pub fn film_list(alloc: Global, rows: &[ListedFilm]) -> Result<Value, AllocError>
     ensures { IfOk result (λ v. IsWritten (list_of (map (λ row. film_data (seen_film row)) rows.now))
         (array (map (λ row. listed_film (seen_film row)) rows.now)) (view v)) }
@@ -81,7 +82,7 @@ pub fn film_list(alloc: Global, rows: &[ListedFilm]) -> Result<Value, AllocError
     list_value(alloc, rows)
 }
 
-/// `actor_info` of the manual, in the order of the rows, as a list of objects.
+/// Makes the manual's `actor_info`, as a list of objects in the order of the rows.
 pub fn actor_info(alloc: Global, rows: &[ActorRow]) -> Result<Value, AllocError>
     ensures { IfOk result (λ v. IsWritten (list_of (map (λ row. actor_data (seen_actor row)) rows.now))
         (array (map (λ row. listed_actor (seen_actor row)) rows.now)) (view v)) }
@@ -89,7 +90,7 @@ pub fn actor_info(alloc: Global, rows: &[ActorRow]) -> Result<Value, AllocError>
     list_value(alloc, rows)
 }
 
-/// `sales_by_store` of the manual, in the order of the rows, as a list of objects.
+/// Makes the manual's `sales_by_store`, as a list of objects in the order of the rows.
 pub fn sales_by_store(alloc: Global, rows: &[StoreRow]) -> Result<Value, AllocError>
     ensures { IfOk result (λ v. IsWritten (list_of (map (λ row. store_data (seen_store row)) rows.now))
         (array (map (λ row. listed_store (seen_store row)) rows.now)) (view v)) }
@@ -97,8 +98,8 @@ pub fn sales_by_store(alloc: Global, rows: &[StoreRow]) -> Result<Value, AllocEr
     list_value(alloc, rows)
 }
 
-/// `sales_by_film_category` of the manual, in the order of the rows, as a list of objects. The view's order, the
-/// greatest total first, is the caller's.
+/// Makes the manual's `sales_by_film_category`, as a list of objects in the order of the rows. The caller puts the
+/// rows in the view's order, the greatest total first.
 pub fn sales_by_film_category(alloc: Global, rows: &[CategoryRow]) -> Result<Value, AllocError>
     ensures { IfOk result (λ v. IsWritten (list_of (map (λ row. category_data (seen_category row)) rows.now))
         (array (map (λ row. listed_category (seen_category row)) rows.now)) (view v)) }

@@ -15,7 +15,7 @@ pub struct PersonName {
     pub last: T45,
 }
 
-/// The two texts with that one between.
+/// Joins the two texts, with the separator between them.
 pub(crate) fn with_between(
     alloc: Global,
     first: &str,
@@ -27,7 +27,7 @@ pub(crate) fn with_between(
     format!(in alloc; "{first}{between}{last}")
 }
 
-/// The first name, a blank and the last name.
+/// Joins the first name, a blank and the last name.
 pub(crate) fn full_name(alloc: Global, first: &str, last: &str) -> Result<String, AllocError>
     ensures { IfOk result (λ s. string_bytes s ≡ first.now ++ codes " " ++ last.now) }
 {

@@ -10,7 +10,7 @@ use serde_json::{Map, Value, put};
 use shop_types::RowNumber;
 use std::alloc::{AllocError, Global};
 
-/// The list of the numbers.
+/// Makes the list of the numbers.
 pub(crate) fn numbers_value<const KIND: u8>(
     alloc: Global,
     numbers: &[RowNumber<KIND>],
@@ -24,7 +24,7 @@ pub(crate) fn numbers_value<const KIND: u8>(
     Ok(Value::Array(values))
 }
 
-/// The object that has the numbers under that name, and their count.
+/// Makes the object that has the numbers under the name, and their count.
 fn listed_value<const KIND: u8>(
     alloc: Global,
     name: &'static str,
@@ -39,7 +39,7 @@ fn listed_value<const KIND: u8>(
     Ok(Value::Object(map))
 }
 
-/// The text of that object.
+/// Writes the text of the object that has the numbers under the name, and their count.
 pub(crate) fn listed_text<const KIND: u8>(
     alloc: Global,
     name: &'static str,
@@ -50,7 +50,7 @@ pub(crate) fn listed_text<const KIND: u8>(
     listed_value(alloc, name, numbers)?.to_string(alloc)
 }
 
-/// The list of so many numbers from the first on.
+/// Makes the list of `count` consecutive numbers, from `first` on.
 fn counted_value(alloc: Global, first: u32, count: u32) -> Result<Value, AllocError>
     ensures { IfOk result (λ v. view v ≡ numbers_value (range_with_len first count)) }
 {
@@ -61,7 +61,7 @@ fn counted_value(alloc: Global, first: u32, count: u32) -> Result<Value, AllocEr
     Ok(Value::Array(values))
 }
 
-/// The object that has these numbers under that name.
+/// Makes the object that has the consecutive numbers under the name.
 fn named_value(
     alloc: Global,
     name: &'static str,
@@ -76,7 +76,8 @@ fn named_value(
     Ok(Value::Object(map))
 }
 
-/// The text of that object. The list is empty where there are none.
+/// Writes the text of the object that has the consecutive numbers under the name. If there are none, the list is
+/// empty.
 pub fn counted_text(
     alloc: Global,
     name: &'static str,

@@ -18,7 +18,7 @@ fn rule_name(rule: Rule) -> &'static str
     }
 }
 
-/// The members of the body, one or two: a new row's number is the next one of its kind.
+/// Returns the one or two members of the body. A new row's number is the next one of its kind.
 fn office_fields(act: &OfficeAct, next: u32) -> (Field<'static>, Option<Field<'static>>)
     ensures { fields_text (result.0 ∷ option_to_list result.1)
         ≡ object (office_members (seen_office_act act.now) next) }
@@ -51,8 +51,8 @@ fn office_fields(act: &OfficeAct, next: u32) -> (Field<'static>, Option<Field<'s
     }
 }
 
-/// The body that tells head office what its command did: a new row has the next number of its kind, and a rule is
-/// told by its name.
+/// Writes the body that reports to head office what its command did. A new row has the next number of its kind, and a
+/// rule is given by its name.
 pub fn office_text(alloc: Global, act: &OfficeAct, next: u32) -> Result<String, AllocError>
     ensures { IfOk result (λ s. string_bytes s ≡ object (office_members (seen_office_act act.now) next)) }
 {

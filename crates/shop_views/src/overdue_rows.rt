@@ -10,7 +10,7 @@ use serde_json::Value;
 use shop_types::{L45, T45, T128};
 use std::alloc::{AllocError, Global};
 
-/// A rental that is overdue: its customer's names and telephone number, and its film's title.
+/// An overdue rental: the customer's names and telephone number, and the film's title.
 #[derive(Drop)]
 pub struct OverdueRow {
     pub first: T45,
@@ -20,7 +20,7 @@ pub struct OverdueRow {
     pub title: T128,
 }
 
-/// The rental by that name of the customer.
+/// Makes the rental's object, with the customer's name.
 fn overdue_object<'a>(
     alloc: Global,
     row: &'a OverdueRow,
@@ -38,7 +38,7 @@ fn overdue_object<'a>(
     )
 }
 
-/// One rental, as an object.
+/// An overdue rental, as an object.
 impl ListedRow for OverdueRow {
     ghost json = { λ row. overdue_data (seen_overdue row) };
 

@@ -29,14 +29,14 @@ impl Model for ListPage {
     ghost view = { λ p. record { text = string_bytes p.text; has_items = p.has_items } };
 }
 
-/// What stands before a value: a comma, or what opens the list.
+/// Returns what comes before a value: a comma, or the bracket that opens the list.
 fn opening(later: bool) -> &'static str
     ensures { result.now ≡ opening later }
 {
     if later { "," } else { "[" }
 }
 
-/// The value's text, behind what opens the list or a comma.
+/// Writes the value's text, after a comma or the bracket that opens the list.
 fn piece(alloc: Global, later: bool, value: &Value) -> Result<String, AllocError>
     ensures { IfOk result (λ s. has_float (view value.now) ≡ false
         → string_bytes s ≡ opening later ++ compact_text (view value.now)) }
@@ -46,7 +46,7 @@ fn piece(alloc: Global, later: bool, value: &Value) -> Result<String, AllocError
     format!(in alloc; "{opening}{text}")
 }
 
-/// What ends the list.
+/// Returns what ends the list.
 fn closing(some: bool) -> &'static str
     ensures { result.now ≡ closing some }
 {
@@ -54,7 +54,7 @@ fn closing(some: bool) -> &'static str
 }
 
 impl ListPage {
-    /// The list with no value. It takes no memory.
+    /// Makes the list without values. It takes no memory.
     pub fn new(alloc: Global) -> ListPage
         ensures { HasTexts result [] }
     {
@@ -65,7 +65,7 @@ impl ListPage {
         }
     }
 
-    /// Puts the value last. For want of memory the page stays as it was.
+    /// Adds the value at the end of the list. If it runs out of memory, the page stays as it was.
     pub fn add(&mut self, value: &Value) -> Result<(), AllocError>
         ensures added { OnOk result ((texts : List Text) → has_float (view value.now) ≡ false
             → HasTexts self.old texts → HasTexts self.new (texts ++ compact_text (view value.now) ∷ [])) }
@@ -77,7 +77,7 @@ impl ListPage {
         Ok(())
     }
 
-    /// Puts the row's value last.
+    /// Adds the row's value at the end of the list.
     pub fn add_row<R: ListedRow>(&mut self, row: &R) -> Result<(), AllocError>
         ensures { OnOk result ((texts : List Text) → HasTexts self.old texts
             → HasTexts self.new (texts ++ R.ListedRow.written row.now ∷ [])) }
@@ -86,7 +86,7 @@ impl ListPage {
         self.add(&value)
     }
 
-    /// The text of the whole list.
+    /// Returns the text of the whole list.
     pub fn finish(self) -> Result<String, AllocError>
         ensures { IfOk result (λ s. (texts : List Text) → HasTexts self texts → string_bytes s ≡ array texts) }
     {

@@ -17,14 +17,14 @@ fn balance_value(alloc: Global, balance: Cents) -> Result<Value, AllocError>
     Ok(Value::Object(map))
 }
 
-/// The body that shows what a customer owes, in cents: below zero, with a sign, what the branch owes.
+/// Writes the body that shows what a customer owes, in cents. A negative number is what the branch owes the customer.
 pub fn balance_text(alloc: Global, balance: Cents) -> Result<String, AllocError>
     ensures { IfOk result (λ s. string_bytes s ≡ object ((codes "balance", signed_decimal balance) ∷ [])) }
 {
     balance_value(alloc, balance)?.to_string(alloc)
 }
 
-/// The body that lists the customers who are rewarded by their numbers, with their count.
+/// Writes the body that lists the numbers of the customers who are rewarded, with their count.
 pub fn rewards_text(alloc: Global, customers: &[CustomerNo]) -> Result<String, AllocError>
     ensures { IfOk result (λ s. string_bytes s
         ≡ object ((codes "count", decimal (length customers.now)) ∷ (codes "customers", numbers_text customers.now)

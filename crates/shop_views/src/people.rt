@@ -1,4 +1,4 @@
-//! Customers and staff as the lists of people show them.
+//! Customers and staff in the lists of people.
 
 ghost use Rattle.std.specs.Prelude.{◌≡◌, [], codes, refl, if◌then◌else◌, IfOk};
 ghost use Rattle.serde_json.specs.View.{view};
@@ -13,7 +13,7 @@ use serde_json::Value;
 use shop_types::{BranchNo, CustomerNo, L45, StaffNo, T128};
 use std::alloc::{AllocError, Global};
 
-/// A person of a branch, with the names of the city and of its country.
+/// A person of a branch, with the names of the person's city and of the city's country.
 #[derive(Drop)]
 pub struct ListedPerson {
     pub branch: BranchNo,
@@ -23,13 +23,13 @@ pub struct ListedPerson {
     pub postal: L45,
     /// The telephone number, which may be empty.
     pub phone: L45,
-    /// The city's name, empty where there is no such city.
+    /// The city's name. It is empty if there is no such city.
     pub city: L45,
-    /// The name of the city's country, empty where there is none.
+    /// The name of the city's country. It is empty if there is no such country.
     pub country: L45,
 }
 
-/// A customer and its number.
+/// A customer, with the customer's number.
 #[derive(Drop)]
 pub struct ListedCustomer {
     pub number: CustomerNo,
@@ -38,21 +38,21 @@ pub struct ListedCustomer {
     pub active: bool,
 }
 
-/// A member of staff and its number.
+/// A member of staff, with the member's number.
 #[derive(Drop)]
 pub struct ListedStaff {
     pub number: StaffNo,
     pub person: ListedPerson,
 }
 
-/// What the list notes of a customer.
+/// Returns the list's note on a customer.
 fn note_of(active: bool) -> &'static str
     ensures { result.now ≡ (if active then codes "active" else []) }
 {
     if active { "active" } else { "" }
 }
 
-/// The customer by that whole name.
+/// Makes the customer's object, with the customer's whole name.
 fn customer_object<'a>(
     alloc: Global,
     row: &'a ListedCustomer,
@@ -79,7 +79,8 @@ fn customer_object<'a>(
     )
 }
 
-/// A customer of `customer_list`, as an object: `id` is the customer's number, and who may not rent has an empty note.
+/// A customer of `customer_list`, as an object. `id` is the customer's number. If the customer may not rent, the note
+/// is empty.
 impl ListedRow for ListedCustomer {
     ghost json = { λ row. customer_data (seen_customer row) };
 
@@ -95,7 +96,7 @@ impl ListedRow for ListedCustomer {
     ghost no_float = { λ row. refl };
 }
 
-/// The member of staff by that whole name.
+/// Makes the object of the member of staff, with the member's whole name.
 fn staff_object<'a>(alloc: Global, row: &'a ListedStaff, name: &'a str) -> Result<Value, AllocError>
     ensures { IfOk result (λ v. view v ≡ staff_data (person_as row.now.number name.now row.now.person)) }
 {
@@ -115,7 +116,7 @@ fn staff_object<'a>(alloc: Global, row: &'a ListedStaff, name: &'a str) -> Resul
     )
 }
 
-/// A member of staff of `staff_list`, as an object: `id` is the number of the member of staff.
+/// A member of staff of `staff_list`, as an object. `id` is the member's number.
 impl ListedRow for ListedStaff {
     ghost json = { λ row. staff_data (seen_staff row) };
 

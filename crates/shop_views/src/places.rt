@@ -6,7 +6,7 @@ use crate::fields::{Field, object_text};
 use shop_types::Place;
 use std::alloc::{AllocError, Global};
 
-/// The body that tells head office where the copy of a mark is.
+/// Writes the body that reports to head office where the copy of a mark is.
 pub fn custody_text(alloc: Global, place: Place) -> Result<String, AllocError>
     ensures { IfOk result (λ s. string_bytes s ≡ shown_text (seen_place place)) }
 {

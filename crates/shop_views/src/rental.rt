@@ -8,14 +8,14 @@ use crate::numbers::listed_text;
 use shop_types::{CopyNo, CustomerNo};
 use std::alloc::{AllocError, Global};
 
-/// The body that shows whether a copy is in stock.
+/// Writes the body that shows whether a copy is in stock.
 pub fn in_stock_text(alloc: Global, is_in: bool) -> Result<String, AllocError>
     ensures { IfOk result (λ s. string_bytes s ≡ object ((codes "in_stock", flag_text is_in) ∷ [])) }
 {
     object_text(alloc, &[Field::Flag("in_stock", is_in)])
 }
 
-/// The body that shows which customer has a copy: `null` where none does.
+/// Writes the body that shows which customer has a copy. It shows `null` if no customer has the copy.
 pub fn holder_text(alloc: Global, customer: Option<CustomerNo>) -> Result<String, AllocError>
     ensures { IfOk result (λ s. string_bytes s
         ≡ object ((codes "customer", holder_text (option_to_list customer)) ∷ [])) }
@@ -27,7 +27,7 @@ pub fn holder_text(alloc: Global, customer: Option<CustomerNo>) -> Result<String
     object_text(alloc, &[holder])
 }
 
-/// The body that lists copies by their numbers, with their count.
+/// Writes the body that lists copies by their numbers, with their count.
 pub fn copies_text(alloc: Global, copies: &[CopyNo]) -> Result<String, AllocError>
     ensures { IfOk result (λ s. string_bytes s
         ≡ object ((codes "copies", numbers_text copies.now) ∷ (codes "count", decimal (length copies.now)) ∷ [])) }

@@ -15,11 +15,11 @@ use std::alloc::{AllocError, Global};
 /// What a branch has taken for rentals.
 #[derive(Drop)]
 pub struct StoreRow {
-    /// The name of the branch's city, empty where there is no such city.
+    /// The name of the branch's city. It is empty if there is no such city.
     pub city: L45,
-    /// The name of the city's country, empty where there is none.
+    /// The name of the city's country. It is empty if there is no such country.
     pub country: L45,
-    /// The manager's names, where one is set.
+    /// The manager's names, if a manager is set.
     pub manager: Option<PersonName>,
     /// The sum of the payments that name a rental, in cents.
     pub total: u64,
@@ -30,11 +30,11 @@ pub struct StoreRow {
 pub struct CategoryRow {
     /// The category's name.
     pub category: T45,
-    /// The sum of the payments for rentals of its films, in cents.
+    /// The sum of the payments for rentals of the category's films, in cents.
     pub total: u64,
 }
 
-/// The manager's whole name, empty where none is set.
+/// Returns the manager's whole name. It is empty if no manager is set.
 fn manager_name(alloc: Global, manager: &Option<PersonName>) -> Result<String, AllocError>
     ensures { IfOk result (λ s. string_bytes s ≡ manager_text manager.now) }
 {
@@ -44,7 +44,7 @@ fn manager_name(alloc: Global, manager: &Option<PersonName>) -> Result<String, A
     }
 }
 
-/// The branch by that text of the place and the manager's whole name.
+/// Makes the branch's object, with the text of its place and the manager's whole name.
 fn store_object<'a>(
     alloc: Global,
     store: &'a str,
@@ -64,7 +64,7 @@ fn store_object<'a>(
     )
 }
 
-/// The row of `sales_by_store`, as an object.
+/// A row of `sales_by_store`, as an object.
 impl ListedRow for StoreRow {
     ghost json = { λ row. store_data (seen_store row) };
 

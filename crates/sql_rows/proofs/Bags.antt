@@ -43,7 +43,7 @@ module _ {X : Type 0} (narrow : Row → Row) (columns : X → Row) (test : Row �
         one : (r : Row) → cond (seen (narrow r)) (set (narrow r)) (narrow r) ≡ narrow (cond (test r) (f r) r)
         one r = elim (cases_Bool (test r)) [ inl hit ↦ rw (← sees r, hit) (sym (shows r)) | inr miss ↦ rw (← sees r, miss) refl ]
 
--- each row stands for some value of which this is so
+-- each row stands for some value that fulfils `IsFit`
 pub all_fit : {X : Type 0} (IsFit : X → Type 0) (narrow : Row → Row) (columns : X → Row) (rows : List Row) (xs : List X) → AllByRecursion IsFit xs → IsPermutation (map narrow rows) (map columns xs)
     → AllByRecursion (λ r. (x : X) × IsFit x × (narrow r ≡ columns x)) rows
 all_fit {X} IsFit narrow columns rows xs all h =

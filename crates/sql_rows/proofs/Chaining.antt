@@ -3,7 +3,7 @@ use Rattle.std.specs.Prelude.{IsErr}
 use Rattle.sql_rows.proofs.Common.{Ok, Err, Result, MutBor, ⊤, IfOk, IfOk-weaker, refl, false≢true, Ghosts, Held, state, State, HasCleanDisk, StaysInside, StaysWithin, DoesInside, DoesWithin}
 use Rattle.sql_rows.proofs.Stays.{clean_within, inside_as, inside_err, inside_then, within_as, within_of, within_then}
 
--- what calls that were well leave, and what they say over a disk that did as it was told
+-- the calls succeeded and stay in the transaction; if the disk was honest, `Said` holds
 pub record Calls {S : Type 0} (g : Ghosts S) (a b : MutBor (Held S)) : Type 1 where
   pub Said : Type 0
   pub inside : StaysWithin {X = ⊤} {E = ⊤} g a b (Ok tt)
@@ -36,12 +36,12 @@ module _ {S : Type 0} {g : Ghosts S} {a b : MutBor (Held S)} where
       → ((x : X) (old new : State) → P x old new → Q x old new) → DoesWithin g a b r Q
   does_such {r = r} one more = record { inside = one.inside; says = λ clean. IfOk-weaker r _ _ (λ x. more x (state g a.now) (state g b.now)) (one.says clean) }
 
-  -- the same of one call that tells it of what it gave alone
+  -- the same for one call whose clause speaks only about the value that it gave
   pub does_so : {X E : Type 0} {r : Result X E} {P : X → Type 0} {Q : X → State → State → Type 0} → StaysInside g a b r
       → (HasCleanDisk (state g b.now) → IfOk r P) → ((x : X) → P x → Q x (state g a.now) (state g b.now)) → DoesInside g a b r Q
   does_so {r = r} stays tells more = record { inside = stays; says = λ clean. IfOk-weaker r _ _ more (tells clean) }
 
-  -- a call of which nothing is asked but that it stays
+  -- a call that only has to stay in the transaction
   pub only_stays : {X E : Type 0} {r : Result X E} → StaysInside g a b r → DoesInside g a b r (λ _ _ _. ⊤)
   only_stays {r = Ok x} stays = record { inside = stays; says = λ clean. tt }
   only_stays {r = Err e} stays = record { inside = stays; says = λ clean. tt }

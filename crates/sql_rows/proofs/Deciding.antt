@@ -8,7 +8,7 @@ use Rattle.sqlite_value.specs.contracts.row.Row as row
 abbrev pub Decided : Type 0 → Type 0
 Decided A = A ⊎ (¬ A)
 
--- ---- bags of what can be told apart
+-- ---- bags of values whose equality is decidable
 
 module _ {X : Type 0} (same : (x y : X) → Decided (x ≡ y)) where
   abbrev one_if : {A : Type 0} → Decided A → ℕ

@@ -54,7 +54,7 @@ module _ (table : Table) (width : ℕ) where
       subst Q (sym row) (subst (HasRows width (put_all (put_row written tree) (news (put_row written tree) all))) (append_assoc rows (values ∷ []) all) more)
 
 module _ (schema : Schema) (table : Table) (old new : State) (width : ℕ) (all rows : List Row) where
-  -- the edit puts these values, each behind a rowid that is to be chosen
+  -- the edit puts each row of values after a rowid that is to be chosen
   edit_values : Applies schema Enforced old.now.trees (edit_of old.now.trees table [] Chosen 0 (sources all)) new.now.trees → AllByRecursion (Kept table width) all → HasRows width (old.now.trees table.tree) rows
       → HasRows width (new.now.trees table.tree) (rows ++ all)
   edit_values applies kept has = subst (λ (es : List Row). HasRows width es (rows ++ all)) (sym applies.rows) (put_bags table width all (old.now.trees table.tree) rows kept applies.fresh has)

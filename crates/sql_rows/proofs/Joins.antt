@@ -121,7 +121,7 @@ module _ {Y Z : Type 0} (width : ℕ) (columns : Y → Row) (tree : List Row) (y
 
 -- ---- the first table, and the order
 
--- each pair of which one is earlier is in order and no tie
+-- each earlier output comes strictly before each later output, without a tie
 abbrev pub Climbs : Query → List Output → Type 0
 Climbs q = IsAscending (λ a b. (is_eq (output_cmp q a b) ≡ false) × (is_lt (output_cmp q b a) ≡ false))
 

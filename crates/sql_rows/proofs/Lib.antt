@@ -30,3 +30,6 @@ pub mod Joins
 pub mod Fills
 pub mod Deciding
 pub mod Chaining
+pub mod LastRow
+pub mod Dropping
+pub mod NumberTests

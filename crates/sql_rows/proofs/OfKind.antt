@@ -1,4 +1,4 @@
--- Columns that are one to one for values of a kind alone, as those of moments are.
+-- Columns that are one to one only for values of some kind, for example the columns of moments.
 use Rattle.sql_rows.proofs.Common.{◌≡◌, List, [], ◌∷◌, map, refl, sym, subst, AllByRecursion, IsPermutation, all-permutation}
 use Rattle.sqlite_trees.proofs.ListLemmas.{pull_back}
 

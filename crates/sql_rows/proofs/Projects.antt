@@ -61,7 +61,7 @@ module _ {B : Type 0} (schema : Schema) (Stands : Trees → B → Type 0) where
         stands = subst (λ (d : Database). Stands d.trees books) (sym same) holds.stands;
       }
 
-  -- a change, where the tables are those of the schema
+  -- a change, if the state has the tables of the schema
   pub writes_by : (old new : State) (Given : B → Type 0) (change : B → B) → (IsOf schema old → Changes schema Stands old new Given change) → Writes schema Stands old new Given change
   writes_by old new Given change changes books holds given =
       let done = changes holds.schema_is in

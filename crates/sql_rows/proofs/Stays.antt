@@ -56,14 +56,14 @@ module _ {S X E : Type 0} {g : Ghosts S} {a b : MutBor (Held S)} where
     pub inside_as : {x : X} → StaysInside {E = E} g a b (Ok x) → StaysInside g a b s
     inside_as h = inside_when h (λ ok. refl)
 
-    -- calls of which the last may have failed, and then an error
+    -- the last of the calls may have failed, and the result is an error
     pub within_err : {r : Result X E} → StaysWithin g a b r → IsErr s → StaysWithin g a b s
     within_err h err = within_when h (λ ok. absurd (not_both s ok err))
 
     pub inside_err : {r : Result X E} → StaysInside g a b r → IsErr s → StaysInside g a b s
     inside_err h err = inside_when h (λ ok. absurd (not_both s ok err))
 
-    -- the first call was answered, and the rest goes on from there
+    -- the first call succeeded, and the rest goes on from its state
     module _ {c : MutBor (Held S)} {x : X} where
       pub within_then : StaysWithin {E = E} g a b (Ok x) → StaysWithin g b c s → StaysWithin g a c s
       within_then one two = record {

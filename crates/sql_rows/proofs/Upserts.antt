@@ -1,4 +1,4 @@
--- An INSERT of one row with ON CONFLICT on a key DO UPDATE and RETURNING: the row is put where no row has its key, and else the row that has it is set.
+-- An INSERT of one row with ON CONFLICT on a key DO UPDATE and RETURNING: if no row has the key, the new row is put, and else the row with the key is updated.
 use Rattle.sql_rows.proofs.Common.{cases_Bool, ◌≡◌, ◌≤◌, ◌<ℤ◌, ◌/◌, ◌&&◌, ◌⊎◌, ℕ, ℤ, suc, List, [], ◌∷◌, ◌++◌, map, filter, drop, length, append-nil, true, false, Bool, cond, Option, Some, None, Ok, inl, inr, refl, sym, ap, subst, ◌∙◌, arith, IsTrue, is_eq, int_cmp, AllByRecursion, list_all, Value, Null, Int, Row, Binary, value_cmp-Int, Trees, rowid, put_row, IsShaped, is_int, Enforced, Returning, Program, is_true, Compare, Eq, Term, col, op2, eval_all, holds, Query, overlay, Has, cast, cast_all, cast_row, Rowids, Chosen, Given, Edit, edit_of, next_rowid, with_rowid, are_fresh, no_works, Schema, Table, Values, Command, InsertOr, value_rows, Task, Written, Edited, Updates, Clears, Meets, Upserts, Judged, Tries, TriesEach, InsertsOr, stamped, rowids_for, count_of, nothing, joined, State, IsKeyedBy, update_where, all-filter, HasRows, columns_of, PicksOne, IsOf}
 use Rattle.sqlite_trees.specs.declared.store.Shape.TheVariants.{Table as TableShape}
 use Rattle.sqlite_schema.specs.declared.schema.Kind.TheVariants as kind
@@ -29,7 +29,7 @@ use Rattle.sql_rows.proofs.Tells.{SetsAndTells}
 
 -- ---- what the statement did
 
--- no row has the key and the row was put, or one has it and that was updated
+-- either no row has the key and the new row was put, or a row has the key and was updated
 abbrev Ends : Task → List ℕ → Program → Row → Trees → Written → Type 0
 Ends task target q new db w =
     (AreConflicts (Some target) task.schema.indexes task.table (db task.table.tree) new [] × PutsOne task new db (Ok w))

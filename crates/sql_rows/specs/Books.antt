@@ -12,11 +12,11 @@ no_schema = record { tables = []; indexes = []; views = [] }
 abbrev pub IsOf : Schema → State → Type 0
 IsOf schema s = s.now.schema ≡ schema
 
--- the rowids of its tables rise
+-- the rowids of the schema's tables rise
 abbrev pub IsKeyed : Schema → State → Type 0
 IsKeyed schema s = AreKeyed schema s.now.trees
 
--- Inside a transaction, books of which this is known are changed so, and nothing is committed.
+-- A call inside a transaction applies `change` to books that fulfil `Given`, and commits nothing.
 pub record Changes {B : Type 0} (schema : Schema) (Stands : Trees → B → Type 0) (old new : State) (Given : B → Type 0) (change : B → B) : Type 0 where
   pub schema_is : IsOf schema new
   pub keyed : IsKeyed schema old → IsKeyed schema new

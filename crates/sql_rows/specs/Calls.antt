@@ -26,8 +26,8 @@ module _ {S X E : Type 0} (g : Ghosts S) (old new : MutBor (Held S)) (result : R
     pub lives : HasCleanDisk (state g new.now) → IsTrue (state g old.now).in_transaction → IsTrue (state g old.now).is_open
         → OnOk result (Shows (state g old.now) (state g new.now) (state g new.now).now (state g old.now).committed true)
 
--- What a call inside a transaction does, in one clause: it stays there and commits nothing; and where it is well over a disk that did as it was told, this is said of what it
--- gave and of the states before and after it.
+-- States in one clause what a call inside a transaction does. The call stays in the transaction and commits nothing. If the disk was honest and the call
+-- succeeds, `Says` holds of its value and of the states before and after it.
 pub record DoesInside {S X E : Type 0} (g : Ghosts S) (old new : MutBor (Held S)) (result : Result X E) (Says : X → State → State → Type 0) : Type 0 where
   pub inside : StaysInside g old new result
   pub says : HasCleanDisk (state g new.now) → IfOk result (λ it. Says it (state g old.now) (state g new.now))
@@ -50,10 +50,10 @@ pub record Holds {B : Type 0} (schema : Schema) (Stands : Trees → B → Type 0
   pub keyed : IsKeyed schema s
   pub stands : Stands s.now.trees books
 
--- books of which this is given are still those that the tables stand for, and this is said of them
+-- if the tables stand for books that fulfil `Given`, they stand for the same books after the call, and `Says` holds of them
 abbrev pub Reads : {B : Type 0} → (schema : Schema) → (Stands : Trees → B → Type 0) → (Given : B → Type 0) → State → State → (B → Type 0) → Type 0
 Reads {B} schema Stands Given old new Says = (books : B) → Holds schema Stands old books → Given books → Holds schema Stands new books × Says books
 
--- from books of which this is given, the tables come to stand for these
+-- if the tables stand for books that fulfil `Given`, they stand for the changed books after the call
 abbrev pub Writes : {B : Type 0} → (schema : Schema) → (Stands : Trees → B → Type 0) → State → State → (B → Type 0) → (B → B) → Type 0
 Writes {B} schema Stands old new Given change = (books : B) → Holds schema Stands old books → Given books → Holds schema Stands new (change books)

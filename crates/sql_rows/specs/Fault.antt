@@ -1,4 +1,4 @@
--- How an error of the database is told, and which errors a call's fault can tell.
+-- Defines which fault reports an error of the database, and which errors a call's fault can report.
 use Rattle.std.specs.Prelude.{◌≡◌, ◌⊎◌, ℕ, Err, List, [], IsTrue, false}
 use Rattle.sqlite_value.specs.Order.{Row}
 use Rattle.sqlite_rules.specs.Lists.{Has}
@@ -16,7 +16,7 @@ fault_of (SqliteFailure OutOfMemory) = Memory
 fault_of (SqliteFailure TooBig) = Size
 fault_of _ = Failed
 
--- The fault tells, by its kind, an error of which this holds. Each fault is how some error is told, so what is said of the error is what counts.
+-- The fault reports an error for which `Gave` holds. Each kind of fault reports some error, so the clause has its meaning from `Gave`.
 abbrev pub IsToldOf : (Error → Type 0) → StoreFault → Type 0
 IsToldOf Gave fault = (e : Error) × (fault ≡ fault_of e) × Gave e
 

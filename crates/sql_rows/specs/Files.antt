@@ -28,10 +28,10 @@ IsFoundIn image db = IsHeldIn image db ⊎ (IsNothing image × IsEmpty db × ((o
 abbrev pub HoldsNoTable : Image → Type 0
 HoldsNoTable image = (db : Trees) × IsFoundIn image db × IsDatabaseOf no_schema db
 
--- whatever a crash leaves of the files, or a read finds in them, is a database of which this holds
+-- whatever a crash leaves of the files, or a read finds in them, is a database that fulfils `P`
 abbrev pub HoldsOne : {D : Type 0} → Ghosts D → Files D → (Trees → Type 0) → Type 0
 HoldsOne g files P = (image : Image) → outcomes g files.log files.db image → ∥ ((db : Trees) × P db × HoldsDatabase image db) ∥₁
 
--- the files that an open of these left as it failed
+-- an open of `files` failed and left the files `now`
 abbrev pub OpenFailed : {D : Type 0} → Ghosts D → Files D → Files D → Type 0
 OpenFailed {D} g files now = (left : Leftover D g) × (files_left left ≡ (now.log, now.db)) × (IsCleanLeft left → LeavesFiles files left)

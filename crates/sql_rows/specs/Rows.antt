@@ -34,7 +34,7 @@ SameBut schema tree old new = AllByRecursion (λ t. t.tree ≢ tree → new t.tr
 
 -- ---- values
 
--- a number, and a truth value, as a column has it
+-- the value of a column that holds a number, and of one that holds a truth value
 abbrev pub number_value : ℕ → Value
 number_value n = Int (pos n)
 

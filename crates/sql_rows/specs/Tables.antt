@@ -39,7 +39,7 @@ automatic_of name digits tree table columns =
 abbrev pub index_of : List ℕ → ℕ → ℕ → List ℕ → Index
 index_of name tree table columns = record { name = name; tree = tree; table = table; columns = columns; order = plain; is_unique = false }
 
--- a table by its name, its tree, the columns of its primary key, those of each key, its columns, and its foreign keys
+-- a table by its name, its tree, the columns of its primary key, the columns of each further key, its columns, and its foreign keys
 abbrev pub table_of : List ℕ → ℕ → List ℕ → List (List ℕ) → List Column → List Reference → Table
 table_of name tree primary uniques columns references = record {
   name = name;

@@ -11,8 +11,8 @@ use crate::fault::{StoreFault, fault_of};
 use sqlite::types::ValueRef;
 use sqlite::{Alter, Row, Transaction};
 
-/// The rows that a query shows. A fault tells by its kind the error that the database gave the query; after it the
-/// transaction may be rolled back.
+/// Returns the rows that a query shows. The kind of a fault reports the error that the database gave the query. After
+/// a fault the transaction may be rolled back.
 pub fn query<S: Alter>(
     tx: &mut Transaction<'_, S>,
     text: &str,

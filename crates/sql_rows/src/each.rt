@@ -13,9 +13,9 @@ use crate::fault::{StoreFault, fault_of};
 use sqlite::types::ValueRef;
 use sqlite::{Alter, Connection, Row, Rows};
 
-/// What takes the rows of an answer in their order.
+/// Takes the rows of an answer in their order.
 pub trait TakesRows: Sized {
-    // what was the first has come to this by these rows
+    // taking these rows turns the first taker into the second
     ghost took: { Self → Self → List SqlRow → Type 0 };
 
     fn take(&mut self, row: &Row) -> Result<(), StoreFault>
@@ -23,7 +23,7 @@ pub trait TakesRows: Sized {
             → took first self.new (given ++ row.now ∷ [])) };
 }
 
-/// Hands the rows of an answer that has just begun to `taker`, up to its end.
+/// Passes all rows of an answer that has just begun to `taker`.
 fn take_all<S: Alter, T: TakesRows>(rows: &mut Rows<'_, S>, taker: &mut T) -> Result<(), StoreFault>
     ensures same_reference { rows.new.conn.ghost_name ≡ rows.old.conn.ghost_name }
     ensures took { HasCleanDisk (state S.Store rows.new.conn.now)

@@ -15,7 +15,7 @@ pub enum StoreFault {
     Failed,
 }
 
-/// How an error of the database is told.
+/// Returns the fault that reports an error of the database.
 pub fn fault_of(error: Error) -> StoreFault
     ensures { result ≡ fault_of error }
 {

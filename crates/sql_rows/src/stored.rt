@@ -19,21 +19,21 @@ use sqlite::types::ValueRef;
 use sqlite::{Alter, Row, Transaction};
 use std::alloc::Global;
 
-/// What a row of some table is read as.
+/// A value that is read from a row of some table.
 pub trait Stored: Sized + Drop {
     // the columns of its row
     ghost columns: { Self → SqlRow };
 
-    // its numbers and texts are such as the program can hold
+    // the program can hold the value's numbers and texts
     ghost fits: { Self → Type 0 };
 
-    /// The value of which these are the columns, where the program can hold it.
+    /// Reads the value whose columns the row has. Fails if the program can't hold that value.
     fn read(row: &Row) -> Result<Self, StoreFault>
         ensures ok { IfOk result (λ x. columns x ≡ row.now) }
         ensures value { IfOk result (λ x. fits x) };
 }
 
-/// The values of the rows, in their order.
+/// Reads the values of the rows, in their order.
 fn read_all<T: Stored>(alloc: Global, rows: &[Row]) -> Result<Vec<T>, StoreFault>
     ensures ok { IfOk result (λ all. map T.Stored.columns all.items ≡ rows.now) }
     ensures values { IfOk result (λ all. AllByRecursion T.Stored.fits all.items) }
@@ -45,7 +45,7 @@ fn read_all<T: Stored>(alloc: Global, rows: &[Row]) -> Result<Vec<T>, StoreFault
     Ok(all)
 }
 
-/// The value of the first row, if there is a row.
+/// Returns the value of the first row, if there is a row.
 fn read_one<T: Stored>(rows: &[Row]) -> Result<Option<T>, StoreFault>
     ensures ok { IfOk result (λ o. map T.Stored.columns (option_to_list o) ≡ take 1 rows.now) }
     ensures value { IfOk result (λ o. IfSome o T.Stored.fits) }
@@ -56,7 +56,8 @@ fn read_one<T: Stored>(rows: &[Row]) -> Result<Option<T>, StoreFault>
     }
 }
 
-/// The values of the rows that a query shows, in their order. After a fault the transaction may be rolled back.
+/// Returns the values of the rows that a query shows, in their order. After a fault the transaction may be rolled
+/// back.
 pub fn query_all<S: Alter, T: Stored>(
     alloc: Global,
     tx: &mut Transaction<'_, S>,
@@ -72,7 +73,8 @@ pub fn query_all<S: Alter, T: Stored>(
     read_all(alloc, rows.as_slice())
 }
 
-/// The value of the first row that a query shows, if it shows a row. After a fault the transaction may be rolled back.
+/// Returns the value of the first row that a query shows, if it shows a row. After a fault the transaction may be
+/// rolled back.
 pub fn query_one<S: Alter, T: Stored>(
     tx: &mut Transaction<'_, S>,
     text: &str,
@@ -87,7 +89,7 @@ pub fn query_one<S: Alter, T: Stored>(
     read_one(rows.as_slice())
 }
 
-/// The number below 4,294,967,296 in the column, where columns are counted from 0.
+/// Returns the number below 4,294,967,296 in the column, where columns are counted from 0.
 pub fn number_at(row: &Row, at: usize) -> Result<u32, StoreFault>
     ensures ok { IfOk result (λ n. column row.now at ≡ number_value n) }
     ensures failed { IfErr result (λ e. e ≡ Failed → (n : ℕ) → n < 2 ^ 32 → at < length row.now
@@ -99,7 +101,7 @@ pub fn number_at(row: &Row, at: usize) -> Result<u32, StoreFault>
     }
 }
 
-/// The text in the column.
+/// Returns the text in the column.
 pub fn words_at(row: &Row, at: usize) -> Result<Words, StoreFault>
     ensures ok { IfOk result (λ w. column row.now at ≡ Text w) }
     ensures utf8 { IfOk result (λ w. IsUtf8 w) }
@@ -112,7 +114,7 @@ pub fn words_at(row: &Row, at: usize) -> Result<Words, StoreFault>
     }
 }
 
-/// The truth value in the column: 0 or 1.
+/// Returns the truth value in the column: 0 or 1.
 pub fn flag_at(row: &Row, at: usize) -> Result<bool, StoreFault>
     ensures ok { IfOk result (λ b. column row.now at ≡ flag_value b) }
     ensures failed { IfErr result (λ e. e ≡ Failed → (b : Bool) → at < length row.now
@@ -125,7 +127,7 @@ pub fn flag_at(row: &Row, at: usize) -> Result<bool, StoreFault>
     }
 }
 
-/// The bytes in the column.
+/// Returns the bytes in the column.
 pub fn bytes_at(row: &Row, at: usize) -> Result<Bytes, StoreFault>
     ensures ok { IfOk result (λ b. column row.now at ≡ Blob b) }
     ensures failed { IfErr result (λ e. e ≡ Failed → (b : List ℕ) → at < length row.now
@@ -137,7 +139,7 @@ pub fn bytes_at(row: &Row, at: usize) -> Result<Bytes, StoreFault>
     }
 }
 
-/// The text in the column, or none where it is NULL.
+/// Returns the text in the column, or none if it is NULL.
 pub fn words_or_null_at(row: &Row, at: usize) -> Result<Option<Words>, StoreFault>
     ensures ok { IfOk result (λ o. column row.now at ≡ or_null Text o) }
     ensures utf8 { IfOk result (λ o. IfSome o (λ w. IsUtf8 w)) }
@@ -150,7 +152,7 @@ pub fn words_or_null_at(row: &Row, at: usize) -> Result<Option<Words>, StoreFaul
     }
 }
 
-/// The number below 4,294,967,296 in the column, or none where it is NULL.
+/// Returns the number below 4,294,967,296 in the column, or none if it is NULL.
 pub fn number_or_null_at(row: &Row, at: usize) -> Result<Option<u32>, StoreFault>
     ensures ok { IfOk result (λ o. column row.now at ≡ or_null number_value o) }
 {

@@ -26,7 +26,7 @@ impl Model for Words {
 impl Words {
     ghost use Rattle.std.specs.Prelude.{◌≡◌, IsUtf8, string_bytes};
 
-    /// The text as such a value. It takes the `String`, and so no memory.
+    /// Returns the text as `Words`. It takes the `String`, and so no memory.
     pub fn new(text: String) -> Words
         ensures value { result ≡ string_bytes text }
         ensures utf8 { IsUtf8 result }
@@ -41,7 +41,7 @@ impl Words {
         self.text.as_str()
     }
 
-    /// The text as a `String`.
+    /// Returns the text as a `String`.
     pub fn into_string(self) -> String
         ensures { string_bytes result ≡ self }
     {
@@ -67,7 +67,7 @@ impl Model for Bytes {
 impl Bytes {
     ghost use Rattle.std.specs.Prelude.{◌≡◌};
 
-    /// The bytes as such a value. It takes the `Vec`, and so no memory.
+    /// Returns the bytes as `Bytes`. It takes the `Vec`, and so no memory.
     pub fn new(bytes: Vec<u8>) -> Bytes
         ensures { result ≡ bytes.items }
     {
@@ -81,7 +81,7 @@ impl Bytes {
     }
 }
 
-/// The text as a parameter, or NULL.
+/// Returns the text as a parameter, or NULL.
 pub fn value_or_null(text: &Option<Words>) -> ValueRef<'_>
     ensures { bound_value (owned result) ≡ or_null Text text.now }
 {

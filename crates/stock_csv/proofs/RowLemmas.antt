@@ -28,7 +28,7 @@ two_missing r i n lt e = absurd (field-there r i (omega arith) (sym e))
 
 -- ---- records, one at a time
 
--- the records of a text that stands in that state, n of them at most
+-- the records that a reader in that state reads in a text, at most n
 abbrev pub rest_of : ℕ → State → Text → List (List Text)
 rest_of n s rest = records_from default_config n s rest
 
@@ -42,7 +42,7 @@ unfolding records_from
 records_none zero s rest e = refl
 records_none (suc n) s rest e = rw e refl
 
--- the rows that stand already, and then the others
+-- the rows that were read already, and then the others
 abbrev pub after : List StockRow → StockRows → StockRows
 after rows (Ok more) = Ok (rows ++ more)
 after rows (Err line) = Err line
@@ -51,7 +51,7 @@ pub after-row : (rows : List StockRow) (row : StockRow) (said : StockRows) → a
 after-row rows row (Ok more) = ap Ok (sym (append_assoc rows (row ∷ []) more))
 after-row rows row (Err line) = refl
 
--- where the reading of the whole stands
+-- how far the reading of the whole text has come
 pub record Going (whole : StockRows) (rows : List StockRow) (line total : ℕ) (r : Reader (Bor (List ℕ))) : Type 0 where
   pub state : State
   pub rest : Text
@@ -118,14 +118,14 @@ unfolding stock_rows_of
 other_header text p fields e f h =
     ap rows_under_header (records_more 501 502 st.StartRecord (strip_bom text) p refl e) ∙ rw (← f, ← h) refl
 
--- what the records below the header row say, the whole says
+-- the whole text says what the records below the header row say
 pub under_header : (text : Text) (p : Read) (fields : List Text) → next_record default_config st.StartRecord [] [] (strip_bom text) ≡ Some p
     → fields ≡ p.0 → true ≡ is_header fields → (said : StockRows) → rows_from 2 0 (rest_of 501 p.1 p.2) ≡ said → stock_rows_of text ≡ said
 unfolding stock_rows_of
 under_header text p fields e f h said below =
     ap rows_under_header (records_more 501 502 st.StartRecord (strip_bom text) p refl e) ∙ rw (← f, ← h) below
 
--- a fault below the header row is the whole's
+-- a fault below the header row is the fault of the whole text
 pub fault_under_header : (text : Text) (p : Read) (fields : List Text) → next_record default_config st.StartRecord [] [] (strip_bom text) ≡ Some p
     → fields ≡ p.0 → true ≡ is_header fields → (fault : StockFault) → IsFaultOf fault (rows_from 2 0 (rest_of 501 p.1 p.2)) → IsFaultOf fault (stock_rows_of text)
 fault_under_header text p fields e f h (Bad bad) below = under_header text p fields e f h (Err bad.line) below

@@ -1,4 +1,4 @@
--- How far a reader of records has come.
+-- Defines how far a reader of records has come.
 use Rattle.std.specs.Prelude.{◌≡◌, ℕ, Bool, List, Option, Some, None}
 use Rattle.std.specs.Bool.{MatchBool}
 use Rattle.std.specs.Borrow.{Bor}

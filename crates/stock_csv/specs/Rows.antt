@@ -1,5 +1,5 @@
--- What the rows of a stock file say. A stock file is our own: a text of comma-separated fields with a header row, of which each further row says how many
--- copies of a film come.
+-- Defines the rows of a stock file. A stock file is our own: a text of comma-separated fields with a header row. Each further row says how many copies of a
+-- film come.
 use Rattle.std.specs.Prelude.{ℕ, ◌+◌, ◌==◌, ◌&&◌, ◌||◌, Bool, false, List, [], ◌∷◌, Option, Some, None, Result, Ok, Err, if◌then◌else◌, nat_lt, nat_le, codes, option_and_then}
 use Rattle.std.specs.Str.{bytes_eq}
 use Rattle.std.specs.Str.Parse.{digits_value}
@@ -41,8 +41,8 @@ abbrev pub with_row : StockRow → StockRows → StockRows
 with_row row (Ok rows) = Ok (row ∷ rows)
 with_row row (Err line) = Err line
 
--- the record at a line, under records of `total` copies, and what is said from the line below it on: a file has 500 rows at most, the last of them on
--- line 501, and 1,000 copies
+-- The record at a line, below records of `total` copies, with the rows from the next line on. A file has at most 500 rows, the last of them on line 501, and at
+-- most 1,000 copies.
 abbrev pub row_then : ℕ → ℕ → Option StockRow → (ℕ → StockRows) → StockRows
 row_then line total None below = Err line
 row_then line total (Some row) below =
@@ -57,7 +57,7 @@ abbrev pub rows_under_header : List (List Text) → StockRows
 rows_under_header [] = Err 1
 rows_under_header (header ∷ more) = if is_header header then rows_from 2 0 more else Err 1
 
--- the rows of a stock file. At most one byte order mark is passed over at its start, and so are blank lines, which have no number. The first 502 records
--- settle it, since the last of them is at fault whatever it says
+-- The rows of a stock file. One byte order mark at its start is skipped. Blank lines are skipped too, and have no number. Only the first 502 records are read,
+-- since record 502 is at fault whatever it says.
 unfoldable pub stock_rows_of : Text → StockRows
 stock_rows_of text = rows_under_header (records_from default_config 502 st.StartRecord (strip_bom text))

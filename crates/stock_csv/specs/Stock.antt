@@ -1,4 +1,4 @@
--- What a stock file says to a shop: copies, in the order in which they are numbered.
+-- Defines the copies that a stock file gives a shop, in the order in which they are numbered.
 use Rattle.std.specs.Prelude.{◌≡◌, ℕ, ◌≤◌, ◌<◌, ◌^◌, true, List, length, Ok, Err, All, flat_map, replicate}
 use Rattle.std.specs.List.{AllByRecursion}
 use Rattle.shop_model.specs.Values.{Stock, Copies, BadLine}

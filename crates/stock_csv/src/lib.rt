@@ -1,4 +1,4 @@
-//! Stock files: which films come to a branch, and how many copies of each.
+//! Reads stock files. A stock file lists which films a branch gets, and how many copies of each.
 #![tactic(auto)]
 
 ghost use Rattle.std.specs.Prelude.{◌≡◌, ℕ, List, [], Some, Ok, IfOk, IfErr, option_map};
@@ -46,7 +46,7 @@ fn copies_in(field: &[u8]) -> Option<u16>
     }
 }
 
-/// The fields of a record that has two.
+/// Returns the fields of a record that has two.
 #[tactic(auto, using(crate::proofs::RowLemmas::two_some, crate::proofs::RowLemmas::two_missing))]
 fn two(fields: &ByteRecord) -> Option<(&[u8], &[u8])>
     ensures { option_map (λ pair. (pair.0.now, pair.1.now)) result ≡ two_of (fields_of fields.now) }
@@ -63,7 +63,7 @@ fn two(fields: &ByteRecord) -> Option<(&[u8], &[u8])>
     Some((first, second))
 }
 
-/// Whether a record is the header row.
+/// Returns whether a record is the header row.
 fn is_header(fields: &ByteRecord) -> bool
     ensures { result ≡ is_header (fields_of fields.now) }
 {
@@ -92,8 +92,8 @@ fn row_in(fields: &ByteRecord) -> Option<StockRow>
     }
 }
 
-/// A reader at the start of a text. Records of any length are given, and those that have not two fields are found by
-/// `two`.
+/// Returns a reader at the start of a text. It reads records of any length, and `two` finds the records that haven't
+/// two fields.
 fn start<'a>(alloc: Global, text: &'a [u8]) -> Reader<&'a [u8]>
     ensures { IsAt result st.StartRecord (strip_bom text.now) }
 {
@@ -103,7 +103,8 @@ fn start<'a>(alloc: Global, text: &'a [u8]) -> Reader<&'a [u8]>
         .from_reader(alloc, text)
 }
 
-/// The next record, if there is one. No error but want of memory is told, since bytes that are in memory always read.
+/// Reads the next record, if there is one. It fails only with out of memory, since bytes that are in memory always
+/// read.
 fn next(reader: &mut Reader<&[u8]>, fields: &mut ByteRecord) -> Result<bool, StockFault>
     ensures found { IfOk result (λ found. (s : State) (rest : List ℕ) → IsAt reader.old s rest
         → Found (next_record default_config s [] [] rest) reader.new found (fields_of fields.new)) }
@@ -155,14 +156,14 @@ fn read_rows(
     }
 }
 
-/// The rows of a stock file, in the file's order, or the number of its first record at fault, where the header row
-/// has the number 1.
+/// Reads the rows of a stock file, in the file's order. Fails with the number of the first record at fault. The header
+/// row has the number 1.
 ///
-/// The text is comma-separated, with double quotes where a field needs them, and one UTF-8 byte order mark may stand
-/// at its start. Its first record is `film_id,copies`, and each further one the number of a film and how many copies
-/// of it come, from 1 to 99, both in decimal with no leading zero. There are 1 to 500 such rows, and 1,000 copies at
-/// most in all. Blank lines are passed over and have no number. With no row the fault is on line 2, and in an empty
-/// text on line 1.
+/// The text is comma-separated, with double quotes around a field that needs them. It may start with one UTF-8 byte
+/// order mark. Its first record is `film_id,copies`. Each further record has the number of a film, and how many copies
+/// of it come, from 1 to 99. Both are in decimal with no leading zero. There are 1 to 500 such rows, and at most 1,000
+/// copies in all. Blank lines are skipped and have no number. If there is no row, the fault is on line 2. In an empty
+/// text the fault is on line 1.
 pub fn read_stock(alloc: Global, text: &[u8]) -> Result<Vec<StockRow>, StockFault>
     ensures rows { IfOk result (λ v. stock_rows_of text.now ≡ Ok v.items) }
     ensures limits { IfOk result (λ v. IsStock v.items) }

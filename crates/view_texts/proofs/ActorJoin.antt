@@ -14,18 +14,19 @@ use Rattle.view_texts.proofs.Parted.{part, parted}
 use Rattle.sqlite_tied.specs.Compute.{everything}
 use Rattle.sqlite.specs.Listing.{understood}
 use Rattle.view_texts.specs.declared.actors.TheConstants.{SELECT_ACTORS}
+use Rattle.shop_schema.specs.Trees.{category_tree, film_actor_tree, film_tree}
 
 -- ---- what its text means
 
 -- what is joined to a film, to a cast, and to an actor
 abbrev pub with_category : Join
-with_category = left 7 (are_equal (col 4 1) (col 3 5) ∷ []) end
+with_category = left category_tree (are_equal (col 4 1) (col 3 5) ∷ []) end
 
 abbrev pub with_film : Join
-with_film = left 14 (are_equal (col 3 1) (col 2 1) ∷ []) with_category
+with_film = left film_tree (are_equal (col 3 1) (col 2 1) ∷ []) with_category
 
 abbrev pub with_cast : Join
-with_cast = left 16 (are_equal (col 2 2) (col 1 1) ∷ []) with_film
+with_cast = left film_actor_tree (are_equal (col 2 2) (col 1 1) ∷ []) with_film
 
 abbrev pub actor_shows : List Term
 actor_shows = col 1 1 ∷ col 1 2 ∷ col 1 3 ∷ col 4 1 ∷ col 4 2 ∷ col 3 2 ∷ []
@@ -90,7 +91,7 @@ module _ (catalogue : Catalogue) (in_category : list_all (λ (it : Film). has_ro
       not-true (lacks catalogue.categories x.category)
       (sym (and_true (has_row catalogue.categories x.category)) ∙ ap (list_all (λ (it : Film). has_row catalogue.categories it.category)) (sym is) ∙ all_at (λ (it : Film). has_row catalogue.categories it.category) n catalogue.films in_category)
 
-  -- the films of an actor, by the actor's casts and by categories
+  -- the films of an actor, found by the actor's casts and found by categories
   abbrev films_with : ℕ → List (ℕ × Film)
   films_with actor = filter (λ (it : ℕ × Film). is_cast catalogue it.0 actor) (numbered catalogue.films)
 

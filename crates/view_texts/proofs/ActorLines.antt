@@ -1,4 +1,4 @@
--- A row of the actors' join, taken.
+-- How a row of the actors' join is taken.
 use Rattle.shop_schema.proofs.Common.{◌≡◌, ◌==◌, ℕ, Bool, true, false, cond, List, [], ◌∷◌, ◌++◌, codes, map, Option, Some, None, option_map, refl, sym, ap, subst, ◌∙◌, join_by, map-append, column, number_value, same_number, ActorRow}
 use Rattle.shop_model.specs.Views.{listed_actor}
 use Rattle.sqlite.specs.declared.types.Value.TheVariants.{Text}
@@ -15,7 +15,7 @@ use Rattle.view_texts.proofs.PersonLines.{same_words}
 use Rattle.view_texts.proofs.FilmRuns.{join_map}
 use Rattle.view_texts.proofs.ActorRuns.{run_push}
 
--- an actor whose groups are all that were started
+-- if `groups` are all groups of the actor, their text is the actor's films
 pub whole_seen : (actor : StartedActor) (groups : List FilmGroup) → map seen_group groups ≡ every_group (seen_part actor).1
     → join_by films_text (codes "; ") groups ≡ (whole (seen_part actor)).films
 whole_seen actor groups is = join_map text_of seen_group (codes "; ") groups ∙ ap (join_by text_of (codes "; ")) is
@@ -55,7 +55,7 @@ actor_is row number first last complete at0 at1 at2 none line is =
 
 -- ---- the next actor
 
--- what an actor under way comes to by a line, and what is on the page then
+-- the effect of a line: the actor under way, and the actors on the page, after the line was taken
 abbrev pub Takes : Page → Page → Option StartedActor → StartedActor → ActorLine → List ActorRow → Type 0
 Takes old new held it line actors =
     HasTexts old (map listed_actor actors)
@@ -64,7 +64,7 @@ Takes old new held it line actors =
 pushed_actor : (actors : List ActorRow) (row : ActorRow) → map listed_actor actors ++ listed_actor row ∷ [] ≡ map listed_actor (actors ++ row ∷ [])
 pushed_actor actors row = sym (map-append listed_actor actors (row ∷ []))
 
--- a row of another actor: the one under way goes on the page
+-- a row of another actor: the actor before goes on the page
 pub other_actor : (old new : Page) (row : sql.Row) (line : ActorLine) (actors : List ActorRow) (number : ℕ) (actor fresh it : StartedActor) → column row 0 ≡ number_value number → row ≡ shown_actor line → (number == actor.number) ≡ false
     → ((texts : List model.Text) → HasTexts old texts → HasTexts new (texts ++ listed_actor (whole (seen_part actor)) ∷ []))
     → seen_part fresh ≡ (actor_alone line.0, ([], None)) → seen_part it ≡ ((seen_part fresh).0, take_any (seen_part fresh).1 (option_map told_film line.1))
@@ -84,7 +84,7 @@ other_actor old new row line actors number actor fresh it numbered shown other a
 
 -- ---- the last actor
 
--- the page has all actors, once the one under way is on it
+-- the page has all actors, once the last actor is on the page
 pub last_actor : (old new : Page) (actors : List ActorRow) (actor : StartedActor) → ((texts : List model.Text) → HasTexts old texts → HasTexts new (texts ++ listed_actor (whole (seen_part actor)) ∷ []))
     → HasTexts old (map listed_actor actors) → (held : Option StartedActor) → held ≡ Some actor → HasTexts new (map listed_actor (closed (actors, option_map seen_part held)))
 last_actor old new actors actor added on held is =

@@ -20,7 +20,7 @@ name_of c = c.1
 abbrev title_of : ℕ × Film → model.Text
 title_of film = film.1.title
 
--- a film of an earlier category, or an earlier one of the same
+-- a film of an earlier category, or an earlier film of the same category
 abbrev Comes : FilmIn → FilmIn → Type 0
 Comes x y = (by_text name_of x.0 y.0 ≡ Less) ⊎ ((x.0 ≡ y.0) × (by_text title_of x.1 y.1 ≡ Less))
 

@@ -1,4 +1,4 @@
--- Lines of actors, of which neighbours belong together, and in them films, of which neighbours are of one category.
+-- Lines of actors. Neighbouring lines belong to one actor, and among them neighbouring films belong to one category.
 use Rattle.shop_schema.proofs.Common.{◌≡◌, ◌==◌, ◌+◌, ◌<◌, ℕ, false, cond, not, List, [], ◌∷◌, ◌++◌, codes, map, filter, Option, Some, None, option_map, refl, sym, ap, ◌∙◌, arith, append-nil, append_assoc, IfSome, flat_map, join_by, AllByRecursion, nat_tests, IsAscending, all_of, ascending_weaker, is_empty, numbered, numbered_from, Actor, Film, Catalogue, ActorRow, actor_row, films_of, categories_by_name, same_test}
 use Rattle.shop_model.specs.Values as model
 use Rattle.shop_store.proofs.LastNumbers.{numbered_rise}
@@ -42,7 +42,7 @@ module _ (c : ℕ × model.Text) where
       ap (λ (s : Groups). run_films s (in_it l)) one ∙ more_films groups (names ++ title_of it ∷ []) l
       ∙ ap (λ (t : List model.Text). (groups, Some (c.0, (c.1, t)))) (append_assoc names (title_of it ∷ []) (titles l))
 
-  -- no category is under way, or another one
+  -- no category has begun, or another category has
   abbrev IsOther : Option (ℕ × Group) → Type 0
   IsOther o = IfSome o (λ (it : ℕ × Group). (c.0 == it.0) ≡ false)
 
@@ -96,7 +96,7 @@ module _ (actor : ℕ × Actor) where
       ap (λ b. cond {A = Grouped} b (actors, Some (part_of (take_film groups (told_film it)))) (actors ++ whole (part_of groups) ∷ [], Some (part_of (take_film ([], None) (told_film it))))) (same_test actor.0) in
       ap (λ (s : Grouped). run_from s (map (λ film. (actor, Some film)) l)) one ∙ further actors (take_film groups (told_film it)) l
 
-  -- no actor is under way, or an earlier one
+  -- no actor has begun, or an earlier actor has
   abbrev IsBefore : Option ActorPart → Type 0
   IsBefore o = IfSome o (λ (part : ActorPart). part.0.number < actor.0)
 

@@ -1,4 +1,4 @@
--- Numbered rows in the byte order of a text: those of one text stay in the order of their numbers.
+-- Numbered rows in the byte order of a text. Rows with the same text stay in the order of their numbers.
 use Rattle.shop_schema.proofs.Common.{◌≡◌, ◌==◌, ◌<◌, ℕ, Bool, true, false, cond, true≢false, List, [], ◌∷◌, refl, sym, ap, ◌∙◌, arith, Less, Equal, Greater, Ordering, IsPermutation, is_le, nat_cmp, ordering_then, ordering_reverse, IsTotalOrder, slice_cmp, AllByRecursion, nat_tests, on_total, then_total, nat_cmp_total, nat_list_cmp_total, IsPermutation-refl, IsPermutation-trans, IsPermutation-cons, IsPermutation-middle, IsAscending, all_both, Text, is_before_text, insert_by, sorted_by}
 use Rattle.view_texts.proofs.Orders.{less}
 

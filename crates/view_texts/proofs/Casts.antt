@@ -2,7 +2,7 @@
 use Rattle.shop_schema.proofs.Common.{◌≡◌, ◌==◌, ◌&&◌, ◌||◌, ℕ, Bool, true, false, cond, List, [], ◌∷◌, ◌++◌, map, filter, not, refl, sym, ap, subst, ◌∙◌, arith, inl, inr, IsPermutation, flat_map, list_any, list_all, AllByRecursion, nat_tests, IsPermutation-refl, IsPermutation-trans, IsPermutation-cons, IsPermutation-middle, IsPermutation-append_right, and_parts, not-true, IsAscending, filter_none, filter_same, all_of, all_weaker, all_from_test, none_from_any, IsPermutation-same, at, lacks, numbered, is_empty, Cast, Catalogue, has_row, are_different, at_one}
 use Rattle.shop_schema.proofs.Numbers.{numbered_at}
 
--- those that pass either of two tests that never both hold
+-- the elements that pass either of two tests, which never both hold
 filter_or : {X : Type 0} (p q : X → Bool) → ((x : X) → p x ≡ true → q x ≡ false) → (xs : List X) → IsPermutation (filter p xs ++ filter q xs) (filter (λ x. p x || q x) xs)
 filter_or p q apart [] = IsPermutation-refl []
 filter_or {X} p q apart (x ∷ xs) = go (p x) (q x) refl refl (filter_or p q apart xs)
@@ -31,7 +31,7 @@ module _ {A : Type 0} (xs : List A) where
       other : (m : ℕ) → (n == m) ≡ false → (m == a) ≡ false
       other m h = grind (arith, nat_tests)
 
-  -- the actors who have a cast, each once, are those of the casts
+  -- the actors of different casts are the actors that have a cast, each once
   pub cast_bag : (mine : List Cast) → Differ mine → IsPermutation (played_by mine) (filter (λ (it : ℕ × A). list_any (λ (c : Cast). c.actor == it.0) mine) (numbered xs))
   cast_bag [] apart = IsPermutation-same _ _ (sym (filter_none (λ (it : ℕ × A). false) (numbered xs) (all_of _ (λ it. refl) (numbered xs))))
   cast_bag (c ∷ mine) apart =

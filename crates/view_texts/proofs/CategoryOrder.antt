@@ -1,4 +1,4 @@
--- Rows that are put among others, one after another.
+-- Rows that are put among other rows, one after another.
 use Rattle.shop_schema.proofs.Common.{◌≡◌, ℕ, List, [], ◌∷◌, ◌++◌, map, take, drop, Option, Some, refl, sym, ap, ◌∙◌, option_to_list, map-append, Text, sells_more, insert_by, sorted_by}
 use Rattle.shop_views.specs.Sales.{seen_category}
 use Rattle.shop_views.specs.declared.sales.CategoryRow.{CategoryRow}
@@ -19,7 +19,7 @@ put_behind : (xs ys done : List (Text × ℕ)) → all_put (xs ++ ys) done ≡ a
 put_behind [] ys done = refl
 put_behind (x ∷ xs) ys done = ap (insert_by sells_more x) (put_behind xs ys done)
 
--- the last one, where it has a sum, is put among the rows
+-- the last category is put among the rows, if it has a sum
 pub last_put : (xs : List (Text × Option ℕ)) (name : Text) (total : ℕ) (done next : List (Text × ℕ)) → next ≡ insert_by sells_more (name, total) done
     → all_put (sold (xs ++ (name, Some total) ∷ [])) done ≡ all_put (sold xs) next
 last_put xs name total done next is =
@@ -28,7 +28,7 @@ last_put xs name total done next is =
 
 -- ---- the place of a row
 
--- the row stands behind those before the place
+-- the row's place in the order is not before place `i`
 abbrev pub IsLater : Text × ℕ → ℕ → List CategoryRow → Type 0
 IsLater x i rows = insert_by sells_more x (map seen_category rows) ≡ map seen_category (take i rows) ++ insert_by sells_more x (map seen_category (drop i rows))
 

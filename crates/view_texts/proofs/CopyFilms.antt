@@ -1,4 +1,4 @@
--- The film of a copy, where the copy is joined by its number and the film behind it.
+-- The film of a copy. The copy is joined by its number, and the film after the copy.
 use Rattle.shop_schema.proofs.Common.{◌≡◌, ◌&&◌, ℕ, List, [], ◌∷◌, filter, true, refl, sym, ap, ◌∙◌, append-nil, flat_map, Value, Null, column, Trees, or_nulls, columns_of, number_value, equals, left_no_pair, PicksOne, Row, at, is_row, Film, Books, BookCopy, film_columns, copy_columns, StandsFor}
 use Rattle.sqlite_value.specs.Order as sql
 use Rattle.shop_schema.proofs.Numbers.{left_null}
@@ -7,7 +7,7 @@ use Rattle.view_texts.proofs.Lefts.{by_number, by_pair}
 abbrev pub copy_films : Books → List (Row BookCopy) → List Film
 copy_films books copies = flat_map (λ (copy : Row BookCopy). at copy.it.film books.catalogue.films) copies
 
--- `out` is what is shown with a value of the film, which is that of the column `place`
+-- `out` is what is shown with a value of the film; the value is in the column `place`
 module _ {Z : Type 0} (books : Books) (db : Trees) (s : StandsFor db books) (place : ℕ) (value : List Film → Value) (blank : column (columns_of 12 []) place ≡ value [])
     (one : (n : ℕ) (film : Film) → column (film_columns (n, film)) place ≡ value (film ∷ [])) (gives : sql.Row → List Z) (out : Value → List Z)
     (is : (c : sql.Row) → gives (Null ∷ c) ≡ out (column c place)) (only : (r : sql.Row) → gives r ≡ gives (Null ∷ columns_of 12 r)) (b : ℕ) where

@@ -12,18 +12,19 @@ use Rattle.view_texts.proofs.Casts.{casts_of, played_by, cast_bag, there_one, an
 use Rattle.view_texts.specs.declared.films.TheConstants.{SELECT_FILMS}
 use Rattle.sqlite_tied.specs.Compute.{everything}
 use Rattle.sqlite.specs.Listing.{understood}
+use Rattle.shop_schema.specs.Trees.{actor_tree, category_tree, film_actor_tree}
 
 -- ---- what its text means
 
 -- what is joined to a cast, to a category, and to a film
 abbrev pub with_actor : Join
-with_actor = left 12 (are_equal (col 4 1) (col 3 2) ∷ []) end
+with_actor = left actor_tree (are_equal (col 4 1) (col 3 2) ∷ []) end
 
 abbrev pub with_cast : Join
-with_cast = left 16 (are_equal (col 3 1) (col 1 1) ∷ []) with_actor
+with_cast = left film_actor_tree (are_equal (col 3 1) (col 1 1) ∷ []) with_actor
 
 abbrev pub with_category : Join
-with_category = left 7 (are_equal (col 2 1) (col 1 5) ∷ []) with_cast
+with_category = left category_tree (are_equal (col 2 1) (col 1 5) ∷ []) with_cast
 
 abbrev pub film_shows : List Term
 film_shows = col 1 1 ∷ col 1 2 ∷ col 1 3 ∷ col 2 2 ∷ col 1 7 ∷ col 1 9 ∷ col 1 10 ∷ col 4 2 ∷ col 4 3 ∷ []
@@ -58,7 +59,7 @@ module _ (catalogue : Catalogue) (db : Trees) (categories : HasRows 2 (db 7) (ma
   out category actor =
       (number_value film.0 ∷ or_null (λ (it : ℕ × Actor). number_value it.0) actor ∷ [], row_with category (or_null (λ (it : ℕ × Actor). Text it.1.first) actor) (or_null (λ (it : ℕ × Actor). Text it.1.last) actor))
 
-  -- the outputs of some actors, one where there is none
+  -- the outputs of some actors; one output if there is no actor
   abbrev outs : Value → List (ℕ × Actor) → List Output
   outs category [] = out category None ∷ []
   outs category (it ∷ its) = map (λ actor. out category (Some actor)) (it ∷ its)
@@ -85,7 +86,7 @@ module _ (catalogue : Catalogue) (db : Trees) (categories : HasRows 2 (db 7) (ma
         (λ i. cast_there c one.0 one.1 i ++ casts_there mine there.1 i)
         ∙ ap (λ l. map (λ actor. out (column c2 1) (Some actor)) (map (λ y. (c.actor, y)) l ++ played_by catalogue.actors mine)) (sym one.1)
 
-    -- the film's casts, whose actors are those of the list
+    -- the film's casts; their actors are in the list of actors
     abbrev mine : List Cast
     mine = casts_of film.0 catalogue.casts
 

@@ -1,4 +1,4 @@
--- A row of the films' join, read and taken.
+-- How a row of the films' join is read and taken.
 use Rattle.shop_schema.proofs.Common.{◌≡◌, ◌==◌, ℕ, false, cond, List, [], ◌∷◌, ◌++◌, map, Option, Some, None, option_map, refl, sym, ap, subst, ◌∙◌, map-append, or_null, column, number_value, same_or_null, same_number, at, Catalogue, FilmRow, category_name, at_one, rating_text, Rating}
 use Rattle.shop_model.specs.Views.{listed_film}
 use Rattle.sqlite.specs.declared.types.Value.TheVariants.{Text}
@@ -15,7 +15,7 @@ use Rattle.sql_rows.proofs.EachLemmas.{split_last}
 use Rattle.view_texts.proofs.PersonLines.{name_read, same_words}
 use Rattle.view_texts.proofs.FilmRuns.{run_push, whole_seen}
 
--- a film of these values, of whose actors nothing is said
+-- a film with these values, and without actors
 abbrev film_of : ℕ → model.Text → model.Text → model.Text → ℕ → Option ℕ → Rating → FilmRow
 film_of number title description category rate minutes rating = record {
   number = number;
@@ -55,7 +55,7 @@ film_is row number title description category rate minutes rating at0 at1 at2 at
 
 -- ---- the next film
 
--- what a film under way comes to by a line, and what is on the page then
+-- the effect of a line: the film under way, and the films on the page, after the line was taken
 abbrev pub Takes : Catalogue → Page → Page → Option rows.ListedFilm → rows.ListedFilm → FilmLine → List FilmRow → Type 0
 Takes catalogue old new held it line films =
     HasTexts old (map listed_film films)
@@ -69,7 +69,7 @@ fresh_part catalogue line fresh it alone none seen = seen ∙ (λ i. (alone i, m
 pushed_film : (films : List FilmRow) (film : rows.ListedFilm) → map listed_film films ++ listed_film (seen_film film) ∷ [] ≡ map listed_film (films ++ whole (seen_part film) ∷ [])
 pushed_film films film = ap (λ row. map listed_film films ++ listed_film row ∷ []) (whole_seen film) ∙ sym (map-append listed_film films (whole (seen_part film) ∷ []))
 
--- a row of another film: the one under way goes on the page
+-- a row of another film: the film before goes on the page
 pub other_film : (catalogue : Catalogue) (old new : Page) (row : sql.Row) (line : FilmLine) (films : List FilmRow) (number : ℕ) (film fresh it : rows.ListedFilm) → column row 0 ≡ number_value number → row ≡ shown_film catalogue line → (number == film.number) ≡ false
     → ((texts : List model.Text) → HasTexts old texts → HasTexts new (texts ++ listed_film (seen_film film) ∷ []))
     → film_with [] fresh ≡ film_alone catalogue line.0 → fresh.actors.items ≡ [] → seen_part it ≡ ((seen_part fresh).0, (seen_part fresh).1 ++ names_of line.1)
@@ -87,7 +87,7 @@ other_film catalogue old new row line films number film fresh it numbered shown 
 
 -- ---- the last film
 
--- the page has all films, once the one under way is on it
+-- the page has all films, once the last film is on the page
 pub last_film : (old new : Page) (films : List FilmRow) (film : rows.ListedFilm) → ((texts : List model.Text) → HasTexts old texts → HasTexts new (texts ++ listed_film (seen_film film) ∷ []))
     → HasTexts old (map listed_film films) → (held : Option rows.ListedFilm) → held ≡ Some film → HasTexts new (map listed_film (closed (films, option_map seen_part held)))
 last_film old new films film added on held is =

@@ -1,4 +1,4 @@
--- Lines of films, of which neighbours belong together.
+-- Lines of films. Neighbouring lines belong to one film.
 use Rattle.shop_schema.proofs.Common.{◌≡◌, ◌==◌, ◌+◌, ◌<◌, ℕ, false, cond, List, [], ◌∷◌, ◌++◌, codes, map, Option, Some, None, refl, sym, ap, ◌∙◌, arith, append-nil, IfSome, flat_map, join_by, nat_tests, numbered_from, Actor, Film, Catalogue, FilmRow, film_row, same_test}
 use Rattle.shop_model.specs.Values as model
 use Rattle.shop_views.specs.Names.{name_text}
@@ -46,7 +46,7 @@ module _ (catalogue : Catalogue) (film : ℕ × Film) where
       pushed [] x b = refl
       pushed (y ∷ a) x b = ap (λ (l : List model.Text). y ∷ l) (pushed a x b)
 
-  -- no film is under way, or an earlier one
+  -- no film has begun, or an earlier film has
   abbrev IsBefore : Option FilmPart → Type 0
   IsBefore o = IfSome o (λ (part : FilmPart). part.0.number < film.0)
 

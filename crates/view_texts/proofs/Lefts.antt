@@ -1,4 +1,4 @@
--- What a row that is joined by a key brings, where there is one at most: `LEFT JOIN t ON t.number = key`.
+-- The output of a row that is joined by a key, if the key has at most one row: `LEFT JOIN t ON t.number = key`.
 use Rattle.shop_schema.proofs.Common.{◌≡◌, ◌&&◌, ℕ, List, [], ◌∷◌, ◌++◌, map, filter, true, Option, Some, None, sym, ap, subst, ◌∙◌, append-nil, inl, inr, ◌⊎◌, option_to_list, flat_map, Null, or_null, column, or_nulls, HasRows, columns_of, number_value, or_blank, equals, few_list, left_pair, left_no_pair, PicksOne, Row, is_row, at, numbered, at_one}
 use Rattle.sqlite_value.specs.Order as sql
 use Rattle.shop_schema.proofs.Numbers.{left_number, left_null}
@@ -8,7 +8,7 @@ pub one_at_most : {A : Type 0} (P : List A → Type 0) → P [] → ((x : A) →
 one_at_most P none some l (inl is) = subst P (sym is) none
 one_at_most P none some l (inr one) = subst P (sym one.1) (some one.0)
 
--- what none brings, or the only one
+-- the output of no row, or of the only row
 one_or_none : {A Z : Type 0} (width : ℕ) (columns : A → sql.Row) (gives : sql.Row → List Z) (P : List A → List Z → Type 0) → P [] (gives (Null ∷ columns_of width []))
     → ((x : A) → P (x ∷ []) (gives (Null ∷ columns x))) → (l : List A) → (l ≡ []) ⊎ ((x : A) × (l ≡ x ∷ [])) → P l (flat_map (λ c. gives (Null ∷ c)) (or_blank width (map columns l)))
 one_or_none width columns gives P none some =

@@ -1,5 +1,5 @@
--- The join of what is out: what its text means, and what it shows of the books, which is each open rental of the branch, with its terms, its customer and the
--- title of its film.
+-- The join of the copies that are out: what its text means, and what it shows of the books. It shows each open rental of the branch, with its terms, its
+-- customer and the title of its film.
 use Rattle.shop_schema.proofs.Common.{◌≡◌, ◌≤◌, ◌==◌, ◌&&◌, ℕ, List, [], ◌∷◌, ◌++◌, map, filter, length, true, cond, refl, sym, ap, subst, ◌∙◌, arith, append-nil, append_assoc, is_none, AllByRecursion, flat_map, filter-append, IsPermutation-refl, Value, Null, or_null, column, Trees, col, inner, Output, overlay, State, map-map, all-filter, IsPermutation-same, HasRows, PicksOne, columns_of, number_value, answers, kept_as_map, or_blank, shown_of, equals, left_pair, joined_rows, Row, is_of, is_row, Customer, Film, Rental, Terms, Books, head, same_test, filter_filter, shop_schema, moment_value, customer_table, customer_columns, rental_columns, terms_columns, out_columns, is_open, out_of, IsHeld, StandsFor, Holds, CopyRows, Customers, Rentals, TermRows, ascending, Key, Binary, Term, Query, Join, left, end, IsQuery, Selects, is_query, joined_query, are_equal}
 use Rattle.std.specs.Prelude.{Bool}
 use Rattle.std.proofs.lemmas.List.{length-append}
@@ -15,24 +15,25 @@ use Rattle.view_texts.specs.declared.overdue.TheConstants.{SELECT_OUTS}
 use Rattle.sqlite_value.specs.Order as sql
 use Rattle.sqlite_tied.specs.Compute.{everything}
 use Rattle.sqlite.specs.Listing.{understood}
+use Rattle.shop_schema.specs.Trees.{copy_tree, customer_tree, film_tree, rental_terms_tree, rental_tree}
 
 -- ---- what its text means
 
 -- what is joined to a copy, to a customer, to terms, to a rental, and to a copy that is out
 abbrev pub with_film : Join
-with_film = left 14 (are_equal (col 6 1) (col 5 3) ∷ []) end
+with_film = left film_tree (are_equal (col 6 1) (col 5 3) ∷ []) end
 
 abbrev pub with_copy : Join
-with_copy = left 25 (are_equal (col 5 1) (col 1 1) ∷ are_equal (col 5 2) (col 1 2) ∷ []) with_film
+with_copy = left copy_tree (are_equal (col 5 1) (col 1 1) ∷ are_equal (col 5 2) (col 1 2) ∷ []) with_film
 
 abbrev pub with_customer : Join
-with_customer = left 23 (are_equal (col 4 1) (col 1 1) ∷ are_equal (col 4 2) (col 2 5) ∷ []) with_copy
+with_customer = left customer_tree (are_equal (col 4 1) (col 1 1) ∷ are_equal (col 4 2) (col 2 5) ∷ []) with_copy
 
 abbrev pub with_terms : Join
-with_terms = left 57 (are_equal (col 3 1) (col 1 1) ∷ are_equal (col 3 2) (col 1 3) ∷ []) with_customer
+with_terms = left rental_terms_tree (are_equal (col 3 1) (col 1 1) ∷ are_equal (col 3 2) (col 1 3) ∷ []) with_customer
 
 abbrev pub with_rental : Join
-with_rental = left 27 (are_equal (col 2 1) (col 1 1) ∷ are_equal (col 2 2) (col 1 3) ∷ []) with_terms
+with_rental = left rental_tree (are_equal (col 2 1) (col 1 1) ∷ are_equal (col 2 2) (col 1 3) ∷ []) with_terms
 
 abbrev pub out_tests : List Term
 out_tests = are_equal (col 1 1) (col 0 0) ∷ []

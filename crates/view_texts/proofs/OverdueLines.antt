@@ -1,4 +1,4 @@
--- The rows of the join of what is out by one branch's shop, what is read of them, and the list of those that are overdue.
+-- The rows of the join of the copies that are out, by one branch's shop: what is read of the rows, and the list of the overdue rentals.
 use Rattle.shop_schema.proofs.Common.{◌≡◌, ◌+◌, ℕ, List, [], ◌∷◌, ◌++◌, map, filter, codes, refl, sym, ap, ◌∙◌, append-nil, ◌⊎◌, is_none, nat_lt, zip, AllByRecursion, flat_map, Null, or_null, column, State, map-map, all-filter, number_value, same_number, Moment, IsMoment, Row, at, is_row, of, Customer, Film, Rental, Terms, Catalogue, Shop, Books, head, shop_of, termed, is_overdue, film_of, overdue_row, overdue_list, at_one, moment_value, IsRental, IsHeld, Holds, Customers, Rentals, TermRows}
 use Rattle.std.specs.Prelude.{Bool}
 use Rattle.sqlite.specs.declared.types.Value.TheVariants.{Text}
@@ -59,7 +59,7 @@ module _ (b : ℕ) (books : Books) (held : IsHeld books) where
       all-filter IsReal (λ (it : Rental × Terms). is_none it.0.returned) (termed own_shop)
       (real_from (of b books.rentals) (of b books.terms) (all_of IsRental b books.rentals (held.values.rows Rentals)))
 
-  -- those that are overdue are the list
+  -- the overdue rentals are the list
   pub overdue_are : (moment : Moment) → map (λ (it : Rental × Terms). overdue_text (overdue_row books.catalogue own_shop it.0)) (filter (is_late moment) opened) ≡ map overdue_text (overdue_list books.catalogue own_shop moment)
   overdue_are moment =
       let late = filter (is_overdue moment) (termed own_shop) in

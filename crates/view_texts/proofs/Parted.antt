@@ -1,4 +1,4 @@
--- Rows that are parted by a number that each of them names.
+-- Rows that are divided by a number that each of them names.
 use Rattle.shop_schema.proofs.Common.{◌≡◌, ◌==◌, ◌&&◌, ℕ, Bool, true, false, cond, List, [], ◌∷◌, ◌++◌, map, filter, refl, sym, ap, subst, ◌∙◌, append_assoc, IsPermutation, flat_map, AllByRecursion, IsPermutation-refl, IsPermutation-trans, IsPermutation-append_left, IsPermutation-append_right, IsPermutation-append_comm, map-map, filter_same, flat_map_none, flat_map_same_on, IsPermutation-same, at, numbered, kept_as_map}
 use Rattle.shop_schema.proofs.Numbers.{numbered_at}
 use Rattle.view_texts.proofs.Casts.{turned}

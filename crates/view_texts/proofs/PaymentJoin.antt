@@ -1,4 +1,4 @@
--- The payments' join: what its text means, and what it shows of the books, which is each payment of the branch with its rental's number and the category of
+-- The payments' join: what its text means, and what it shows of the books. It shows each payment of the branch, with its rental's number and the category of
 -- the rental's film.
 use Rattle.shop_schema.proofs.Common.{◌≡◌, ◌==◌, ◌&&◌, ℕ, List, [], ◌∷◌, map, filter, true, cond, refl, sym, ap, ◌∙◌, append-nil, option_to_list, flat_map, Value, Null, or_null, column, Trees, col, Output, overlay, State, columns_of, number_value, answers, shown_of, equals, Row, is_of, is_row, Film, Rental, Payment, Books, head, HasNumbers, shop_schema, rental_columns, payment_columns, IsShop, StandsFor, CopyRows, Payments, Rentals, ascending, Key, Binary, Term, Query, Join, inner, left, end, IsQuery, Selects, is_query, joined_query, are_equal}
 use Rattle.sqlite.specs.State.{Shown}
@@ -11,18 +11,19 @@ use Rattle.view_texts.specs.declared.stores.TheConstants.{SELECT_PAYMENTS}
 use Rattle.sqlite_value.specs.Order as sql
 use Rattle.sqlite_tied.specs.Compute.{everything}
 use Rattle.sqlite.specs.Listing.{understood}
+use Rattle.shop_schema.specs.Trees.{category_tree, copy_tree, film_tree, rental_tree}
 
 -- ---- what its text means
 
 -- what is joined to a copy, to a rental, and to a payment
 abbrev pub with_film : Join
-with_film = left 14 (are_equal (col 4 1) (col 3 3) ∷ []) end
+with_film = left film_tree (are_equal (col 4 1) (col 3 3) ∷ []) end
 
 abbrev pub with_copy : Join
-with_copy = left 25 (are_equal (col 3 1) (col 1 1) ∷ are_equal (col 3 2) (col 2 4) ∷ []) with_film
+with_copy = left copy_tree (are_equal (col 3 1) (col 1 1) ∷ are_equal (col 3 2) (col 2 4) ∷ []) with_film
 
 abbrev pub with_rental : Join
-with_rental = left 27 (are_equal (col 2 1) (col 1 1) ∷ are_equal (col 2 2) (col 1 5) ∷ []) with_copy
+with_rental = left rental_tree (are_equal (col 2 1) (col 1 1) ∷ are_equal (col 2 2) (col 1 5) ∷ []) with_copy
 
 abbrev pub payment_tests : List Term
 payment_tests = are_equal (col 1 1) (col 0 0) ∷ []
@@ -99,6 +100,6 @@ module _ (b : ℕ) (books : Books) (db : Trees) (s : StandsFor db books) (held :
 pub shows_payments : (old new : State) (b : ℕ) (rows : List sql.Row) (books : Books) → IsShop old → Shown SELECT_PAYMENTS.now (number_value b ∷ []) old new rows → StandsFor old.now.trees books → HasNumbers books
     → rows ≡ map (shown_payment books) (filter (is_of b) books.payments)
 shows_payments old new b rows books shop h s held =
-    shows_kept (λ x. x.number) (shown_payment books) 30 with_rental payment_tests payment_shows (col 1 2) (number_value b ∷ []) old.now.trees 7 payment_columns books.payments s.payments refl (λ r. refl)
+    shows_kept (λ x. x.number) (shown_payment books) 30 with_rental payment_tests payment_shows (col 1 2) (number_value b ∷ []) old.now.trees category_tree payment_columns books.payments s.payments refl (λ r. refl)
     (is_of b) (payment_brings b books old.now.trees s held) (counted_rise (λ x. x.number) 1 _ (held.rows Payments b))
     rows (answers shop_schema SELECT_PAYMENTS.now payments_query (number_value b ∷ []) old new shop payments_mean rows h)

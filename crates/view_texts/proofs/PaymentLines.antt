@@ -124,7 +124,7 @@ module _ (catalogue : Catalogue) (shop : Shop) where
       one_at_most (λ l. list_any (λ (film : Film). film.category == category) l ≡ list_any (λ c. c == category) (option_to_list (category_in l))) refl (λ film. refl)
       (film_of catalogue shop it.1) (one_film it.1)
 
-  -- those of a category are its sales
+  -- the sales whose film is of a category are the category's sales
   pub sales_are : (category : ℕ) → map (sale catalogue shop) (sales_of catalogue shop category) ≡ filter (is_sale_of category) (flat_map sale_in (map (paid_line catalogue shop) shop.payments))
   sales_are category =
       ap (map (sale catalogue shop)) (filter_same _ (λ it. is_sale_of category (sale catalogue shop it)) (is_sale category) (paid_rentals shop))

@@ -11,7 +11,7 @@ use Rattle.view_texts.specs.declared.customers.TheConstants.{SELECT_CUSTOMERS}
 use Rattle.sqlite_tied.specs.Compute.{everything}
 use Rattle.sqlite.specs.Listing.{understood}
 
--- what is joined to a person, whose city stands in the same column of either table
+-- what is joined to a person; the city is in the same column of both tables
 abbrev pub with_city : Join
 with_city = city_then 8 end
 

@@ -5,15 +5,16 @@ use Rattle.sqlite_value.specs.Order as sql
 use Rattle.view_texts.specs.Shown.{name_or_null}
 use Rattle.shop_schema.proofs.Numbers.{left_null}
 use Rattle.view_texts.proofs.Lefts.{by_number}
+use Rattle.shop_schema.specs.Trees.{city_tree, country_tree}
 
 -- what is joined to a city, and to a row that has a city in this column
 abbrev pub country_then : Join → Join
-country_then more = left 1 (are_equal (col 3 1) (col 2 3) ∷ []) more
+country_then more = left country_tree (are_equal (col 3 1) (col 2 3) ∷ []) more
 
 abbrev pub city_then : ℕ → Join → Join
-city_then at more = left 10 (are_equal (col 2 1) (col 1 at) ∷ []) (country_then more)
+city_then at more = left city_tree (are_equal (col 2 1) (col 1 at) ∷ []) (country_then more)
 
--- `its` is the row, with the city's number in the column `place`; `more` is joined behind; `out` is what the query shows with these two names
+-- `its` is the row, with the city's number in the column `place`; `more` is joined after the country; `out` is what the query shows with the two names
 module _ (place : ℕ) (more : Join) (q : Query) (catalogue : Catalogue) (db : Trees) (cities : HasRows 3 (db 10) (map city_columns (numbered catalogue.cities))) (countries : HasRows 2 (db 1) (map named_columns (numbered catalogue.countries)))
     (params its : sql.Row) (n : ℕ) (city : column its place ≡ number_value n)
     (out : Value → Value → List Output) (ends : (r2 r3 : sql.Row) → shown_of q (overlay db []) more (params ∷ its ∷ r2 ∷ r3 ∷ []) ≡ out (column r2 2) (column r3 2)) where

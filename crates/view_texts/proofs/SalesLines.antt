@@ -90,7 +90,7 @@ store_is row city country manager at1 at2 at3 catalogue x is =
     manager_named row manager at3 (manager_of catalogue x.1) (ap (λ r. column r 3) is) (ap (λ r. column r 4) is) ∙ ap (flat_map (λ (it : Staff). person_name it.person)) (only_manager catalogue x.1) in
     (λ i. record { store = cities i ++ codes "," ++ countries i; manager = managers i; total = 0 })
 
--- the branch of the number, where it is there
+-- the branch of the number, if it is there
 pub found_is : {X : Type 0} (value : Branch → X) (b : ℕ) (catalogue : Catalogue) (rows : List sql.Row) (seen : Option X) → rows ≡ map (shown_store catalogue) (map (λ branch. (b, branch)) (at b catalogue.branches))
     → ((found : Option (ℕ × Branch)) → rows ≡ map (shown_store catalogue) (option_to_list found) → seen ≡ option_map (λ (it : ℕ × Branch). value it.1) found) → seen ≡ head (map value (at b catalogue.branches))
 found_is value b catalogue rows seen are told =

@@ -8,7 +8,7 @@ use Rattle.view_texts.specs.Sales.{rental_sum, store_with, sales_of_branch, sale
 
 -- ---- one branch
 
--- what the branch's list is, where these are the payments for rentals
+-- the branch's list, if `pairs` are its payments for rentals
 abbrev listed_with : Books → ℕ → List (Payment × Rental) → List StoreRow
 listed_with books b pairs = if is_empty pairs then [] else map (store_with books.catalogue (takings pairs)) (at b books.catalogue.branches)
 
@@ -60,7 +60,7 @@ is_there books b row there = ap (λ (l : List Branch). not (is_empty l)) (sym (f
 
 -- ---- all branches
 
--- the page has the first branches, and this number comes next
+-- the page has the first branches, and the number comes next
 pub record IsListed (page : Page) (number : ℕ) (books : Books) : Type 0 where
   pub before : List Branch
   pub after : List Branch

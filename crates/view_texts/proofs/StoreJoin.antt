@@ -11,12 +11,13 @@ use Rattle.view_texts.proofs.PersonJoin.{city_then, person_brings}
 use Rattle.view_texts.specs.declared.stores.TheConstants.{SELECT_STORE}
 use Rattle.sqlite_tied.specs.Compute.{everything}
 use Rattle.sqlite.specs.Listing.{understood}
+use Rattle.shop_schema.specs.Trees.{staff_tree}
 
 -- ---- what its text means
 
--- what is joined behind the country, and to a branch
+-- what is joined after the country, and to a branch
 abbrev pub with_manager : Join
-with_manager = left 21 (are_equal (col 4 1) (col 1 7) ∷ []) end
+with_manager = left staff_tree (are_equal (col 4 1) (col 1 7) ∷ []) end
 
 abbrev pub with_names : Join
 with_names = city_then 6 with_manager

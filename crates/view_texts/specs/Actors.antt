@@ -1,4 +1,4 @@
--- Actors whose neighbouring rows belong together, and in them films of one category.
+-- Actors from neighbouring rows that belong together. Among an actor's rows, neighbouring rows are of one category.
 use Rattle.std.specs.Prelude.{◌≡◌, ◌==◌, ℕ, if◌then◌else◌, List, [], ◌∷◌, ◌++◌, codes, map, flat_map, Option, Some, None, option_map}
 use Rattle.std.specs.List.{join_by}
 use Rattle.sqlite.specs.declared.types.Value.TheVariants.{Text}
@@ -20,7 +20,7 @@ use Rattle.view_texts.specs.declared.actors.StartedActor.{StartedActor}
 
 -- ---- the rows
 
--- a film, behind its category
+-- a film with its category: first the category, then the film
 abbrev pub FilmIn : Type 0
 FilmIn = (ℕ × model.Text) × (ℕ × Film)
 
@@ -37,7 +37,7 @@ shown_actor line =
 abbrev pub films_by_category : Catalogue → ℕ → List FilmIn
 films_by_category catalogue actor = flat_map (λ (c : ℕ × model.Text). map (λ (film : ℕ × Film). (c, film)) (films_of catalogue actor c.0)) (categories_by_name catalogue)
 
--- one line a film, and one where there is none
+-- one line for each film, and one line for an actor without films
 abbrev pub lines_with : ℕ × Actor → List FilmIn → List ActorLine
 lines_with actor [] = (actor, None) ∷ []
 lines_with actor (it ∷ its) = map (λ film. (actor, Some film)) (it ∷ its)
@@ -61,7 +61,7 @@ ToldFilm = ℕ × model.Text × model.Text
 abbrev pub told_film : FilmIn → ToldFilm
 told_film it = (it.0.0, it.0.1, it.1.1.title)
 
--- the categories that are complete, and the one that more rows may belong to, with its number
+-- the complete categories, and the category that may get more rows, with its number
 abbrev pub Groups : Type 0
 Groups = List Group × Option (ℕ × Group)
 
@@ -97,7 +97,7 @@ seen_told it = (it.number, it.category, it.title)
 abbrev pub ActorPart : Type 0
 ActorPart = ActorRow × Groups
 
--- the actor, of whose films nothing is said
+-- the actor, with no films yet
 abbrev pub actor_alone : ℕ × Actor → ActorRow
 actor_alone it = record { number = it.0; first = it.1.first; last = it.1.last; films = [] }
 
@@ -107,7 +107,7 @@ whole part = record part.0 { films = join_by text_of (codes "; ") (every_group p
 abbrev pub seen_part : StartedActor → ActorPart
 seen_part it = (record { number = it.number; first = it.name.first; last = it.name.last; films = [] }, seen_groups it.groups)
 
--- the actors that are complete, and the one that more rows may belong to
+-- the complete actors, and the actor who may get more rows
 abbrev pub Grouped : Type 0
 Grouped = List ActorRow × Option ActorPart
 
@@ -128,7 +128,7 @@ run_from so_far (line ∷ lines) = run_from (take_line so_far line) lines
 abbrev pub runs : List ActorLine → Grouped
 runs = run_from ([], None)
 
--- the page has the complete actors of these rows, and the last actor is at hand
+-- the page has the complete actors of the rows, and `actor` is the last actor so far
 abbrev pub HasActors : ActorPage → ActorPage → List sql.Row → Type 0
 HasActors start it given =
     (lines : List ActorLine) → given ≡ map shown_actor lines → HasTexts it.page (map listed_actor (runs lines).0) × (option_map seen_part it.actor ≡ (runs lines).1)

@@ -19,7 +19,7 @@ shown_category it = number_value it.0 ∷ sql_values.Text it.1 ∷ []
 abbrev pub seen_sum : CategorySum → Text × Option ℕ
 seen_sum it = (it.name, it.sum)
 
--- a category with what sales of its films brought, where there is one
+-- a category with the sum of the sales of its films, if there are any
 abbrev pub sum_in : List Sale → ℕ × Text → Text × Option ℕ
 sum_in sales it = (it.1, sum_of (filter (is_sale_of it.0) sales))
 
@@ -29,7 +29,7 @@ summed names sales = map (sum_in sales) (numbered names)
 abbrev pub with_amount : ℕ → Text × Option ℕ → Text × Option ℕ
 with_amount amount it = (it.0, Some (unwrap_or it.1 0 + amount))
 
--- those that have a sum
+-- the categories that have a sum
 abbrev pub sold : List (Text × Option ℕ) → List (Text × ℕ)
 sold sums = flat_map (λ (it : Text × Option ℕ). map (λ total. (it.0, total)) (option_to_list it.1)) sums
 
@@ -37,11 +37,11 @@ sold sums = flat_map (λ (it : Text × Option ℕ). map (λ total. (it.0, total)
 abbrev pub sales_of_branch : ℕ → Books → List Sale
 sales_of_branch b books = flat_map sale_in (paid_lines b books)
 
--- the categories of these rows are there, without sums
+-- the list has the categories of the rows, without sums
 abbrev pub HasNames : CategoryNames → CategoryNames → List sql.Row → Type 0
 HasNames start it given = (categories : List (ℕ × Text)) → given ≡ map shown_category categories → map seen_sum it.sums.items ≡ map (sum_in []) categories
 
--- the categories, which had no sums at first, have those of these rows
+-- the categories had no sums at first; now they have the sums of the rows
 abbrev pub HasSums : CategorySums → CategorySums → List sql.Row → Type 0
 HasSums start it given =
     (names : List Text) (lines : List PaidLine) → given ≡ map shown_line lines → map seen_sum start.sums.items ≡ summed names []

@@ -1,4 +1,4 @@
--- Films whose neighbouring rows belong together.
+-- Films from neighbouring rows that belong together.
 use Rattle.std.specs.Prelude.{◌≡◌, ◌==◌, ℕ, if◌then◌else◌, List, [], ◌∷◌, ◌++◌, codes, map, Option, Some, None, option_map}
 use Rattle.std.specs.List.{join_by}
 use Rattle.sqlite_value.specs.Order as sql
@@ -24,7 +24,7 @@ names_of (Some it) = actor_name it ∷ []
 abbrev pub FilmPart : Type 0
 FilmPart = FilmRow × List model.Text
 
--- the film, of whose actors nothing is said
+-- the film, with no actors yet
 abbrev pub film_alone : Catalogue → ℕ × Film → FilmRow
 film_alone catalogue it = record {
   number = it.0;
@@ -43,7 +43,7 @@ whole part = record part.0 { actors = join_by (λ (name : model.Text). name) (co
 abbrev pub seen_part : rows.ListedFilm → FilmPart
 seen_part row = (film_with [] row, map name_text row.actors.items)
 
--- the films that are complete, and the one that more rows may belong to
+-- the complete films, and the film that may get more rows
 abbrev pub Grouped : Type 0
 Grouped = List FilmRow × Option FilmPart
 
@@ -64,7 +64,7 @@ run_from catalogue so_far (line ∷ lines) = run_from catalogue (take_line catal
 abbrev pub runs : Catalogue → List FilmLine → Grouped
 runs catalogue = run_from catalogue ([], None)
 
--- the page has the complete films of these rows, and the last film is at hand
+-- the page has the complete films of the rows, and `film` is the last film so far
 abbrev pub HasFilms : FilmPage → FilmPage → List sql.Row → Type 0
 HasFilms start it given =
     (catalogue : Catalogue) (lines : List FilmLine) → given ≡ map (shown_film catalogue) lines

@@ -1,4 +1,4 @@
--- The rows of the join of what is out, and those of them that the list of overdue rentals has.
+-- The rows of the join of the copies that are out, and which rows are in the list of overdue rentals.
 use Rattle.std.specs.Prelude.{◌+◌, nat_lt, Bool, [], ◌∷◌, Option}
 use Rattle.sqlite.specs.declared.types.Value.TheVariants.{Text}
 use Rattle.sqlite.specs.Values.{or_null}
@@ -24,9 +24,9 @@ shown_out catalogue shop it =
     ∷ or_null (λ (c : Customer). Text c.person.last) (renter_of shop it.0) ∷ or_null (λ (c : Customer). Text c.person.phone) (renter_of shop it.0)
     ∷ or_null (λ (film : Film). Text film.title) (head (film_of catalogue shop it.0)) ∷ []
 
--- ---- which of them are listed
+-- ---- which rows are listed
 
--- the period ended before the day of the moment: the rental, which is open, is overdue
+-- the open rental's period ended before the day of the moment, so the rental is overdue
 abbrev pub is_late : Moment → Rental × Terms → Bool
 is_late moment it = nat_lt (day_of it.0.rented + it.1.period) (day_of moment)
 

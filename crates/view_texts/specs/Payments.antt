@@ -13,7 +13,7 @@ use Rattle.shop_model.specs.Stock.{film_of}
 
 -- ---- rows
 
--- a payment, the number of its rental where that is there, and the category of the rental's film where that is there
+-- a payment, the number of its rental if there is one, and the category of the rental's film if there is one
 pub record PaidLine : Type 0 where
   pub amount : ℕ
   pub rental : Option ℕ
@@ -41,7 +41,7 @@ paid_lines b books = map (paid_line books.catalogue (shop_of b books)) (shop_of 
 
 -- ---- sales
 
--- what a rental brought, and the category of its film where that is there
+-- the amount of a payment for a rental, and the category of the rental's film if there is one
 pub record Sale : Type 0 where
   pub amount : ℕ
   pub category : Option ℕ

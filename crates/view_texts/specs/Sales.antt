@@ -1,4 +1,4 @@
--- What the two views of sales read of a branch, and what they have of the rows so far.
+-- What the two views of sales read of a branch, and what they have from the rows so far.
 use Rattle.std.specs.Prelude.{◌≡◌, ℕ, List, [], ◌∷◌, ◌++◌, codes, map, flat_map, if◌then◌else◌, Option, None, Some, option_map}
 use Rattle.std.specs.Option.{option_to_list}
 use Rattle.sqlite.specs.declared.types.Value.TheVariants.{Text}
@@ -18,15 +18,15 @@ use Rattle.view_texts.specs.declared.stores.FoundStore.{FoundStore}
 
 -- ---- sums
 
--- what sales brought, where there is one
+-- the sum of the sales, if there are any
 abbrev pub sum_of : List Sale → Option ℕ
 sum_of sales = if is_empty sales then None else Some (total (λ (it : Sale). it.amount) sales)
 
--- what the payments brought that name a rental, where there is one
+-- the sum of the payments that name a rental, if there are any
 abbrev pub rental_sum : Shop → Option ℕ
 rental_sum shop = if is_empty (paid_rentals shop) then None else Some (takings (paid_rentals shop))
 
--- the sum is that of these rows
+-- `sum` is the sum of the rows' sales
 abbrev pub HasSold : SalesSum → SalesSum → List sql.Row → Type 0
 HasSold start it given = (lines : List PaidLine) → given ≡ map shown_line lines → it.sum ≡ sum_of (flat_map sale_in lines)
 
@@ -49,7 +49,7 @@ store_with catalogue sum branch = record {
   total = sum;
 }
 
--- the branch, where one was found
+-- the branch, if one was found
 abbrev pub HasFound : FoundStore → FoundStore → List sql.Row → Type 0
 HasFound start it given =
     (catalogue : Catalogue) (found : Option (ℕ × Branch)) → given ≡ map (shown_store catalogue) (option_to_list found)
@@ -60,6 +60,6 @@ HasFound start it given =
 abbrev pub sales_of_branch : Books → ℕ → List StoreRow
 sales_of_branch books b = sales_by_store b books.catalogue (shop_of b books)
 
--- the rows of some branches, which are the first ones
+-- the rows of `branches`, which are the first branches
 abbrev pub sales_of_first : Books → List Branch → List StoreRow
 sales_of_first books branches = flat_map (λ (it : ℕ × Branch). sales_of_branch books it.0) (numbered branches)

@@ -1,4 +1,4 @@
--- What the rows of the views' joins show of the books, and what the lists show of them.
+-- What the rows of the views' joins show of the books, and what the lists show of the rows.
 use Rattle.std.specs.Prelude.{◌≡◌, ℕ, Bool, List, [], ◌∷◌, ◌++◌, map, filter, flat_map, Option, Some, None}
 use Rattle.sqlite.specs.declared.types.Value.{Value}
 use Rattle.sqlite.specs.declared.types.Value.TheVariants.{Null, Int, Real, Text, Blob}
@@ -17,7 +17,7 @@ abbrev pub name_or_null : List model.Text → Value
 name_or_null [] = Null
 name_or_null (name ∷ _) = Text name
 
--- the text of a column, empty where it is NULL
+-- the text of a column; empty if the column is NULL
 abbrev pub text_or_empty : Value → model.Text
 text_or_empty Null = []
 text_or_empty (Int n) = []
@@ -27,7 +27,7 @@ text_or_empty (Blob b) = []
 
 -- ---- people
 
--- the names in these two columns, or none where the first is NULL
+-- the names in the two columns, or none if the first column is NULL
 abbrev pub IsNameIn : Value → Value → Option PersonName → Type 0
 IsNameIn first last None = first ≡ Null
 IsNameIn first last (Some name) = (first ≡ Text name.first) × (last ≡ Text name.last)
@@ -45,11 +45,11 @@ shown_customer catalogue row = shown_person catalogue row.number row.it.person +
 abbrev pub shown_staff : Catalogue → ℕ × Staff → sql.Row
 shown_staff catalogue it = shown_person catalogue it.0 it.1.person
 
--- a customer of the branch as the list has it
+-- a row of the list of customers, for a customer of the branch
 abbrev pub listed_customer : ℕ → Catalogue → Row Customer → PersonRow × Bool
 listed_customer branch catalogue row = (person_row catalogue branch row.number row.it.person, row.it.active)
 
--- a member of the branch's staff as the list has it
+-- a row of the list of staff, for a member of the branch's staff
 abbrev pub listed_staff : ℕ → Catalogue → ℕ × Staff → PersonRow
 listed_staff branch catalogue it = person_row catalogue branch it.0 it.1.person
 
@@ -67,7 +67,7 @@ shown_film catalogue line =
 abbrev pub actors_of : Catalogue → ℕ → List (ℕ × Actor)
 actors_of catalogue film = filter (λ (it : ℕ × Actor). is_cast catalogue film it.0) (numbered catalogue.actors)
 
--- one line an actor, and one where there is none
+-- one line for each actor, and one line for a film without actors
 abbrev pub lines_of : ℕ × Film → List (ℕ × Actor) → List FilmLine
 lines_of film [] = (film, None) ∷ []
 lines_of film (it ∷ its) = map (λ actor. (film, Some actor)) (it ∷ its)

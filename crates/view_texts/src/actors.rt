@@ -1,5 +1,5 @@
-//! The list of all actors, each with the films by category: neighbouring rows of one join belong to one actor, and in
-//! them to one category.
+//! The list of all actors, each with the actor's films by category. Neighbouring rows of one join belong to one actor,
+//! and among them neighbouring rows belong to one category.
 
 ghost use Rattle.std.specs.Prelude.{◌≡◌, List, [], ◌∷◌, ◌++◌, Option, Some, None, IfOk, OnOk, map, option_map, string_bytes};
 ghost use Rattle.sqlite.specs.Held.{state};
@@ -54,7 +54,7 @@ pub(crate) struct StartedActor {
     groups: FilmGroups,
 }
 
-/// The film of the row, or none where it has none.
+/// Reads the film of the row, or none if the row has none.
 fn film_at(row: &Row) -> Result<Option<CategoryFilm>, StoreFault>
     ensures { IfOk result (λ film. (line : ActorLine) → row.now ≡ shown_actor line
         → option_map seen_told film ≡ option_map told_film line.1) }
@@ -69,7 +69,7 @@ fn film_at(row: &Row) -> Result<Option<CategoryFilm>, StoreFault>
     }))
 }
 
-/// The actor of the row, without the row's film.
+/// Reads the actor of the row, without the row's film.
 fn actor_at(alloc: Global, row: &Row) -> Result<StartedActor, StoreFault>
     ensures { IfOk result (λ it. (line : ActorLine) → row.now ≡ shown_actor line
         → seen_part it ≡ (actor_alone line.0, ([], None))) }
@@ -84,7 +84,7 @@ fn actor_at(alloc: Global, row: &Row) -> Result<StartedActor, StoreFault>
     })
 }
 
-/// A category with its first film.
+/// Begins a category with its first film.
 fn opened(alloc: Global, film: CategoryFilm) -> Result<OpenGroup, AllocError>
     ensures { IfOk result (λ it. seen_open it ≡ (film.number, (film.category, film.title ∷ []))) }
 {
@@ -101,7 +101,7 @@ fn opened(alloc: Global, film: CategoryFilm) -> Result<OpenGroup, AllocError>
     })
 }
 
-/// The category with one film more.
+/// Adds a film's title to the category.
 fn with_title(group: OpenGroup, title: T128) -> Result<OpenGroup, AllocError>
     ensures { IfOk result (λ it. seen_open it
         ≡ (group.number, (group.films.category, group.films.titles.items ++ title ∷ []))) }
@@ -111,7 +111,7 @@ fn with_title(group: OpenGroup, title: T128) -> Result<OpenGroup, AllocError>
     Ok(group)
 }
 
-/// The films with one more. It begins a category of its own unless the one before is of the same.
+/// Adds a film to the films. The film begins a new category, unless the film before it is of the same category.
 fn with_film(
     alloc: Global,
     groups: FilmGroups,
@@ -140,7 +140,7 @@ fn with_film(
     })
 }
 
-/// The actor with the row's film.
+/// Adds the row's film to the actor.
 fn with_row(alloc: Global, actor: StartedActor, row: &Row) -> Result<StartedActor, StoreFault>
     ensures { IfOk result (λ it. (line : ActorLine) → row.now ≡ shown_actor line
         → seen_part it ≡ ((seen_part actor).0, take_any (seen_part actor).1 (option_map told_film line.1))) }
@@ -164,7 +164,7 @@ fn with_row(alloc: Global, actor: StartedActor, row: &Row) -> Result<StartedActo
     }
 }
 
-/// The films of all categories.
+/// Returns the films of all categories.
 fn all_groups(groups: FilmGroups) -> Result<Vec<FilmGroup>, AllocError>
     ensures { IfOk result (λ all. map seen_group all.items ≡ every_group (seen_groups groups)) }
 {
@@ -175,7 +175,7 @@ fn all_groups(groups: FilmGroups) -> Result<Vec<FilmGroup>, AllocError>
     Ok(complete)
 }
 
-/// The actor, of whom no more rows come.
+/// Completes the actor, who gets no more rows.
 fn whole_actor(actor: StartedActor) -> Result<ActorRow, AllocError>
     ensures { IfOk result (λ row. seen_actor row ≡ whole (seen_part actor)) }
 {
@@ -191,7 +191,7 @@ fn whole_actor(actor: StartedActor) -> Result<ActorRow, AllocError>
     })
 }
 
-/// Puts the actor last.
+/// Adds the actor to the page, as its last item.
 fn add_actor(actor: StartedActor, page: &mut ListPage) -> Result<(), AllocError>
     ensures { OnOk result ((texts : List Text) → HasTexts page.old texts
         → HasTexts page.new (texts ++ listed_actor (whole (seen_part actor)) ∷ [])) }
@@ -200,7 +200,8 @@ fn add_actor(actor: StartedActor, page: &mut ListPage) -> Result<(), AllocError>
     page.add_row(&row)
 }
 
-/// The actor of the row with the row's film. The actor of the rows before, if it is another one, goes on the page.
+/// Takes a row: returns the row's actor with the row's film. If the actor before was another one, that actor goes on
+/// the page.
 fn next_actor(
     alloc: Global,
     actor: Option<StartedActor>,
@@ -223,7 +224,7 @@ fn next_actor(
     }
 }
 
-/// The list of actors, so far, and the actor that isn't on it yet.
+/// The list of actors so far, and the actor that isn't on the list yet.
 #[derive(Drop)]
 pub(crate) struct ActorPage {
     page: ListPage,
@@ -241,7 +242,7 @@ impl TakesRows for ActorPage {
     }
 }
 
-/// The text of the list with the last actor.
+/// Adds the last actor, and returns the list's text.
 fn finish(taker: ActorPage) -> Result<String, AllocError>
     ensures { IfOk result (λ s. (actors : List ModelActor) → HasTexts taker.page (map listed_actor actors)
         → string_bytes s ≡ array (map listed_actor (closed (actors, option_map seen_part taker.actor)))) }
@@ -263,8 +264,8 @@ fn finish(taker: ActorPage) -> Result<String, AllocError>
 const SELECT_ACTORS: &str =
     "SELECT a.number, a.first, a.last, k.number, k.name, f.title FROM actor AS a LEFT JOIN film_actor AS fa ON fa.actor = a.number LEFT JOIN film AS f ON f.number = fa.film LEFT JOIN category AS k ON k.number = f.category ORDER BY a.number, k.name, k.number, f.title, f.number";
 
-/// All actors, those without a film too, each with the films by category, as the text of a list. The database stays
-/// as it was, unless the store fails, which commits nothing.
+/// Returns all actors as the text of a list, each with the actor's films by category. Actors without a film are listed
+/// too. The database stays as it was, unless the store fails, which commits nothing.
 pub fn actor_info<S: Alter>(alloc: Global, conn: &mut Connection<S>) -> Result<String, StoreFault>
     ensures text { HasCleanDisk (state S.Store conn.new)
         → IfOk result (λ s. (books : Books) → Holds (state S.Store conn.old) books → IsHeld books → string_bytes s

@@ -26,14 +26,14 @@ use sqlite::types::ToSql;
 use sqlite::{Alter, Connection, Row};
 use std::alloc::{AllocError, Global};
 
-/// A category, and what payments for rentals of its films brought so far, where there is one.
+/// A category, and the sum of the payments for rentals of its films so far, if there are any.
 #[derive(Drop)]
 pub(crate) struct CategorySum {
     name: T45,
     sum: Option<u64>,
 }
 
-/// The place in a list of the row of this number, which counts from 1.
+/// Returns the index in a list of the row with the number. Numbers count from 1.
 fn place_of(number: u32) -> Option<usize>
     ensures { IfSome result (λ place. place + 1 ≡ number) }
 {
@@ -41,7 +41,7 @@ fn place_of(number: u32) -> Option<usize>
     Some(place as usize)
 }
 
-/// The categories, so far, in the order of their numbers.
+/// The categories so far, in the order of their numbers.
 #[derive(Drop)]
 pub(crate) struct CategoryNames {
     sums: Vec<CategorySum>,
@@ -65,7 +65,7 @@ impl TakesRows for CategoryNames {
 
 const SELECT_CATEGORIES: &str = "SELECT number, name FROM category ORDER BY number";
 
-/// The categories in the order of their numbers, without sums.
+/// Reads the categories in the order of their numbers, without sums.
 fn categories<S: Alter>(
     alloc: Global,
     conn: &mut Connection<S>,
@@ -82,7 +82,7 @@ fn categories<S: Alter>(
     Ok(taker.sums)
 }
 
-/// Adds the amount to the sum of the category in this place.
+/// Adds the amount to the sum of the category at the index.
 fn add_amount(sums: &mut Vec<CategorySum>, place: usize, amount: u64) -> Result<(), StoreFault>
     ensures { OnOk result (map seen_sum sums.new.items
         ≡ set_at (place + 1) (with_amount amount) (map seen_sum sums.old.items)) }
@@ -131,7 +131,7 @@ impl TakesRows for CategorySums {
     }
 }
 
-/// The categories with what the branch's payments brought.
+/// Reads the branch's payments into the sums of the categories.
 fn with_sales<S: Alter>(
     conn: &mut Connection<S>,
     branch: BranchNo,
@@ -148,14 +148,14 @@ fn with_sales<S: Alter>(
     Ok(taker.sums)
 }
 
-/// Whether `a` stands before `b`.
+/// Returns whether `a` comes before `b` in the list.
 fn sells_more(a: &CategoryRow, b: &CategoryRow) -> bool
     ensures { result ≡ sells_more (seen_category a.now) (seen_category b.now) }
 {
     a.total > b.total || a.total == b.total && a.category.as_str() <= b.category.as_str()
 }
 
-/// The place of the row among rows in their order.
+/// Finds the place of a new row among rows in their order.
 fn place_among(rows: &[CategoryRow], row: &CategoryRow) -> usize
     ensures within { result ≤ length rows.now }
     ensures place { map seen_category (insert rows.now result row.now)
@@ -179,7 +179,7 @@ fn put(rows: &mut Vec<CategoryRow>, row: CategoryRow) -> Result<(), AllocError>
     Ok(())
 }
 
-/// The categories that have a sum, in their order.
+/// Returns the categories that have a sum, in their order.
 fn in_order(alloc: Global, mut sums: Vec<CategorySum>) -> Result<Vec<CategoryRow>, AllocError>
     ensures { IfOk result (λ rows. map seen_category rows.items
         ≡ sorted_by sells_more (sold (map seen_sum sums.items))) }
@@ -200,7 +200,7 @@ fn in_order(alloc: Global, mut sums: Vec<CategorySum>) -> Result<Vec<CategoryRow
     Ok(rows)
 }
 
-/// The text of the list of the rows.
+/// Returns the text of the list of the rows.
 fn list_text(alloc: Global, rows: &[CategoryRow]) -> Result<String, AllocError>
     ensures { IfOk result (λ s. string_bytes s ≡ array (map listed_category (map seen_category rows.now))) }
 {
@@ -211,7 +211,7 @@ fn list_text(alloc: Global, rows: &[CategoryRow]) -> Result<String, AllocError>
     page.finish()
 }
 
-/// The text of the list of the categories that have a sum, in their order.
+/// Returns the text of the list of the categories that have a sum, in their order.
 fn sums_text(alloc: Global, sums: Vec<CategorySum>) -> Result<String, AllocError>
     ensures { IfOk result (λ s. string_bytes s
         ≡ array (map listed_category (sorted_by sells_more (sold (map seen_sum sums.items))))) }
@@ -220,9 +220,9 @@ fn sums_text(alloc: Global, sums: Vec<CategorySum>) -> Result<String, AllocError
     list_text(alloc, rows.as_slice())
 }
 
-/// What the branch has taken for rentals of each category's films, as the text of a list: the greatest total first,
-/// and then by the byte order of the names. A category without a payment for a rental isn't on it. The database stays
-/// as it was, unless the store fails, which commits nothing.
+/// Returns the branch's takings for rentals of each category's films, as the text of a list. The greatest total comes
+/// first, and equal totals are in the byte order of their categories' names. A category without a payment for a rental
+/// isn't listed. The database stays as it was, unless the store fails, which commits nothing.
 pub fn sales_by_film_category<S: Alter>(
     alloc: Global,
     conn: &mut Connection<S>,

@@ -48,8 +48,8 @@ impl ReadsRows for CustomersOf {
 const SELECT_CUSTOMERS: &str =
     "SELECT c.number, c.first, c.last, c.address, c.postal, c.phone, ci.name, co.name, c.active FROM customer AS c LEFT JOIN city AS ci ON ci.number = c.city LEFT JOIN country AS co ON co.number = ci.country WHERE c.branch = ?1 ORDER BY c.number";
 
-/// The customers of the branch, as the text of a list. The database stays as it was, unless the store fails, which
-/// commits nothing.
+/// Returns the customers of the branch, as the text of a list. The database stays as it was, unless the store fails,
+/// which commits nothing.
 pub fn customer_list<S: Alter>(
     alloc: Global,
     conn: &mut Connection<S>,

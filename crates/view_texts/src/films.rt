@@ -1,4 +1,4 @@
-//! The list of all films, each with its actors: neighbouring rows of one join belong to one film.
+//! The list of all films, each with its actors. Neighbouring rows of one join belong to one film.
 
 ghost use Rattle.std.specs.Prelude.{◌≡◌, List, [], ◌∷◌, ◌++◌, Option, Some, IfOk, OnOk, map, option_map, string_bytes};
 ghost use Rattle.sqlite.specs.Held.{state};
@@ -29,7 +29,7 @@ use sql_rows::{StoreFault, TakesRows, each_row, number_at, number_or_null_at, wo
 use sqlite::{Alter, Connection, Row};
 use std::alloc::{AllocError, Global};
 
-/// The rate in the column, in cents.
+/// Reads the rate in the column, in cents.
 fn rate_at(row: &Row, at: usize) -> Result<Rate, StoreFault>
     ensures { IfOk result (λ n. column row.now at ≡ number_value n) }
 {
@@ -42,7 +42,7 @@ fn rate_at(row: &Row, at: usize) -> Result<Rate, StoreFault>
     }
 }
 
-/// The length in the column, or none where it is NULL.
+/// Reads the length in the column, or none if the column is NULL.
 fn minutes_at(row: &Row, at: usize) -> Result<Option<Minutes>, StoreFault>
     ensures { IfOk result (λ o. column row.now at ≡ or_null number_value o) }
 {
@@ -58,7 +58,7 @@ fn minutes_at(row: &Row, at: usize) -> Result<Option<Minutes>, StoreFault>
     }
 }
 
-/// The rating in the column.
+/// Reads the rating in the column.
 fn rating_at(row: &Row, at: usize) -> Result<Rating, StoreFault>
     ensures { IfOk result (λ rating. column row.now at ≡ SqlText (rating_text rating)) }
 {
@@ -68,7 +68,7 @@ fn rating_at(row: &Row, at: usize) -> Result<Rating, StoreFault>
     }
 }
 
-/// The film of the row, without its actor.
+/// Reads the film of the row, without its actor.
 fn film_at(alloc: Global, row: &Row) -> Result<ListedFilm, StoreFault>
     ensures film { IfOk result (λ it. (catalogue : Catalogue) (line : FilmLine) → row.now ≡ shown_film catalogue line
         → film_with [] it ≡ film_alone catalogue line.0) }
@@ -86,7 +86,7 @@ fn film_at(alloc: Global, row: &Row) -> Result<ListedFilm, StoreFault>
     })
 }
 
-/// The film with the row's actor.
+/// Adds the row's actor to the film.
 fn with_actor(film: ListedFilm, row: &Row) -> Result<ListedFilm, StoreFault>
     ensures { IfOk result (λ it. (catalogue : Catalogue) (line : FilmLine) → row.now ≡ shown_film catalogue line
         → seen_part it ≡ ((seen_part film).0, (seen_part film).1 ++ names_of line.1)) }
@@ -98,7 +98,8 @@ fn with_actor(film: ListedFilm, row: &Row) -> Result<ListedFilm, StoreFault>
     Ok(film)
 }
 
-/// The film of the row with the row's actor. The film of the rows before, if it is another one, goes on the page.
+/// Takes a row: returns the row's film with the row's actor. If the film before was another one, that film goes on the
+/// page.
 fn next_film(
     alloc: Global,
     film: Option<ListedFilm>,
@@ -121,7 +122,7 @@ fn next_film(
     }
 }
 
-/// The list of films, so far, and the film that isn't on it yet.
+/// The list of films so far, and the film that isn't on the list yet.
 #[derive(Drop)]
 pub(crate) struct FilmPage {
     page: ListPage,
@@ -139,7 +140,7 @@ impl TakesRows for FilmPage {
     }
 }
 
-/// The text of the list with the last film.
+/// Adds the last film, and returns the list's text.
 fn finish(taker: FilmPage) -> Result<String, AllocError>
     ensures { IfOk result (λ s. (films : List ModelFilm) → HasTexts taker.page (map listed_film films)
         → string_bytes s ≡ array (map listed_film (closed (films, option_map seen_part taker.film)))) }
@@ -157,8 +158,8 @@ fn finish(taker: FilmPage) -> Result<String, AllocError>
 const SELECT_FILMS: &str =
     "SELECT f.number, f.title, f.description, k.name, f.rate, f.length, f.rating, a.first, a.last FROM film AS f LEFT JOIN category AS k ON k.number = f.category LEFT JOIN film_actor AS fa ON fa.film = f.number LEFT JOIN actor AS a ON a.number = fa.actor ORDER BY f.number, fa.actor";
 
-/// All films, withdrawn ones and those without actors too, as the text of a list. The database stays as it was,
-/// unless the store fails, which commits nothing.
+/// Returns all films as the text of a list. Withdrawn films and films without actors are listed too. The database
+/// stays as it was, unless the store fails, which commits nothing.
 pub fn film_list<S: Alter>(alloc: Global, conn: &mut Connection<S>) -> Result<String, StoreFault>
     ensures text { HasCleanDisk (state S.Store conn.new)
         → IfOk result (λ s. (books : Books) → Holds (state S.Store conn.old) books → IsHeld books → string_bytes s

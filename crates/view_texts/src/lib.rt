@@ -1,5 +1,6 @@
-//! The six views, head office's sales and a branch's overdue rentals, each the text of a list, and any view by its
-//! name: its statement, what takes its rows one at a time, and what its join shows of the books.
+//! The six views, head office's sales and a branch's overdue rentals, each as the text of a list, and any view by its
+//! name. Each has its statement, a type that takes its rows one at a time, and a definition of what its join shows of
+//! the books.
 #![tactic(auto)]
 
 ghost use Rattle.std.specs.Prelude.{◌≡◌, IfOk, string_bytes};
@@ -35,8 +36,8 @@ pub use staff::staff_list;
 use std::alloc::Global;
 pub use stores::{sales, sales_by_store};
 
-/// The view as the branch sees it, as the text of a list. The database stays as it was, unless the store fails, which
-/// commits nothing.
+/// Returns the view as the branch sees it, as the text of a list. The database stays as it was, unless the store
+/// fails, which commits nothing.
 pub fn view_text<S: Alter>(
     alloc: Global,
     conn: &mut Connection<S>,

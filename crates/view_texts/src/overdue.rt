@@ -1,5 +1,5 @@
-//! The list of a branch's rentals that are overdue: of the rows of what is out, those whose periods ended on days
-//! before.
+//! The list of a branch's overdue rentals: the rows of the copies that are out whose periods ended before the moment's
+//! day.
 
 ghost use Rattle.std.specs.Prelude.{◌≡◌, List, ◌∷◌, [], if◌then◌else◌, map, IfOk, string_bytes};
 ghost use Rattle.sqlite.specs.Held.{state};
@@ -27,7 +27,7 @@ use sqlite::types::ToSql;
 use sqlite::{Alter, Connection, Row};
 use std::alloc::Global;
 
-/// The period in the column, in days.
+/// Reads the period in the column, in days.
 fn period_at(row: &Row, at: usize) -> Result<u8, StoreFault>
     ensures { IfOk result (λ n. column row.now at ≡ number_value n) }
 {
@@ -37,7 +37,7 @@ fn period_at(row: &Row, at: usize) -> Result<u8, StoreFault>
     }
 }
 
-/// Whether the rental of the row, whose copy is out, is overdue at the moment.
+/// Returns whether the open rental of the row is overdue at the moment.
 fn is_late_at(row: &Row, moment: Moment) -> Result<bool, StoreFault>
     ensures { IfOk result (λ late. (catalogue : Catalogue) (shop : Shop) (it : Rental × Terms) → IsReal it
         → row.now ≡ shown_out catalogue shop it → late ≡ is_late moment it) }
@@ -47,7 +47,7 @@ fn is_late_at(row: &Row, moment: Moment) -> Result<bool, StoreFault>
     Ok(is_overdue(rented, period, moment))
 }
 
-/// The rental of the row as it is listed. No sound table lacks its customer or its film.
+/// Reads the rental of the row as the list shows it. In sound tables, no row lacks its customer or its film.
 fn read_overdue(row: &Row) -> Result<OverdueRow, StoreFault>
     ensures { IfOk result (λ it. (catalogue : Catalogue) (shop : Shop) (out : Rental × Terms)
         → row.now ≡ shown_out catalogue shop out → seen_overdue it ≡ overdue_row catalogue shop out.0) }
@@ -85,10 +85,10 @@ impl ReadsRows for OverdueAt {
 const SELECT_OUTS: &str =
     "SELECT r.moment, t.period, cu.first, cu.last, cu.phone, f.title FROM out_copy AS o LEFT JOIN rental AS r ON r.branch = o.branch AND r.number = o.rental LEFT JOIN rental_terms AS t ON t.branch = o.branch AND t.rental = o.rental LEFT JOIN customer AS cu ON cu.branch = o.branch AND cu.number = r.customer LEFT JOIN copy AS c ON c.branch = o.branch AND c.number = o.copy LEFT JOIN film AS f ON f.number = c.film WHERE o.branch = ?1 ORDER BY o.rental";
 
-/// The branch's rentals that are overdue at the moment, in order of number, as the text of a list. One statement
-/// reads as many rows of each table as copies are out, and sorts what it finds. A row that lacks its rental, terms,
-/// customer or film is the fault `Failed`; no sound table has one. The database stays as it was, unless the store
-/// fails, which commits nothing.
+/// Returns the branch's rentals that are overdue at the moment, in the order of their numbers, as the text of a list.
+/// One statement reads as many rows of each table as copies are out, and sorts what it finds. It fails with `Failed`
+/// if a row lacks its rental, terms, customer or film, which no sound table does. The database stays as it was, unless
+/// the store fails, which commits nothing.
 pub fn overdue_list<S: Alter>(
     alloc: Global,
     conn: &mut Connection<S>,

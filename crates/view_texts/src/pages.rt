@@ -1,4 +1,4 @@
-//! Lists whose values are read of the rows of a query, one of a row or none.
+//! Lists whose values are read from the rows of a query, at most one from a row.
 
 ghost use Rattle.std.specs.Prelude.{◌≡◌, List, IfOk, map, string_bytes};
 ghost use Rattle.std.specs.Option.{option_to_list};
@@ -18,18 +18,18 @@ use sqlite::types::ValueRef;
 use sqlite::{Alter, Connection, Row};
 use std::alloc::Global;
 
-/// What reads a list's values of the rows of a query.
+/// A reader of a list's values from the rows of a query.
 pub(crate) trait ReadsRows: Sized {
     type Listed: ListedRow + Drop;
 
-    // the list has these texts of the row: one, or none
+    // the texts that the list takes from the row: one, or none
     ghost reads: { Self → SqlRow → List Text → Type 0 };
 
     fn read(&self, alloc: Global, row: &Row) -> Result<Option<Self::Listed>, StoreFault>
         ensures { IfOk result (λ it. reads self.now row.now (map Self.Listed.ListedRow.written (option_to_list it))) };
 }
 
-/// The list of what was read so far.
+/// The list of the values that were read so far.
 #[derive(Drop)]
 pub(crate) struct RowsPage<R> {
     page: ListPage,
@@ -49,8 +49,8 @@ impl<R: ReadsRows> TakesRows for RowsPage<R> {
     }
 }
 
-/// The text of the list of what is read of the rows of a query. The database stays as it was, unless the store fails,
-/// which commits nothing.
+/// Reads the rows of a query into a list, and returns the list's text. The database stays as it was, unless the store
+/// fails, which commits nothing.
 pub(crate) fn rows_text<S: Alter, R: ReadsRows + Drop>(
     alloc: Global,
     conn: &mut Connection<S>,

@@ -1,4 +1,4 @@
-//! What customers and staff have in common in the rows of their joins.
+//! The columns that the rows of customers' and of staff's joins share.
 
 ghost use Rattle.std.specs.Prelude.{◌≡◌, ◌++◌, ℕ, Some, IfOk};
 ghost use Rattle.sqlite.specs.declared.types.Value.TheVariants.{Text as SqlText};
@@ -17,7 +17,7 @@ use sql_rows::{StoreFault, words_or_null_at};
 use sqlite::Row;
 use std::alloc::Global;
 
-/// The name in the column, empty where it is NULL.
+/// Reads the name in the column. The name is empty if the column is NULL.
 pub(crate) fn name_at(alloc: Global, row: &Row, at: usize) -> Result<L45, StoreFault>
     ensures { IfOk result (λ name. name ≡ text_or_empty (column row.now at)) }
 {
@@ -31,7 +31,7 @@ pub(crate) fn name_at(alloc: Global, row: &Row, at: usize) -> Result<L45, StoreF
     }
 }
 
-/// The names of a city and of its country, each empty where it is NULL.
+/// Reads the names of a city and of its country. A name is empty if its column is NULL.
 pub(crate) fn city_at(
     alloc: Global,
     row: &Row,
@@ -44,7 +44,7 @@ pub(crate) fn city_at(
     Ok((name_at(alloc, row, city)?, name_at(alloc, row, country)?))
 }
 
-/// A person's names in the two columns.
+/// Reads a person's names in the two columns.
 pub(crate) fn person_name_at(row: &Row, first: usize, last: usize) -> Result<PersonName, StoreFault>
     ensures { IfOk result (λ name. IsNameIn (column row.now first) (column row.now last) (Some name)) }
 {
@@ -54,7 +54,7 @@ pub(crate) fn person_name_at(row: &Row, first: usize, last: usize) -> Result<Per
     })
 }
 
-/// A person's names in the two columns, or none where the first is NULL.
+/// Reads a person's names in the two columns, or none if the first column is NULL.
 pub(crate) fn person_name_or_null_at(
     row: &Row,
     first: usize,
@@ -68,7 +68,7 @@ pub(crate) fn person_name_or_null_at(
     Ok(Some(person_name_at(row, first, last)?))
 }
 
-/// A person's address, postal code and telephone number.
+/// Reads a person's address, postal code and telephone number.
 fn address_at(row: &Row) -> Result<(T128, L45, L45), StoreFault>
     ensures { IfOk result (λ it. (column row.now 3 ≡ SqlText it.0) × (column row.now 4 ≡ SqlText it.1)
         × (column row.now 5 ≡ SqlText it.2)) }
@@ -76,7 +76,7 @@ fn address_at(row: &Row) -> Result<(T128, L45, L45), StoreFault>
     Ok((text_at(row, 3)?, text_at(row, 4)?, text_at(row, 5)?))
 }
 
-/// The person of a row, with the names of city and country. The first column is the number.
+/// Reads the person of a row, with the names of city and country. The first column is the person's number.
 pub(crate) fn person_at(
     alloc: Global,
     row: &Row,

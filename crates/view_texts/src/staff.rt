@@ -45,8 +45,8 @@ impl ReadsRows for StaffOf {
 const SELECT_STAFF: &str =
     "SELECT s.number, s.first, s.last, s.address, s.postal, s.phone, ci.name, co.name FROM staff AS s LEFT JOIN city AS ci ON ci.number = s.city LEFT JOIN country AS co ON co.number = ci.country WHERE s.branch = ?1 ORDER BY s.number";
 
-/// The staff of the branch, those who left too, as the text of a list. The database stays as it was, unless the store
-/// fails, which commits nothing.
+/// Returns the staff of the branch, also those who left, as the text of a list. The database stays as it was, unless
+/// the store fails, which commits nothing.
 pub fn staff_list<S: Alter>(
     alloc: Global,
     conn: &mut Connection<S>,

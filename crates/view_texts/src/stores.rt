@@ -26,7 +26,7 @@ use sqlite::types::ToSql;
 use sqlite::{Alter, Connection, Row};
 use std::alloc::{AllocError, Global};
 
-/// The sum with the payment of the row, if its rental is there.
+/// Adds the row's payment to the sum, if the payment's rental is there.
 fn with_payment(sum: Option<u64>, row: &Row) -> Result<Option<u64>, StoreFault>
     ensures { IfOk result (λ new. (line : PaidLine) (sales : List Sale) → row.now ≡ shown_line line
         → sum ≡ sum_of sales → new ≡ sum_of (sales ++ sale_in line)) }
@@ -41,7 +41,7 @@ fn with_payment(sum: Option<u64>, row: &Row) -> Result<Option<u64>, StoreFault>
     }
 }
 
-/// What payments for rentals brought so far, where there is one.
+/// The sum of the payments for rentals so far, if there are any.
 #[derive(Drop)]
 pub(crate) struct SalesSum {
     sum: Option<u64>,
@@ -56,7 +56,7 @@ impl TakesRows for SalesSum {
     }
 }
 
-/// The branch of the row, with no sum yet.
+/// Reads the branch of the row, with no sum yet.
 fn read_store(alloc: Global, row: &Row) -> Result<StoreRow, StoreFault>
     ensures { IfOk result (λ it. (catalogue : Catalogue) (x : ℕ × Branch) → row.now ≡ shown_store catalogue x
         → seen_store it ≡ store_with catalogue 0 x.1) }
@@ -70,7 +70,7 @@ fn read_store(alloc: Global, row: &Row) -> Result<StoreRow, StoreFault>
     })
 }
 
-/// The branch, where one was found.
+/// The branch, if one was found.
 #[derive(Drop)]
 pub(crate) struct FoundStore {
     alloc: Global,
@@ -89,7 +89,7 @@ impl TakesRows for FoundStore {
 const SELECT_STORE: &str =
     "SELECT b.number, ci.name, co.name, s.first, s.last FROM branch AS b LEFT JOIN city AS ci ON ci.number = b.city LEFT JOIN country AS co ON co.number = ci.country LEFT JOIN staff AS s ON s.number = b.manager WHERE b.number = ?1 ORDER BY b.number";
 
-/// The branch's row, with no sum yet, or none where there is no such branch.
+/// Finds the branch's row, with no sum yet, or none if there is no such branch.
 fn find_store<S: Alter>(
     alloc: Global,
     conn: &mut Connection<S>,
@@ -105,7 +105,7 @@ fn find_store<S: Alter>(
     Ok(taker.row)
 }
 
-/// Puts the branch with this sum last.
+/// Adds the branch with the sum to the page, as its last item.
 fn add_store(row: StoreRow, total: u64, page: &mut ListPage) -> Result<(), AllocError>
     ensures { OnOk result ((texts : List Text) → HasTexts page.old texts
         → HasTexts page.new (texts ++ listed_store (record (seen_store row) { total = total }) ∷ [])) }
@@ -118,7 +118,7 @@ fn add_store(row: StoreRow, total: u64, page: &mut ListPage) -> Result<(), Alloc
 pub(crate) const SELECT_PAYMENTS: &str =
     "SELECT p.amount, r.number, f.category FROM payment AS p LEFT JOIN rental AS r ON r.branch = p.branch AND r.number = p.rental LEFT JOIN copy AS c ON c.branch = p.branch AND c.number = r.copy LEFT JOIN film AS f ON f.number = c.film WHERE p.branch = ?1 ORDER BY p.number";
 
-/// What the branch's payments brought that name a rental, or none where there is no such payment.
+/// Sums the branch's payments that name a rental. Returns none if there is no such payment.
 fn rental_sum<S: Alter>(
     conn: &mut Connection<S>,
     branch: BranchNo,
@@ -133,7 +133,7 @@ fn rental_sum<S: Alter>(
     Ok(taker.sum)
 }
 
-/// Puts the branch of the row last, if its payments brought a sum.
+/// Adds the row's branch to the page, if its payments have a sum.
 fn add_sold(row: StoreRow, sum: Option<u64>, page: &mut ListPage) -> Result<(), AllocError>
     ensures { OnOk result ((books : Books) (branch : ℕ) (texts : List Text)
         → Some (seen_store row) ≡ head (map (store_with books.catalogue 0) (at branch books.catalogue.branches))
@@ -146,7 +146,7 @@ fn add_sold(row: StoreRow, sum: Option<u64>, page: &mut ListPage) -> Result<(), 
     }
 }
 
-/// Puts the branch last, if any of its payments names a rental. Tells whether there is such a branch.
+/// Adds the branch to the page, if any of its payments names a rental. Returns whether there is such a branch.
 fn add_branch<S: Alter>(
     alloc: Global,
     conn: &mut Connection<S>,
@@ -169,8 +169,8 @@ fn add_branch<S: Alter>(
     Ok(true)
 }
 
-/// What the branch has taken for rentals, as the text of a list: its row, or none where no payment names a rental.
-/// The database stays as it was, unless the store fails, which commits nothing.
+/// Returns the branch's takings for rentals as the text of a list: the branch's row, or no row if no payment names a
+/// rental. The database stays as it was, unless the store fails, which commits nothing.
 pub fn sales_by_store<S: Alter>(
     alloc: Global,
     conn: &mut Connection<S>,
@@ -186,7 +186,7 @@ pub fn sales_by_store<S: Alter>(
     Ok(page.finish()?)
 }
 
-/// Puts all branches last, in the order of their numbers, that have a payment for a rental.
+/// Adds to the page all branches that have a payment for a rental, in the order of their numbers.
 fn add_branches<S: Alter>(
     alloc: Global,
     conn: &mut Connection<S>,
@@ -208,8 +208,8 @@ fn add_branches<S: Alter>(
     Err(StoreFault::Failed)
 }
 
-/// What branches have taken for rentals, in the order of their numbers, as the text of a list: of each the row of
-/// `sales_by_store`. The database stays as it was, unless the store fails, which commits nothing.
+/// Returns all branches' takings for rentals as the text of a list, in the order of their numbers. Each branch has the
+/// row that `sales_by_store` gives it. The database stays as it was, unless the store fails, which commits nothing.
 pub fn sales<S: Alter>(alloc: Global, conn: &mut Connection<S>) -> Result<String, StoreFault>
     ensures text { HasCleanDisk (state S.Store conn.new)
         → IfOk result (λ s. (books : Books) → Holds (state S.Store conn.old) books → IsHeld books → string_bytes s

@@ -2,7 +2,7 @@ use Rattle.shop_types.proofs.Common.{◌≡◌, ◌+◌, ◌++◌, drop, arrived
 use Rattle.branch_core.proofs.ConsignmentLemmas.{arrived_from}
 use Rattle.branch_core.proofs.arrived.arrived_lines.Given as goal
 
--- with those of the lines behind that aren't missing they are all
+-- the lines so far, and the later lines that aren't missing, are all lines that arrived
 abbrev pub invariant-loop-line : goal.invariant-loop-line
 invariant-loop-line l = record {
   place : l.place ≡ 1 + l.line-index;

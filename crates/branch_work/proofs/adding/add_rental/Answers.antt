@@ -6,6 +6,7 @@ use Rattle.branch_core.specs.Agreed.{HasTermsNow}
 use Rattle.branch_work.proofs.Acted.{carried_out}
 use Rattle.branch_work.proofs.Counting.{rental_added}
 use Rattle.branch_work.proofs.adding.add_rental.Goals as goal
+use Rattle.shop_schema.specs.Counts.{rentals_kind}
 
 pub returns : goal.returns
 returns g c = carried_out
@@ -17,7 +18,7 @@ returns g c = carried_out
     let b = c.args.branch in
     let low : 1 ≤ b = omega arith in
     let n = c.in_ok-number.number in
-    let counts = raise b 2 1 (counts_of books) in
+    let counts = raise b rentals_kind 1 (counts_of books) in
     let taken = said.0 (counts_of books) books (beside _ books holds) (held_once books held kind.Rentals b low) in
     let is : n ≡ next b books.rentals = told_more b 2 1 books n low taken.1 in
     let out = said.1.1.1 counts _ (said.1.1.0 counts _ (said.1.0 counts books taken.0 tt) tt) tt in

@@ -10,12 +10,13 @@ use Rattle.branch_core.proofs.ConsignedBooks.{receipt_acted, receipt_told}
 use Rattle.branch_work.proofs.Acted.{carried_out}
 use Rattle.branch_work.proofs.ConsignLemmas.{come_rows, few_arrive, receipt_added, so_many}
 use Rattle.branch_work.proofs.consigning.receive.Goals as goal
+use Rattle.shop_schema.specs.Counts.{copies_kind}
 
--- as many lines as were read
+-- as many lines as were read are at most 100
 few_lines : (read lines : List ParcelLine) → read ≡ lines → length read ≤ 100 → length lines ≤ 100
 few_lines read lines is few = subst (λ (ls : List ParcelLine). length ls ≤ 100) is few
 
--- the lines that come are no more than were found
+-- at most as many lines come as were found
 few_read : (missing : List ℕ) (read come lines : List ParcelLine) → come ≡ arrived missing lines → read ≡ lines → length read ≤ 100 → length come ≤ 100
 few_read missing read come lines come_is is few =
     let less = few_arrive missing lines in
@@ -39,7 +40,7 @@ returns g c = λ command. carried_out
     let first = c.in_ok-first.first in
     let m = length c.as_slice-come.result.now in
     let s = state g.S.Store c.mark_received.new.tx.conn.now in
-    let counts = raise b 1 m (counts_of books) in
+    let counts = raise b copies_kind m (counts_of books) in
     let slice : c.as_slice-come.result.now ≡ come = c.as_slice-come.ensures.value ∙ c.in-Ok.ensures in
     let all : m ≡ length come = ap (λ (ls : List ParcelLine). length ls) slice in
     let known : IsArrival b source n (Some it) books = subst (λ (o : Option ArrivalFound). IsArrival b source n o books) c.in-Some.is marked in

@@ -9,8 +9,9 @@ use Rattle.branch_work.specs.Added.{copies_from}
 use Rattle.branch_work.proofs.Acted.{carried_out}
 use Rattle.branch_work.proofs.Counting.{import_added, with_import}
 use Rattle.branch_work.proofs.importing.import.Goals as goal
+use Rattle.shop_schema.specs.Counts.{copies_kind}
 
--- how many copies came, and the number of the first
+-- the reply to an import: how many copies came, and the number of the first copy
 abbrev import_text : ℕ → ℕ → Text
 import_text count first = object ((codes "copies", decimal count) ∷ (codes "first", decimal first) ∷ [])
 
@@ -28,7 +29,7 @@ returns g c = λ command file. carried_out
     let same : films ≡ films_in (rules.stock_of file) = c.rows_in-stock.ensures.films ∙ ap films_in agrees.reading in
     let m = c.copies_in-count.result in
     let first = c.in_ok-first.first in
-    let counts = raise b 1 m (counts_of books) in
+    let counts = raise b copies_kind m (counts_of books) in
     let all : m ≡ length films = c.copies_in-count.ensures ∙ sym (length_films stock) in
     let taken = said.0 (counts_of books) books (beside _ books holds) (held_once books held kind.Copies b low) in
     let last = told_more b 1 m books c.in_ok-last.last low taken.1 in

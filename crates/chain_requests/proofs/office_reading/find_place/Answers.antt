@@ -2,7 +2,7 @@ use Rattle.shop_schema.proofs.Common.{refl, Result, IfOk, IfOk-weaker}
 use Rattle.chain_requests.proofs.Resting.{looks, looks_found}
 use Rattle.chain_requests.proofs.office_reading.find_place.Goals as goal
 
--- what is told of copies in custody is told of sound books
+-- a reply that holds of books with copies in custody holds of sound books
 then_told : {X E : Type 0} (r : Result X E) {P Q : X → Type 0} → IfOk r P → ((x : X) → P x → Q x) → IfOk r Q
 then_told r said more = IfOk-weaker r _ _ more said
 

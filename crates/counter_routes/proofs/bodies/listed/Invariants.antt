@@ -4,7 +4,7 @@ use Rattle.counter_routes.specs.Bodies.{list_of_numbers, numbers_in}
 use Rattle.counter_routes.proofs.WordLemmas.{behind}
 use Rattle.counter_routes.proofs.bodies.listed.Given as goal
 
--- the numbers so far are those of the items so far, and there is room for the rest
+-- the numbers so far are read from the items so far, and there is room for the rest
 abbrev pub invariant-loop-item : goal.invariant-loop-item
 invariant-loop-item g l = record {
   len : vec_len l.numbers ≡ l.item-index;

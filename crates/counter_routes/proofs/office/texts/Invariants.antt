@@ -4,7 +4,7 @@ use Rattle.counter_routes.specs.Words.{list_of_texts, texts_in}
 use Rattle.counter_routes.proofs.WordLemmas.{behind}
 use Rattle.counter_routes.proofs.office.texts.Given as goal
 
--- the texts so far are those of the items so far, and there is room for the rest
+-- the texts so far are read from the items so far, and there is room for the rest
 abbrev pub invariant-loop-item : goal.invariant-loop-item
 invariant-loop-item l = record {
   len : vec_len l.texts ≡ l.item-index;

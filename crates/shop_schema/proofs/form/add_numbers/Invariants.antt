@@ -2,6 +2,6 @@ use Rattle.shop_schema.proofs.Common.{◌≡◌, ◌++◌, length, take, number_
 use Rattle.std.specs.Prelude.{flat_map}
 use Rattle.shop_schema.proofs.form.add_numbers.Given as goal
 
--- it is told how many there are, and the numbers so far are there
+-- the form has the count of the numbers, and then the numbers so far
 abbrev pub invariant-loop-number : goal.invariant-loop-number
 invariant-loop-number g l = l.form.items ≡ l.fn.form.items ++ (number_form (length l.numbers) ++ flat_map number_form (take l.number-index l.numbers))

@@ -4,9 +4,10 @@ use Rattle.shop_ledger.proofs.Rising.{which_rise, rise_differ, rise_sorted}
 use Rattle.shop_store.specs.declared.copies.TheConstants.{SELECT_IN_STATE}
 use Rattle.shop_store.proofs.Common.{◌≡◌, ◌==◌, ◌&&◌, ℕ, List, [], ◌∷◌, Bool, true, refl, everything, understood, Shown, col, column, number_value, state_value, number_test, number_tested, two_tested, Row, is_of, Reads, equals, copies, wide}
 use Rattle.shop_store.proofs.copies.copies_in_state.Goals as goal
+use Rattle.shop_schema.specs.Trees.{copy_tree}
 
--- the numbers of those in a state
-in_state_means : Selects shop_schema SELECT_IN_STATE.now (plain_query 25 (equals 0 (1 ∷ 4 ∷ [])) (col 1 2 ∷ []) ((col 1 2, ascending Binary) ∷ []))
+-- the numbers of the copies in a state
+in_state_means : Selects shop_schema SELECT_IN_STATE.now (plain_query copy_tree (equals 0 (1 ∷ 4 ∷ [])) (col 1 2 ∷ []) ((col 1 2, ascending Binary) ∷ []))
 unfolding understood everything
 in_state_means = record { names = _; is = refl; plain = (refl, refl); unlisted = refl }
 

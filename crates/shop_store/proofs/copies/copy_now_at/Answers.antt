@@ -17,9 +17,10 @@ use Rattle.shop_store.specs.Seen.{seen_copy_now}
 use Rattle.std.proofs.Common.{rules}
 use Rattle.shop_ledger.proofs.Doing.{does_first}
 use Rattle.shop_store.proofs.copies.copy_now_at.Goals as goal
+use Rattle.shop_schema.specs.Trees.{out_copy_tree}
 
 abbrev with_out : Join
-with_out = left 43 (are_equal (col 2 1) (col 1 1) ∷ are_equal (col 2 2) (col 1 2) ∷ []) end
+with_out = left out_copy_tree (are_equal (col 2 1) (col 1 1) ∷ are_equal (col 2 2) (col 1 2) ∷ []) end
 
 abbrev now_shows : List Term
 now_shows = col 1 3 ∷ col 1 4 ∷ col 2 3 ∷ []
@@ -31,7 +32,7 @@ now_means : Selects shop_schema SELECT_NOW.now now_query
 unfolding understood everything
 now_means = record { names = _; is = refl; plain = (refl, refl); unlisted = refl }
 
--- the columns that are shown of a copy that is out by the first of these, if by any
+-- the columns that are shown of a copy, with the rental of the first of `outs`, or NULL if there is none
 abbrev shown_with : List Out → Row BookCopy → sql.Row
 shown_with outs c = number_value c.it.film ∷ state_value c.it.state ∷ or_null (λ (o : Out). number_value o.rental) (head outs) ∷ []
 
@@ -133,7 +134,7 @@ module _ (old new : State) (b n : ℕ) (rows slice : List sql.Row) (h : Shown SE
       ((λ i. record { film = film i; state = state i } ∷ []), rental_told outs once it.out (ap (λ (r : sql.Row). column r 2) shown ∙ is.2))
   copy_told outs once (c ∷ d ∷ cs) few row it e is = absurd (omega (arith, few))
 
-  -- what the first row tells
+  -- what the first row says of the books
   reads : (None ≡ slice_get slice 0 → Reads old new (Says None))
       × ((row : sql.Row) (it : CopyNow) → Some row ≡ slice_get slice 0
       → (column row 0 ≡ number_value it.film) × (column row 1 ≡ state_value (seen_state it.state)) × (column row 2 ≡ or_null number_value it.out) → Reads old new (Says (Some it)))

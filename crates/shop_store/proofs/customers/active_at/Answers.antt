@@ -5,8 +5,9 @@ use Rattle.shop_schema.proofs.Lists.{picks_row}
 use Rattle.shop_store.specs.declared.customers.TheConstants.{SELECT_ACTIVE}
 use Rattle.shop_store.proofs.Common.{◌≡◌, ◌&&◌, ℕ, List, [], ◌∷◌, Bool, true, refl, everything, understood, Shown, col, column, number_value, flag_value, number_test, number_tested, two_tested, Row, Reads, does_first, of_two, customers, wide}
 use Rattle.shop_store.proofs.customers.active_at.Goals as goal
+use Rattle.shop_schema.specs.Trees.{customer_tree}
 
-active_means : Selects shop_schema SELECT_ACTIVE.now (plain_query 23 of_two (col 1 9 ∷ []) [])
+active_means : Selects shop_schema SELECT_ACTIVE.now (plain_query customer_tree of_two (col 1 9 ∷ []) [])
 unfolding understood everything
 active_means = record { names = _; is = refl; plain = (refl, refl); unlisted = refl }
 
@@ -32,7 +33,7 @@ module _ (old new : State) (b n : ℕ) (rows slice : List sql.Row) (h : Shown SE
   of_number : (books : Books) → IsHeld books → head (map (λ (c : Row Customer). c.it.active) (found_in books)) ≡ head (map active_of (at n (of b books.customers)))
   of_number books held = ap head (row_at active_of b n books.customers (held.numbers.rows Customers b) ∙ sym (map_at active_of n (of b books.customers)))
 
-  -- what the first row tells
+  -- what the first row says of the books
   reads : (None ≡ slice_get slice 0 → Reads old new (λ books. None ≡ head (map active_of (at n (of b books.customers)))))
       × ((row : sql.Row) (v : Bool) → Some row ≡ slice_get slice 0 → column row 0 ≡ flag_value v → Reads old new (λ books. Some v ≡ head (map active_of (at n (of b books.customers)))))
   reads = (

@@ -8,7 +8,7 @@ use Rattle.shop_store.proofs.payments.payments_between.Goals as goal
 abbrev of_range : List Term
 of_range = op2 (Compare Eq Binary) (col 1 1) (col 0 0) ∷ op2 (Compare Ge Binary) (col 1 7) (col 0 1) ∷ op2 (Compare Lt Binary) (col 1 7) (col 0 2) ∷ []
 
--- the payment's text is from the one on and before the other
+-- the text of the payment's moment is from the text `start` on and before the text `end`
 abbrev is_text_in : List ℕ → List ℕ → Payment → Bool
 is_text_in start end it = is_ge (slice_cmp nat_cmp (moment_text it.paid) start) && is_lt (slice_cmp nat_cmp (moment_text it.paid) end)
 

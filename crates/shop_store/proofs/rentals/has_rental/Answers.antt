@@ -12,7 +12,7 @@ use Rattle.shop_ledger.proofs.Equals.{equals}
 use Rattle.shop_store.proofs.Whether.{reads_any, any_own, tells}
 use Rattle.shop_store.proofs.rentals.has_rental.Goals as goal
 
--- moments are the same where their texts are
+-- two moments are the same exactly if their texts are the same
 text_of_same : (a m : Moment) → IsMoment a → IsMoment m → bytes_eq (moment_text a) (moment_text m) ≡ same_moment a m
 text_of_same a m p q = elim (cases_Bool (bytes_eq (moment_text a) (moment_text m))) [
   | inl same ↦

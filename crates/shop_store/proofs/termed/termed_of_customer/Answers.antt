@@ -12,9 +12,10 @@ use Rattle.shop_store.proofs.WithTerms.{rental_shown, shown_first, rentals_climb
 use Rattle.sqlite_value.specs.Order as sql
 use Rattle.shop_ledger.proofs.Doing.{does_so}
 use Rattle.shop_store.proofs.termed.termed_of_customer.Goals as goal
+use Rattle.shop_schema.specs.Trees.{category_tree, rental_terms_tree}
 
 abbrev with_terms : Join
-with_terms = left 57 (are_equal (col 2 1) (col 1 1) ∷ are_equal (col 2 2) (col 1 2) ∷ []) end
+with_terms = left rental_terms_tree (are_equal (col 2 1) (col 1 1) ∷ are_equal (col 2 2) (col 1 2) ∷ []) end
 
 abbrev termed_tests : List Term
 termed_tests = equals 0 (1 ∷ 5 ∷ [])
@@ -81,7 +82,7 @@ shows_termed old new b n rows books holds held h =
     let which : Row Rental → Bool = of_which (λ (it : Rental). it.customer == n) b in
     let mine = filter which books.rentals in
     let out : Row Rental → Output = termed_output books.terms in
-    joined_rows 27 with_terms termed_tests termed_shows termed_order (number_value b ∷ number_value n ∷ []) old.now.trees 7 rental_columns books.rentals holds.stands.rentals refl (λ r. refl)
+    joined_rows 27 with_terms termed_tests termed_shows termed_order (number_value b ∷ number_value n ∷ []) old.now.trees category_tree rental_columns books.rentals holds.stands.rentals refl (λ r. refl)
     (λ x. cond (which x) (out x ∷ []) []) (λ x. IsPermutation-same _ _ (termed_brings b n books held old.now.trees holds.stands x))
     rows (answers shop_schema SELECT_TERMED.now termed_query _ old new holds.schema_is termed_means rows h)
     (map out mine) (IsPermutation-same _ _ (kept_as_map which out books.rentals))

@@ -1,5 +1,10 @@
 -- What ORDER BY a number DESC LIMIT 1 shows: of the rows that pass, the one with the greatest number.
-use Rattle.shop_schema.proofs.Common.{◌≡◌, ◌≤◌, ◌<◌, ℕ, suc, pos, List, [], ◌∷◌, map, filter, take, length, Bool, true, false, cond, Ordering, is_eq, is_gt, refl, ap, ◌∙◌, arith, IsPermutation, AllByRecursion, list_all, nat_cmp, IsTotalOrder, nat_tests, back_total, IsPermutation-sym, length_permutation, Int, column, Key, Binary, then-Equal, Trees, IsAscending, all-permutation, Term, lit, col, holds, Query, IsAnswer, Output, output, overlay, Schema, State, sort_by, insert_sorted, ascending_weaker, IsPermutation-sort_by, HasRows, columns_of, number_value, IsOf, number_total, Selects, plain_query, answers, reads_sorted, number_cmp}
+use Rattle.sql_rows.proofs.Common.{◌≡◌, ◌≤◌, ◌<◌, ℕ, suc, pos, List, [], ◌∷◌, map, filter, take, length, Bool, true, false, cond, Ordering, is_eq, refl, ap, ◌∙◌, arith, IsPermutation, AllByRecursion, list_all, nat_cmp, is_gt, nat_tests, IsPermutation-sym, length_permutation, Int, column, Key, Binary, then-Equal, Trees, IsAscending, all-permutation, Term, lit, col, holds, Query, IsAnswer, Output, output, overlay, Schema, State, sort_by, insert_sorted, ascending_weaker, HasRows, columns_of, number_value, IsOf}
+use Rattle.std.specs.Cmp.{IsTotalOrder}
+use Rattle.std.proofs.lemmas.Cmp.{back_total}
+use Rattle.sqlite_keyed.proofs.SortLemmas.{IsPermutation-sort_by}
+use Rattle.sql_rows.proofs.Bags.{number_total}
+use Rattle.sql_rows.proofs.Queries.{Selects, plain_query, answers, reads_sorted, number_cmp}
 use Rattle.sqlite_value.specs.Order.{Row}
 use Rattle.sqlite.specs.State.{Shown}
 
