@@ -1,12 +1,12 @@
--- What came to a branch in a history under a mark, and where it was asked in a life.
+-- The commands under a mark that a branch served in a history, and their places in a life.
 use Rattle.shop_model.proofs.Common.{◌≡◌, ◌∙◌, ◌⊎◌, inl, inr, ℕ, zero, suc, List, [], ◌∷◌, ◌++◌, take, Bool, true, false, Some, refl, sym, ap, subst, eqb-true, ⊤, ◌==◌, slice_get, option_to_list, cases_Bool, Text, Command, Act, Dispatch, Rules, Verdict, Again, Refused, Accepted, verdict, office_verdict, Request, Do, Office, Input, FromOffice, Arrive, Own, State, reply_to, if_accepted, moved, Answer, Books, Event, Caller, Counter, HeadOffice, Nobody, shop_of, caller_in, after, last_books, parcel_seen, other_seen, office_seen, seen_of, view, is_decided, is_store_failure, counted_in, Asks, books_next, Life, failing, in_flight, acted_in, history_of, begun}
 use Rattle.shop_model.proofs.Histories.{last_append}
 use Rattle.shop_model.proofs.Resends.{same_some, same_none, failure_undecided}
 use Rattle.till_model.specs.Tills.{Served, served_in}
 
--- ---- what is served of one event
+-- ---- the commands that one event serves
 
--- inputs that are no request of the branch's own
+-- no input is a request of the branch's own
 Quiet : List Input → Type 0
 Quiet [] = ⊤
 Quiet (FromOffice command ∷ inputs) = Quiet inputs
@@ -35,7 +35,7 @@ quiet_office rules (Office command) books = quiet_if (office_verdict rules books
 quiet_office rules request books = tt
 
 module _ (has_mark : Text → Bool) (rules : Rules) (b : ℕ) where
-  -- a served command stands behind inputs
+  -- the served command is one of the inputs, from some state on
   abbrev StandsIn : List Input → Served → Type 0
   StandsIn inputs it = (s : State) × (n : ℕ) × (slice_get (served_in has_mark rules b inputs s) n ≡ Some it)
 
@@ -46,7 +46,7 @@ module _ (has_mark : Text → Bool) (rules : Rules) (b : ℕ) where
   quiet_rest (Arrive source films ∷ inputs) rest s n it q there = quiet_rest inputs rest (moved rules b (Arrive source films) s) n it q there
   quiet_rest (Own request ∷ inputs) rest s n it q there = absurd q
 
-  -- it is that of a request, which asks for it, or it stands behind
+  -- either the request asks for the served command, or the served command is one of the rest
   abbrev IsOfOne : Request → List Input → Served → Type 0
   IsOfOne request rest it = ((request ≡ Do it.command) × (has_mark it.command.key ≡ true)) ⊎ StandsIn rest it
 
@@ -79,10 +79,10 @@ module _ (has_mark : Text → Bool) (rules : Rules) (b : ℕ) where
   of_event HeadOffice request books rest s n it there = inr (quiet_rest (office_seen rules request books) rest s n it (quiet_office rules request books) there)
   of_event Nobody request books rest s n it there = inr (s, n, there)
 
-  -- ---- what is served of a history
+  -- ---- the commands that a history serves
 
   module _ (P : Command → Type 0) where
-    -- of each command that the branch is asked to do under the mark, wherever it stands in a history
+    -- `P` holds for each command under the mark that the branch asks for in a history
     pub AllCame : List Event → Books → Type 0
     AllCame [] books = ⊤
     AllCame (e ∷ events) books =
@@ -103,7 +103,7 @@ module _ (has_mark : Text → Bool) (rules : Rules) (b : ℕ) where
     came_append [] ys books all more = more
     came_append (e ∷ xs) ys books all more = (all.0, came_append xs ys (after rules e books) all.1 more)
 
-    -- of each that the branch asked at a place of a life
+    -- `P` holds for each command under the mark that the branch asks for in a life
     abbrev pub AllAsked : List Event → List Answer → Books → Type 0
     AllAsked events answers books = (i : ℕ) (command : Command) → Asks rules events answers books i (Counter b) (Do command) → has_mark command.key ≡ true → P command
 

@@ -1,4 +1,4 @@
--- Where an exchange stands in a life of its chain.
+-- The place of an exchange in a life of its chain.
 use Rattle.shop_model.proofs.Common.{◌≡◌, ◌∙◌, ℕ, zero, suc, List, [], ◌∷◌, ◌++◌, length, map, Option, Some, refl, ap, slice_get, Text, caller_of}
 use Rattle.shop_model.proofs.Resends.{same_some, same_none}
 use Rattle.counter_http.specs.Events.{event_of, known_token}

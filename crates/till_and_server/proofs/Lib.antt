@@ -8,3 +8,4 @@ pub mod Came
 pub mod Recorded
 pub mod Witnesses
 pub mod Settled
+pub mod Extending

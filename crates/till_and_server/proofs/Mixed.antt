@@ -1,11 +1,11 @@
--- A connection with one exchange among others that are served with it.
+-- A connection with one exchange, among other connections that are served together.
 use Rattle.shop_model.proofs.Common.{◌≡◌, ◌∙◌, ◌⊎◌, inl, inr, ℕ, zero, suc, List, [], ◌∷◌, ◌++◌, map, Some, refl, sym, subst, ap, append_assoc, slice_get}
 use Rattle.shop_model.proofs.Resends.{same_some, same_none}
 use Rattle.counter_http.specs.Exchanges.{Exchange}
 use Rattle.counter_http.specs.Together.{Mixes, nothing, comes, goes, Till}
 use Rattle.till_and_server.specs.Laws.{OneAmongMany}
 
--- a list among lists
+-- the list is one of the lists
 abbrev Has : List Exchange → List (List Exchange) → Type 0
 Has x [] = ⊥
 Has x (l ∷ lists) = (l ≡ x) ⊎ Has x lists
@@ -26,7 +26,7 @@ has_beside x l k [] back (inr later) = inr (inr later)
 has_beside x l k (f ∷ front) back (inl is) = inr (inl is)
 has_beside x l k (f ∷ front) back (inr later) = elim (has_beside x l k front back later) [ inl is ↦ inl is | inr there ↦ inr (inr there) ]
 
--- an exchange in the whole
+-- the exchange is in the whole
 abbrev IsIn : Exchange → List Exchange → Type 0
 IsIn e whole = (front : List Exchange) × (back : List Exchange) × (whole ≡ front ++ e ∷ back)
 
@@ -36,7 +36,7 @@ some_none e es is = cc
 in_more : (e : Exchange) (whole next : List Exchange) → IsIn e whole → IsIn e (whole ++ next)
 in_more e whole next (front, back, is) = (front, back ++ next, ap (λ (l : List Exchange). l ++ next) is ∙ append_assoc front (e ∷ back) next)
 
--- where what one list goes on with makes it that exchange alone
+-- If a list with its next part is exactly that exchange, the exchange is in the whole with that part.
 in_parts : (e : Exchange) (es next whole : List Exchange) → es ++ next ≡ e ∷ [] → (es ≡ e ∷ [] → IsIn e whole) → IsIn e (whole ++ next)
 in_parts e [] next whole is before = (whole, [], ap (λ (l : List Exchange). whole ++ l) is)
 in_parts e (f ∷ es) next whole is before = in_more e whole next (before (by es (tails f e (es ++ next) is)))

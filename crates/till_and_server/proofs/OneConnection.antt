@@ -11,7 +11,7 @@ use Rattle.till_and_server.specs.Streams.{Carries, IsWritten}
 use Rattle.till_and_server.specs.Laws.{one_exchange, OneMessageIsRead, OneAnswerIsRead}
 use Rattle.till_and_server.proofs.Talks.{Reads, reads, talks, message_has_bytes, last_is_none, one_of, none_in}
 
--- what came is a front of the request
+-- the bytes that came are a prefix of the request
 came_of : (request : List ℕ) (output written input : Option (List ℕ)) → IsWritten request output written → (c : Carries output written input) → (more : List ℕ) × (request ≡ c.came ++ more)
 came_of request output written input w c =
     let one : Appends (Some c.held) written w.front = subst (λ (it : Option (List ℕ)). Appends it written w.front) c.begins w.writes in
@@ -26,13 +26,13 @@ both_none (x ∷ xs) ys e = absurd (clash e)
     clash : x ∷ (xs ++ ys) ≡ [] → ⊥
     clash e = cc
 
--- where a front is all, nothing is behind it
+-- if a prefix is the whole, nothing follows it
 all_of : (request front more : List ℕ) → request ≡ front ++ more → front ≡ request → more ≡ []
 all_of request front more parts all =
     let same : request ++ more ≡ request ++ [] = ap (λ (l : List ℕ). l ++ more) (sym all) ∙ sym parts ∙ sym (append-nil request) in
     append_cancel_left request more [] same
 
--- what was read of what came
+-- the bytes that were read are a prefix of the request, with the whole message or none
 record IsFront (request : List ℕ) (m : Message) (came : List ℕ) (exchanges : List Exchange) (it : Reads came exchanges) : Type 0 where
   more : List ℕ
   parts : request ≡ it.read ++ more

@@ -1,4 +1,4 @@
--- A book stays recorded.
+-- The replies of a book stay recorded from exchanges.
 use Rattle.shop_model.proofs.Common.{◌≡◌, ◌≢◌, ◌⊎◌, inl, inr, ℕ, zero, suc, List, [], ◌∷◌, ◌++◌, length, Some, refl, sym, ap, subst, append-nil, ◌∙◌, slice_get, Appends, Consumes, Rules, Answer, Books}
 use Rattle.shop_model.proofs.Resends.{same_some, same_none}
 use Rattle.till_client.specs.Replies.{answer_bytes}
@@ -12,7 +12,7 @@ still_at [] ys i x there = absurd (same_none x there)
 still_at (y ∷ xs) ys zero x there = there
 still_at (y ∷ xs) ys (suc i) x there = still_at xs ys i x there
 
--- what stands there stood there before, or is the last
+-- an item of a list with one more at the end is an item of the list, or is the last
 before_last : {A : Type 0} (xs : List A) (y : A) (i : ℕ) (x : A) → slice_get (xs ++ y ∷ []) i ≡ Some x → (slice_get xs i ≡ Some x) ⊎ ((i ≡ length xs) × (y ≡ x))
 before_last [] y zero x there = inr (refl, same_some y x there)
 before_last [] y (suc i) x there = absurd (same_none x there)

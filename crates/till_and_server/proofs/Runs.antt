@@ -1,4 +1,4 @@
--- The exchanges over which a chain ran are the connection's.
+-- The exchanges that a chain ran over are the connection's.
 use Rattle.std.proofs.Common.{◌≡◌, ℕ, List, [], ◌++◌, refl}
 use Rattle.sqlite_trees.specs.declared.store.Store.{Ghosts}
 use Rattle.counter_http.specs.Exchanges.{Exchange, HasRun, RunsOver}

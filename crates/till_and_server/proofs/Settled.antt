@@ -1,4 +1,4 @@
--- What settled a till's entries, and what became of them.
+-- The settlements of a till's entries, and the outcome of settled entries.
 use Rattle.shop_model.proofs.Common.{◌≡◌, ◌≢◌, ◌∙◌, ℕ, List, [], ◌∷◌, ◌++◌, Ordering, is_gt, cond, true, false, sym, subst, AllByRecursion, Appends, Consumes, Command, Rules, Answer, Books}
 use Rattle.sqlite_keyed.specs.Lists.{insert_sorted, sort_by}
 use Rattle.shop_model.proofs.Resends.{same_some}
@@ -32,7 +32,7 @@ all_sorted : {X : Type 0} (order : X → X → Ordering) (P : X → Type 0) (xs 
 all_sorted order P [] all = tt
 all_sorted order P (x ∷ xs) all = all_inserted order P x (sort_by order xs) all.0 (all_sorted order P xs all.1)
 
--- ---- a book stays so
+-- ---- settlements stay recorded
 
 module _ (rules : Rules) (b : ℕ) (lives : List ServedLife) (old : Books) where
   abbrev WasNoted : Journal → ℕ × Answer → Type 0
@@ -58,7 +58,7 @@ are_noted rules b lives old = record {
   replies = λ journal n answer were. were;
 }
 
--- ---- and what it says is so
+-- ---- settlements are true at the branch
 
 pub settled_to_disk : SettledTillAndServer
 settled_to_disk mark rules look b journal commands lives old new lived numbers unused book come recorded were =

@@ -1,4 +1,4 @@
--- What was served before a stop and behind it.
+-- The exchanges that were served before a stop and after it.
 use Rattle.std.proofs.Common.{refl}
 use Rattle.std.proofs.Math.Logic.{∥∥₁_map}
 use Rattle.sqlite_trees.specs.declared.store.Store.{Ghosts}

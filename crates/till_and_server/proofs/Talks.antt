@@ -1,4 +1,4 @@
--- What a connection's bytes were and became, however it went on.
+-- The bytes that came over a connection and the bytes that were sent, whatever its outcome was.
 use Rattle.shop_model.proofs.Common.{◌≡◌, ◌∙◌, ◌⊎◌, inl, inr, ℕ, ◌<◌, ◌-◌, List, [], ◌∷◌, ◌++◌, length, Option, Some, None, refl, sym, ap, subst, arith, append-nil, append_assoc, length-append, Appends, Consumes, append_cancel_left, Answer}
 use Rattle.std.specs.Io.KnownBytes.{Keeps}
 use Rattle.std.proofs.lemmas.Grind.{flat_map-append}
@@ -18,7 +18,7 @@ use Rattle.counter_http.specs.declared.connection.ServeFault.TheVariants.{Read, 
 use Rattle.till_and_server.specs.Streams.{Streams, Serving, Ends, Breaks, Turns, ServesThese}
 use Rattle.till_and_server.specs.Laws.{one_exchange}
 
--- some bytes of what came were read: the messages of the exchanges, and a rest
+-- A prefix of the bytes that came was read. It has the messages of the exchanges, and a rest.
 pub record Reads (came : List ℕ) (exchanges : List Exchange) : Type 0 where
   pub read : List ℕ
   pub left : List ℕ
@@ -26,7 +26,7 @@ pub record Reads (came : List ℕ) (exchanges : List Exchange) : Type 0 where
   pub reads : came ≡ read ++ left
   pub splits : HasMessages read (messages_of exchanges) rest
 
--- what was written is a front of the answers, and of the reply to a rest that is at fault, where there is one
+-- The bytes that were written are a prefix of the answers, followed by the reply to a refused rest if there is one.
 pub record Talks (came sent : List ℕ) (exchanges : List Exchange) : Type 0 where
   pub it : Reads came exchanges
   pub last : List ℕ
@@ -43,7 +43,7 @@ front_of came read (Some behind) x = (behind, x)
 grown : (held sent bytes : List ℕ) → Appends (Some held) (Some (held ++ sent)) bytes → sent ≡ bytes
 grown held sent bytes x = append_cancel_left held sent bytes x
 
--- ---- of each way
+-- ---- each outcome of the server's side
 
 end_last : (end : End) (most : ℕ) (es : List Exchange) (left : Option (List ℕ)) (rest last : List ℕ) → IsEnd end most es left rest last → (last ≡ []) ⊎ ((fault : Fault) × IsRefused fault rest)
 end_last Closed most es left rest last x = inl x.4
@@ -159,7 +159,7 @@ module _ (most : ℕ) (mine : List Exchange) (came : List ℕ) (server : Streams
 
 -- ---- one message
 
--- something stands before another
+-- a text with a blank in it isn't empty
 some_before : (front more : List ℕ) → 0 < length (front ++ 32 ∷ more)
 some_before front more = omega (arith, length-append front (32 ∷ more))
 
@@ -180,7 +180,7 @@ never_refused : (fault : Fault) (input : List ℕ) (m : Message) (rest : List �
 never_refused BadHead input m rest has x = HasMessage-not-bad input m rest has x
 never_refused TooLong input m rest has x = HasMessage-not-long input m rest has x
 
--- of a front of one message nothing is refused
+-- no rest of a prefix of one message is refused
 none_refused : (request read more rest : List ℕ) (m : Message) (ms : List Message) (fault : Fault) → HasMessage request m [] → request ≡ read ++ more → HasMessages read ms rest
     → (ms ≡ []) ⊎ ((ms ≡ m ∷ []) × (read ≡ request)) → IsRefused fault rest → ⊥
 none_refused request read more rest m ms fault has parts reads (inl none) bad =

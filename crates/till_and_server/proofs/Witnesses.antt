@@ -1,4 +1,4 @@
--- The witnesses of a till's book, and what became of its entries.
+-- The witnesses of a till's book, and the outcome of its entries.
 use Rattle.shop_model.proofs.Common.{◌≡◌, ◌≢◌, ◌∙◌, inl, inr, ℕ, zero, suc, List, [], ◌∷◌, ◌++◌, true, Some, None, refl, sym, subst, ap, slice_get, Text, Command, Rules, Do, Answer, Books, Event, Counter, state_of, is_decided, Asks, Life, history_of, begun}
 use Rattle.sqlite_trees.specs.declared.store.Store.{Ghosts}
 use Rattle.http_messages.specs.Message.{Message}
@@ -55,7 +55,7 @@ said_at (x ∷ xs) [] k request say e = absurd say
 said_at (x ∷ xs) (c ∷ cs) zero request say e = record { command = c; there = refl; says = subst (λ (it : List ℕ). Says it c) (same_some x request e) say.0 }
 said_at (x ∷ xs) (c ∷ cs) (suc k) request say e = let it = said_at xs cs k request say.1 e in record { command = it.command; there = it.there; says = it.says }
 
--- a command among the entries
+-- the command is an entry's
 abbrev IsEntrys : List Command → List Answer → Command → Type 0
 IsEntrys commands replies command = (i : ℕ) × (entry : Entry) × (slice_get (entries_of commands replies) i ≡ Some entry) × (entry.command ≡ command)
 
@@ -72,7 +72,7 @@ entry_at commands replies k c command there is = found commands replies k there
 same_command : (one two : Command) → Do one ≡ Do two → one ≡ two
 same_command one two e = cc
 
--- a message of an entry's bytes asks for what they say
+-- a message with an entry's bytes asks for the command that the bytes say
 said_same : (meaning : Meaning) (b : ℕ) (request : List ℕ) (token : Text) (m : Message) (event : Event) (command other : Command) → HasMessage request m [] → SaysCommand request token other
     → event_of meaning m ≡ event → event.request (Counter b) ≡ Do command → other ≡ command
 said_same meaning b request token m event command other has says is what =
@@ -95,7 +95,7 @@ asked_of_entries mark rules b entries commands replies lives old say come n life
     let same = said_same served.meaning b k.1 s.says.0 e.0.message here.event command s.command k.3 s.says.1 e.2 here.what in
     entry_at commands replies k.0 s.command command s.there same
 
--- ---- its replies
+-- ---- the book's replies
 
 pub decision : (answer : Answer) → answer.status ≢ 503 → is_decided answer ≡ true
 decision answer isnt = rw (differ_test answer.status 503 isnt) refl

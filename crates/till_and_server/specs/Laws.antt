@@ -1,5 +1,5 @@
 -- Laws of a till and a server at the two ends of a connection.
-use Rattle.std.specs.Prelude.{◌≡◌, ◌⊎◌, ℕ, Bool, false, List, [], ◌∷◌, ◌++◌, length, map, slice_get, Some}
+use Rattle.std.specs.Prelude.{◌≡◌, ◌⊎◌, ℕ, Bool, false, List, [], ◌∷◌, ◌++◌, length, map, slice_get, Option, Some}
 use Rattle.sqlite_trees.specs.declared.store.Store.{Ghosts}
 use Rattle.sqlite.specs.Held.{state}
 use Rattle.sqlite.specs.State.{HasCleanDisk}
@@ -26,42 +26,44 @@ use Rattle.till_model.specs.Settled.{BecameSettled}
 use Rattle.till_book.specs.Journal.{Journal}
 use Rattle.till_book.specs.Read.{in_order}
 use Rattle.till_work.specs.Entering.{IsTillsBook}
+use Rattle.till_work.specs.Told.{IsTold}
+use Rattle.till_work.specs.Desk.{Extends}
 use Rattle.till_and_server.specs.Streams.{Streams, Carries, IsWritten, Serving, Serves, ServesThese, WasExchanged}
-use Rattle.till_and_server.specs.Lives.{ServedLife, life_of, lives_of, books_then, StandIn, IsTokenOf, WereRecorded, StaysRecorded, WereNoted, StaysNoted, ComeFromEntries}
+use Rattle.till_and_server.specs.Lives.{ServedLife, life_of, lives_of, books_then, StandIn, IsTokenOf, IsAnsweredBy, WereRecorded, StaysRecorded, WereNoted, StaysNoted, ComeFromEntries}
 
 -- ---- one connection
 
--- a chain that ran over a connection's exchanges ran over some that are the connection's
+-- If a connection's contract says that the chain ran over exchanges, the chain ran over exchanges that the connection served.
 abbrev pub RunsHaveExchanges : {S : Type 0} → Ghosts S → Type 0
 RunsHaveExchanges {S} g =
     (meaning : Meaning) (old new : Chained S) (serving : Serving) (most : ℕ) (server : Streams) → Serves serving most (RunsOver g meaning old new) server
     → (exchanges : List Exchange) × ServesThese serving most exchanges server × RunsOver g meaning old new exchanges
 
--- the message with that answer, and nothing else
+-- the one exchange of that message and that answer
 abbrev pub one_exchange : Message → Answer → List Exchange
 one_exchange message answer = record { message = message; answer = answer } ∷ []
 
--- Of a till that wrote the bytes of one message, or a front of them, of which the server's reader had all or a front: the server read no message, or that one
--- and no other, and then all its bytes came.
+-- The till wrote the bytes of one message, or a prefix of them. The server's reader got what the till wrote, or a prefix of it.
+-- Then the server served no message, or that one message. If it served the message, all bytes of the message came.
 abbrev pub OneMessageIsRead : Type 0
 OneMessageIsRead =
     (request : List ℕ) (token : Text) (command : Command) (says : SaysCommand request token command) (till server : Streams) (serving : Serving) (most : ℕ) (exchanges : List Exchange)
     → IsWritten request till.output till.written → Carries till.output till.written server.input → ServesThese serving most exchanges server
     → (exchanges ≡ []) ⊎ ((answer : Answer) × (exchanges ≡ one_exchange says.message answer) × (server.input ≡ Some request))
 
--- Where of what the server wrote a whole reply came and was read: the server read that message and no other, all its bytes came, its answer is the one that was
--- read, and nothing follows.
+-- If the till read a whole reply, the server served that message and no other, and all bytes of the message came.
+-- The server's answer is the one that the till read, and no bytes follow it.
 abbrev pub OneAnswerIsRead : Type 0
 OneAnswerIsRead =
     (request : List ℕ) (token : Text) (command : Command) (says : SaysCommand request token command) (answer : Answer) (exchanges : List Exchange) (it : WasExchanged request answer exchanges)
     → (exchanges ≡ one_exchange says.message answer) × (it.server.input ≡ Some request) × (it.till.left ≡ Some [])
 
--- the chain ran over that message's event, with that answer, and over nothing else
+-- the chain ran over that message's event alone, with that answer
 abbrev pub RunsOne : {S : Type 0} → Ghosts S → Meaning → Chained S → Chained S → Message → Answer → Type 0
 RunsOne g meaning old new message answer = Takes g old new (Runs (event_of meaning message ∷ []) (answer ∷ []))
 
--- A chain that ran over the exchanges of such a connection is as it was, or ran over that one event; and where a whole reply was read, over that event with that
--- answer.
+-- After the exchanges of such a connection, the chain is as it was, or it ran over that one event (`wherever`).
+-- If the till read a whole reply, the chain ran over that event with that answer (`answered`).
 pub record OneEventIsRun {S : Type 0} (g : Ghosts S) : Type 0 where
   pub wherever : (meaning : Meaning) (old new : Chained S) (request : List ℕ) (token : Text) (command : Command) (says : SaysCommand request token command) (till server : Streams)
       (serving : Serving) (most : ℕ) (exchanges : List Exchange) → IsWritten request till.output till.written → Carries till.output till.written server.input
@@ -72,14 +74,14 @@ pub record OneEventIsRun {S : Type 0} (g : Ghosts S) : Type 0 where
 
 -- ---- a chain's lives
 
--- What a chain ran over from its opening on is a life, whether or not the request at which the store failed had acted.
+-- The exchanges that a chain ran over from its opening on are a life. The request at which the store failed may have acted or not.
 abbrev pub RunsAreLives : Type 0
 RunsAreLives =
     (life : ServedLife) (old new : Holding) → Runs (events_of life.meaning life.exchanges) (answers_of life.exchanges) old new
     → Lives (rules_of old.limits) office_look (lives_of (life ∷ [])) old.books (last_books (rules_of old.limits) (in_flight (life_of life)) new.books)
 
--- Lives of a chain that ran over these exchanges, was stopped, and ran over more: its books behind them are those of the lives. The request at which the store
--- failed before the stop had acted or it hadn't.
+-- A chain ran over `exchanges`, was stopped, and ran over `more`. Its books after that are the books of two lives.
+-- `acted` says whether the request at which the store failed before the stop had acted.
 pub record IsServedOn {S : Type 0} (g : Ghosts S) (rules : Rules) (meaning later : Meaning) (exchanges more : List Exchange) (old : Books) (chain : Chained S) : Type 0 where
   pub acted : Bool
   pub new : Books
@@ -87,7 +89,8 @@ pub record IsServedOn {S : Type 0} (g : Ghosts S) (rules : Rules) (meaning later
   pub at : IsAt g chain new besides
   pub lives : Lives rules office_look (lives_of (record { meaning = meaning; exchanges = exchanges; acted = acted } ∷ record { meaning = later; exchanges = more; acted = false } ∷ [])) old new
 
--- What `over_a_stop` says of requests, of what was served: a chain ran over some exchanges, was stopped and opened again as `restart` says, and ran over more.
+-- The law `over_a_stop`, for exchanges instead of requests.
+-- A chain ran over some exchanges, was stopped and opened again as `restart` says, and ran over more.
 abbrev pub ServedOverAStop : {S : Type 0} → Ghosts S → Type 0
 ServedOverAStop {S} g =
     (start mid again last : Chained S) (meaning later : Meaning) (exchanges more : List Exchange) → start.is_failed ≡ false → RunsOver g meaning start mid exchanges
@@ -96,32 +99,34 @@ ServedOverAStop {S} g =
     → RunsOver g later again last more → HasCleanDisk (state g last.conn) → (books besides : Books) → IsAt g start books besides
     → ∥ IsServedOn g (rules_of start.limits) meaning later exchanges more books last ∥₁
 
--- Of connections that are served together, one with one exchange has it in the whole, others' before and behind.
+-- Connections are served together. If a connection has one exchange, that exchange is among all exchanges, with others before and after.
 abbrev pub OneAmongMany : Type 0
 OneAmongMany =
     (tills : List Till) (whole : List Exchange) → Mixes (map (λ till. till.exchanges) tills) whole → (j : ℕ) (till : Till) (exchange : Exchange) → slice_get tills j ≡ Some till
     → till.exchanges ≡ exchange ∷ [] → (front : List Exchange) × (back : List Exchange) × (whole ≡ front ++ exchange ∷ back)
 
--- Where a message and its answer stand in a life of a chain, and the message's token is the branch's then, the chain gave that answer to the branch's command.
+-- Suppose that a message and its answer are in a life of a chain, and that the message's token was the branch's then.
+-- Then the chain gave that answer to the branch's command.
 abbrev pub ExchangesAreAnswered : Type 0
 ExchangesAreAnswered =
     (rules : Rules) (b : ℕ) (lives : List ServedLife) (old : Books) (request : List ℕ) (token : Text) (command : Command) (says : SaysCommand request token command) (answer : Answer)
     (stand : StandIn lives (one_exchange says.message answer)) → IsTokenOf b token (books_then rules lives old stand.at_life stand.life (length stand.front))
     → WasAnswered rules b (lives_of lives) old command answer
 
--- what `deliver` recorded of exchanges with the chain the book has
+-- The replies of a book stay recorded from exchanges with the chain, as the till enters and delivers.
 abbrev pub DeliveriesAreRecorded : Type 0
 DeliveriesAreRecorded = (rules : Rules) (b : ℕ) (lives : List ServedLife) (old : Books) → StaysRecorded rules b lives old
 
--- A till's book whose replies were recorded of exchanges with the chain, where nobody else uses its mark, has its witnesses.
+-- If a till's replies were recorded from exchanges with the chain, and nobody else uses the mark, the book has its witnesses.
 abbrev pub ExchangesAreWitnesses : Type 0
 ExchangesAreWitnesses =
     (mark : Text) (rules : Rules) (b : ℕ) (journal : Journal) (commands : List Command) (lives : List ServedLife) (old : Books) → IsTillsBook mark journal commands
     → ComeFromEntries mark rules b journal.entries lives old → WereRecorded rules b lives old journal
     → IsWitnessed (has_mark mark) rules b commands journal.replies (lives_of lives) old
 
--- From the key press to the disk, over connections that break anywhere, beside any others, and over any number of stops: what a till's entries say acts at most
--- once, in the order of entering, and what the book shows as accepted acted once, with that reply.
+-- Connections may break anywhere, any others are served beside them, and the chain may stop any number of times.
+-- From the key press to the disk, each entry of a till acts at most once, in the order of entering.
+-- An entry that the book shows as accepted acted once, with that reply.
 abbrev pub TillAndServer : Type 0
 TillAndServer =
     (mark : Text) (rules : Rules) (look : OfficeAsk → Books → Reply) (b : ℕ) (journal : Journal) (commands : List Command) (lives : List ServedLife) (old new : Books)
@@ -129,15 +134,41 @@ TillAndServer =
     → ComeFromEntries mark rules b journal.entries lives old → WereRecorded rules b lives old journal
     → Became (has_mark mark) (entries_of commands journal.replies) (served_over (has_mark mark) rules b (lives_of lives) old) (shop_of b new)
 
--- what `settle` noted of exchanges with the chain the book has
+-- The settlements of a book stay recorded from exchanges with the chain, as the till enters, delivers and settles.
 abbrev pub SettlementsAreNoted : Type 0
 SettlementsAreNoted = (rules : Rules) (b : ℕ) (lives : List ServedLife) (old : Books) → StaysNoted rules b lives old
 
--- The same of a till's book with its settlements, in the order in which they are read: an entry whose settlement is 200 has acted once, with exactly that reply, and
--- one whose settlement is that its moment is behind has not acted, whatever came behind that.
+-- The same law for a till's book with its settlements, in the order in which they are read.
+-- An entry that is settled with 200 has acted once, with exactly that reply.
+-- An entry that is settled with `moment_back` has not acted, whatever the branch got after that.
 abbrev pub SettledTillAndServer : Type 0
 SettledTillAndServer =
     (mark : Text) (rules : Rules) (look : OfficeAsk → Books → Reply) (b : ℕ) (journal : Journal) (commands : List Command) (lives : List ServedLife) (old new : Books)
     → Lives rules look (lives_of lives) old new → HasNumbers old → IsUnused (has_mark mark) (shop_of b old) → IsTillsBook mark journal commands
     → ComeFromEntries mark rules b journal.entries lives old → WereRecorded rules b lives old journal → WereNoted rules b lives old journal
+    → BecameSettled (has_mark mark) commands journal.replies (in_order journal.settled) (served_over (has_mark mark) rules b (lives_of lives) old) (shop_of b new)
+
+-- ---- what the till keeps
+
+-- each exchange over streams that a till's server opened is answered by a chain in one of these lives
+abbrev pub AreAnswered : {R W : Type 0} → (R → W → Type 0) → (R → Option (List ℕ)) → (W → Option (List ℕ)) → Rules → ℕ → List ServedLife → Books → Type 0
+AreAnswered opens remaining contents rules b lives old =
+    (request : List ℕ) (answer : Answer) (it : IsTold opens remaining contents request answer)
+    → IsAnsweredBy rules b lives old request answer
+    (record { input = remaining it.reader; left = remaining it.read; output = contents it.writer; written = contents it.written })
+
+-- A book that was extended by such exchanges stays recorded and noted. `Extends` is what each word of the till keeps.
+abbrev pub ExtendedBooksStayRecorded : {R W : Type 0} → (R → W → Type 0) → (R → Option (List ℕ)) → (W → Option (List ℕ)) → Type 0
+ExtendedBooksStayRecorded opens remaining contents =
+    (rules : Rules) (b : ℕ) (lives : List ServedLife) (old : Books) (before after : Journal) → AreAnswered opens remaining contents rules b lives old
+    → Extends (IsTold opens remaining contents) before after
+    → (WereRecorded rules b lives old before → WereRecorded rules b lives old after) × (WereNoted rules b lives old before → WereNoted rules b lives old after)
+
+-- So it is from an empty book on, over any words: what the book says of its entries has become of them in the chain's books.
+abbrev pub WordsReachTheDisk : {R W : Type 0} → (R → W → Type 0) → (R → Option (List ℕ)) → (W → Option (List ℕ)) → Type 0
+WordsReachTheDisk opens remaining contents =
+    (mark : Text) (rules : Rules) (look : OfficeAsk → Books → Reply) (b : ℕ) (journal : Journal) (commands : List Command) (lives : List ServedLife) (old new : Books)
+    → Lives rules look (lives_of lives) old new → HasNumbers old → IsUnused (has_mark mark) (shop_of b old) → IsTillsBook mark journal commands
+    → ComeFromEntries mark rules b journal.entries lives old → AreAnswered opens remaining contents rules b lives old
+    → Extends (IsTold opens remaining contents) (record { entries = []; replies = []; settled = [] }) journal
     → BecameSettled (has_mark mark) commands journal.replies (in_order journal.settled) (served_over (has_mark mark) rules b (lives_of lives) old) (shop_of b new)

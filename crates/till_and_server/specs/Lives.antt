@@ -1,4 +1,4 @@
--- The lives of a chain that was served, and where a connection's exchanges stand in them.
+-- The lives of a served chain, and the place of a connection's exchanges in a life.
 use Rattle.std.specs.Prelude.{◌≡◌, ◌≢◌, ◌++◌, [], ℕ, Bool, true, List, length, map, slice_get, Some}
 use Rattle.std.specs.List.{AllByRecursion}
 use Rattle.std.specs.Io.KnownBytes.{Appends, Consumes}
@@ -20,8 +20,8 @@ use Rattle.till_work.specs.Settling.{OfEntry}
 use Rattle.till_model.specs.Numbered.{has_mark}
 use Rattle.till_and_server.specs.Streams.{Streams, AreJoined, Serving, ServesThese, WasExchanged}
 
--- What a chain answered over all its connections from its opening on until it was closed or stopped, what head office's words meant then, and whether the request
--- at which the store failed had acted all the same.
+-- A chain's exchanges over all its connections, from its opening until it was closed or stopped, and the meaning of head office's words then.
+-- `acted` says whether the request at which the store failed had acted all the same.
 pub record ServedLife : Type 0 where
   pub meaning : Meaning
   pub exchanges : List Exchange
@@ -33,11 +33,11 @@ life_of life = record { events = events_of life.meaning life.exchanges; answers 
 abbrev pub lives_of : List ServedLife → List Life
 lives_of lives = map life_of lives
 
--- the books as the exchange of that life and place finds them
+-- the books before the exchange at that place of that life
 abbrev pub books_then : Rules → List ServedLife → Books → ℕ → ServedLife → ℕ → Books
 books_then rules lives old n life place = books_at rules (events_of life.meaning life.exchanges) (answers_of life.exchanges) (begun rules (lives_of lives) old n) place
 
--- a connection's exchanges are a part of those of a life: those of other connections stand before and behind
+-- A connection's exchanges are in a life, in a row. Exchanges of other connections are before them (`front`) and after them (`back`).
 pub record StandIn (lives : List ServedLife) (exchanges : List Exchange) : Type 0 where
   pub at_life : ℕ
   pub life : ServedLife
@@ -46,11 +46,12 @@ pub record StandIn (lives : List ServedLife) (exchanges : List Exchange) : Type 
   pub back : List Exchange
   pub parts : life.exchanges ≡ front ++ (exchanges ++ back)
 
--- who comes with the token is that branch
+-- a caller with that token is that branch
 abbrev pub IsTokenOf : ℕ → Text → Books → Type 0
 IsTokenOf b token books = caller_of (known_token (Some token)) books.catalogue ≡ Counter b
 
--- A till recorded that answer of an exchange with a chain in one of these lives, with its branch's token, and the answer isn't that the store couldn't do its part.
+-- A till recorded that answer from an exchange with a chain in one of the lives. The token was its branch's then.
+-- The answer isn't a 503, with which the chain reports that it lacked memory, room or its store.
 pub record WasRecorded (rules : Rules) (b : ℕ) (lives : List ServedLife) (old : Books) (request : List ℕ) (answer : Answer) : Type 0 where
   pub exchanges : List Exchange
   pub exchanged : WasExchanged request answer exchanges
@@ -58,13 +59,13 @@ pub record WasRecorded (rules : Rules) (b : ℕ) (lives : List ServedLife) (old 
   pub own : (token : Text) (command : Command) → SaysCommand request token command → IsTokenOf b token (books_then rules lives old stand.at_life stand.life (length stand.front))
   pub decided : answer.status ≢ 503
 
--- each reply that the book has is to the entry of its place, and was recorded so
+-- each reply of the book was recorded from an exchange of the entry at the same place
 abbrev pub WereRecorded : Rules → ℕ → List ServedLife → Books → Journal → Type 0
 WereRecorded rules b lives old journal =
     (i : ℕ) (answer : Answer) → slice_get journal.replies i ≡ Some answer
     → (request : List ℕ) × (slice_get journal.entries i ≡ Some request) × WasRecorded rules b lives old request answer
 
--- the other end of what a till delivered: a connection of a chain in one of these lives, the request's token being the branch's then
+-- The other end of a till's delivery is a connection of a chain in one of the lives. The request's token was the branch's then.
 pub record IsAnsweredBy (rules : Rules) (b : ℕ) (lives : List ServedLife) (old : Books) (request : List ℕ) (answer : Answer) (till : Streams) : Type 0 where
   pub server : Streams
   pub serving : Serving
@@ -77,8 +78,8 @@ pub record IsAnsweredBy (rules : Rules) (b : ℕ) (lives : List ServedLife) (old
   pub stand : StandIn lives exchanges
   pub own : (token : Text) (command : Command) → SaysCommand request token command → IsTokenOf b token (books_then rules lives old stand.at_life stand.life (length stand.front))
 
--- A book of which each reply was recorded so stays one: an empty one is, and where an entry is put to it, and where the oldest entry without a reply was written,
--- whole, and a reply read, whole, that is no 503 and is recorded for it, as `deliver` says.
+-- The replies of a book stay recorded from exchanges. An empty book has no replies (`none`), and a new entry changes none (`enters`).
+-- A delivery keeps this (`delivers`): the till wrote the oldest entry without a reply, read a whole reply other than 503, and recorded the reply.
 pub record StaysRecorded (rules : Rules) (b : ℕ) (lives : List ServedLife) (old : Books) : Type 0 where
   pub none : WereRecorded rules b lives old (record { entries = []; replies = []; settled = [] })
   pub enters : (journal : Journal) (request : List ℕ) → WereRecorded rules b lives old journal → WereRecorded rules b lives old (with_entry request journal)
@@ -86,12 +87,13 @@ pub record StaysRecorded (rules : Rules) (b : ℕ) (lives : List ServedLife) (ol
       → Appends till.output till.written request → Consumes till.input till.left (answer_bytes answer) → answer.status ≢ 503
       → IsAnsweredBy rules b lives old request answer till → WereRecorded rules b lives old (with_reply answer journal)
 
--- what each settled entry was told when it was sent once more was recorded so
+-- each settlement of the book was recorded from an exchange of its entry
 abbrev pub WereNoted : Rules → ℕ → List ServedLife → Books → Journal → Type 0
 WereNoted rules b lives old journal = AllByRecursion (λ (it : ℕ × Answer). OfEntry it.0 journal (λ request. WasRecorded rules b lives old request it.1)) journal.settled
 
--- A book of which each settled entry was told so stays one: an empty one is, and where an entry is put to it, or a reply recorded, and where the entry of a number was
--- written, whole, once more, and a reply read, whole, that is no 503 and settles it, as `settle` says. And its replies stay recorded, whatever is settled.
+-- The settlements of a book stay recorded from exchanges. An empty book has none (`none`); an entry or a reply more changes none (`enters`, `delivers`).
+-- Settling keeps this (`settles`): the till wrote the whole entry once more, read a whole reply other than 503, and recorded the reply as the settlement.
+-- Replies stay recorded, whatever is settled (`replies`).
 pub record StaysNoted (rules : Rules) (b : ℕ) (lives : List ServedLife) (old : Books) : Type 0 where
   pub none : WereNoted rules b lives old (record { entries = []; replies = []; settled = [] })
   pub enters : (journal : Journal) (request : List ℕ) → WereNoted rules b lives old journal → WereNoted rules b lives old (with_entry request journal)
@@ -101,7 +103,8 @@ pub record StaysNoted (rules : Rules) (b : ℕ) (lives : List ServedLife) (old :
       → Consumes till.input till.left (answer_bytes answer) → answer.status ≢ 503 → WereNoted rules b lives old (with_settled n answer journal)
   pub replies : (journal : Journal) (n : ℕ) (answer : Answer) → WereRecorded rules b lives old journal → WereRecorded rules b lives old (with_settled n answer journal)
 
--- Nobody else uses the mark: each message that came with the branch's token and said a command whose key has the mark has the bytes of one of these entries.
+-- Nobody else uses the mark. Each message that came with the branch's token, and said a command under the mark,
+-- has the bytes of one of the entries.
 abbrev pub ComeFromEntries : Text → Rules → ℕ → List (List ℕ) → List ServedLife → Books → Type 0
 ComeFromEntries mark rules b entries lives old =
     (n i : ℕ) (life : ServedLife) (exchange : Exchange) (command : Command) → slice_get lives n ≡ Some life → slice_get life.exchanges i ≡ Some exchange

@@ -1,76 +1,93 @@
-//! Laws, each on a function with nothing to do.
+//! Laws. Each is the contract of a function that does nothing.
 
-ghost use Rattle.till_and_server.specs.Laws.{RunsHaveExchanges, OneMessageIsRead, OneAnswerIsRead, OneEventIsRun, RunsAreLives, ServedOverAStop, OneAmongMany, ExchangesAreAnswered, DeliveriesAreRecorded, ExchangesAreWitnesses, TillAndServer, SettlementsAreNoted, SettledTillAndServer};
+ghost use Rattle.till_and_server.specs.Laws.{RunsHaveExchanges, OneMessageIsRead, OneAnswerIsRead, OneEventIsRun, RunsAreLives, ServedOverAStop, OneAmongMany, ExchangesAreAnswered, DeliveriesAreRecorded, ExchangesAreWitnesses, TillAndServer, SettlementsAreNoted, SettledTillAndServer, ExtendedBooksStayRecorded, WordsReachTheDisk};
 
 use sqlite::Alter;
+use till_work::Server;
 
-/// What `serve` or turns of a connection say of a chain's run they say of the exchanges that were run.
+/// If `serve` or turns of a connection say that a chain ran over exchanges, those exchanges are the connection's.
 #[tactic(auto, using(crate::proofs::Runs::runs_have))]
 pub fn runs_have_exchanges<S: Alter>()
     ensures { RunsHaveExchanges S.Store }
 {}
 
-/// However a connection with one request breaks, the server answers that message alone, or none.
+/// A server answers either one message or none of a connection with one request, also if the connection breaks.
 pub fn one_message_is_read()
     ensures { OneMessageIsRead }
 {}
 
-/// Where a till reads a whole reply, the server answered its message alone, by that very answer.
+/// If a till reads a whole reply, the server answered the till's message alone, with that very answer.
 pub fn one_answer_is_read()
     ensures { OneAnswerIsRead }
 {}
 
-/// However it breaks, the chain is as it was or ran over that message's event and nothing else; and where a till
-/// reads a whole reply, over that event with that answer.
+/// After a connection with one request, the chain is as it was, or it ran over that message's event and nothing else.
+/// This also holds if the connection breaks. If a till reads a whole reply, the chain ran over that event with that
+/// answer.
 pub fn one_event_is_run<S: Alter>()
     ensures { OneEventIsRun S.Store }
 {}
 
-/// What a chain ran over from its opening on is a life of it.
+/// The exchanges that a chain ran over from its opening on are a life of the chain.
 pub fn runs_are_lives()
     ensures { RunsAreLives }
 {}
 
-/// What a chain served before a stop and behind it are two lives, behind which it has their books.
+/// What a chain served before a stop and after it are two lives. The chain's books after that are the books of the two
+/// lives.
 pub fn served_over_a_stop<S: Alter>()
     ensures { ServedOverAStop S.Store }
 {}
 
-/// A connection with one exchange has it in the whole that a chain ran over for all of its connections.
+/// If a connection has one exchange, that exchange is among all exchanges that the chain ran over.
 pub fn one_among_many()
     ensures { OneAmongMany }
 {}
 
-/// An exchange that stands among others in a life of the chain is an answer that the chain gave to that command.
+/// If an exchange is among the exchanges of a life of the chain, the chain gave that answer to that command.
 pub fn exchanges_are_answered()
     ensures { ExchangesAreAnswered }
 {}
 
-/// A book whose replies were recorded of exchanges with a chain stays one, where it is entered and delivered from.
+/// The replies of a book stay recorded from exchanges with a chain, when the till enters and delivers.
 pub fn deliveries_are_recorded()
     ensures { DeliveriesAreRecorded }
 {}
 
-/// What a till recorded of its exchanges are its book's witnesses, where nobody else uses its mark.
+/// If nobody else uses a till's mark, the replies that the till recorded from its exchanges are its book's witnesses.
 pub fn exchanges_are_witnesses()
     ensures { ExchangesAreWitnesses }
 {}
 
-/// From the key press to the disk, over connections that may break anywhere: what is entered acts at most once, in
-/// the order of entering, and what the till's book shows as accepted has acted once, with that reply.
+/// From the key press to the disk, over connections that may break anywhere, each entry acts at most once, in the order
+/// of entering. An entry that the till's book shows as accepted has acted once, with that reply.
 pub fn from_the_till_to_the_disk()
     ensures { TillAndServer }
 {}
 
-/// A book whose settlements were recorded of exchanges with a chain stays one, where it is entered, delivered and
-/// settled from.
+/// The settlements of a book stay recorded from exchanges with a chain, when the till enters, delivers and settles.
 pub fn settlements_are_noted()
     ensures { SettlementsAreNoted }
 {}
 
-/// The same with what settled entries: one that was told 200 when it was sent once more has acted once, with exactly
-/// that reply, and one that was told that its moment is behind never acts. So the book's entries, with what settled
-/// them, have become in the chain's books what they say.
+/// The same law with settlements. An entry whose retry got 200 has acted once, with exactly that reply. An entry whose
+/// retry got `moment_back` has not acted, whatever the branch got after that. So the till's book and its settlements
+/// agree with the chain's books.
 pub fn settled_from_the_till_to_the_disk()
     ensures { SettledTillAndServer }
 {}
+
+/// A book that is extended by exchanges with a chain stays recorded and noted. Each word of the till extends its book so.
+pub fn extended_books_stay_recorded<V: Server>(server: &V)
+    ensures { ExtendedBooksStayRecorded (V.opens server.now) V.Reader.remaining V.Writer.contents }
+{
+    let _ = server;
+}
+
+/// From an empty book on, over any words of the till: the book's entries, with what settled them, have become in the
+/// chain's books what they say.
+pub fn words_reach_the_disk<V: Server>(server: &V)
+    ensures { WordsReachTheDisk (V.opens server.now) V.Reader.remaining V.Writer.contents }
+{
+    let _ = server;
+}

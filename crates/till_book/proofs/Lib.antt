@@ -1,4 +1,15 @@
 pub mod Numbers
+pub mod Saids
+pub mod Told
+pub mod Marking
+pub mod Refusals
+pub mod ByRents
+pub mod InOrder
+pub mod Helds
+pub mod Doing
 pub mod JournalTexts
 pub mod ReadTexts
+pub mod RentTexts
+pub mod EndTexts
+pub mod Puttings
 pub mod Resting

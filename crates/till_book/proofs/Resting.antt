@@ -1,4 +1,4 @@
--- What a transaction leaves of the book.
+-- The book after a transaction.
 use Rattle.sql_rows.proofs.Common.{◌≡◌, ◌∙◌, refl, sym, ap, subst, arith, inl, inr, IsTrue, true, false, Result, Ok, Err, IfOk, MutBor, StaysInside, Ghosts, Trees, Database, Held, state, State, HasCleanDisk, IsRolledBack, Shows, Survives, survives_then, survives_begin, AreKeyed}
 use Rattle.std.specs.Prelude.{OnOk}
 use Rattle.sql_rows.proofs.Whole.{crash_new, dropped}
@@ -26,7 +26,7 @@ module _ {S : Type 0} (g : Ghosts S) (old mid end : Held S) (Given : Journal →
   done : HasCleanDisk (state g mid) → (journal : Journal) → Rests (state g old) journal → Given journal → Holds (state g mid) (change journal)
   done clean journal rests given = writes journal (holds_as (state g old) (state g (record old { in_transaction = true })) journal refl (rests.now (live clean))) given
 
-  -- the commit answered so
+  -- the commit succeeded
   pub comes : HasCleanDisk (state g mid) → Settled g → Shows (state g mid) (state g end) (state g mid).now (state g mid).now false → Comes Given change (state g old) (state g end)
   comes clean settled shows journal rests given =
       let holds = done clean journal rests given in
@@ -36,7 +36,7 @@ module _ {S : Type 0} (g : Ghosts S) (old mid end : Held S) (Given : Journal →
         left = λ db may. subst (λ (trees : Trees). StandsFor trees (change journal)) (sym (settled end.store db shows.is_open may ∙ ap (λ (d : Database). d.trees) shows.committed_is)) holds.stands;
       }
 
--- what the commit leaves, whether or not it answers so
+-- what a commit leaves, whether or not it succeeds
 pub leaves : {S : Type 0} (g : Ghosts S) (old mid end : Held S) (Given : Journal → Type 0) (change : Journal → Journal)
     → (HasCleanDisk (state g mid) → Writes (state g (record old { in_transaction = true })) (state g mid) Given change) → (HasCleanDisk (state g mid) → IsTrue (state g old).is_open)
     → Survives (state g (record old { in_transaction = true })) (state g mid) (λ _. ⊥) → Survives (state g mid) (state g end) (λ db. db ≡ (state g mid).now.trees)
@@ -66,17 +66,17 @@ module _ {S X E : Type 0} (g : Ghosts S) (old end : Held S) (Given : Journal →
       let before : HasCleanDisk (state g after.now) = omega (arith, clean, ending.clean) in
       comes g old after.now end Given change (put_begun before) (λ k. (from_begun.lives k refl).was_open) before settled (shows clean)
 
-  pub left_behind : Survives (state g old) (state g end) (LeavesChanged Given change (state g old))
-  left_behind = leaves g old after.now end Given change put_begun (λ k. (from_begun.lives k refl).was_open) from_begun.survives ending
+  pub left_after : Survives (state g old) (state g end) (LeavesChanged Given change (state g old))
+  left_after = leaves g old after.now end Given change put_begun (λ k. (from_begun.lives k refl).was_open) from_begun.survives ending
 
--- a look in a transaction of its own, which is rolled back, whatever it was told
+-- a look in a transaction of its own, which is rolled back, whatever the look returned
 module _ {S X E : Type 0} (g : Ghosts S) (old end : Held S) {tx after : MutBor (Held S)} {r : Result X E} (begun : tx.now ≡ record old { in_transaction = true }) (inside : StaysInside g tx after r)
     (undone : HasCleanDisk (state g end) → IsRolledBack (state g after.now) (state g end)) (ending : Survives (state g after.now) (state g end) (λ _. ⊥)) where
   looked : StaysInside g (record tx { now = record old { in_transaction = true } }) after r
   looked = begun_inside g old begun inside
 
-  pub stays_behind : HasCleanDisk (state g end) → Stays (state g old) (state g end)
-  stays_behind clean journal rests =
+  pub stays_after : HasCleanDisk (state g end) → Stays (state g old) (state g end)
+  stays_after clean journal rests =
       let before : HasCleanDisk (state g after.now) = omega (arith, clean, ending.clean) in
       let kept = looked.kept before refl in
       let survives : Survives (state g old) (state g end) (λ _. ⊥) = leaves_none g old after.now end (λ _. ⊥) looked.survives ending in
@@ -89,9 +89,9 @@ module _ {S X E : Type 0} (g : Ghosts S) (old end : Held S) {tx after : MutBor (
         left = λ db may. elim (survives.crash clean db may) [ inl before ↦ rests.left db before | inr none ↦ absurd none ];
       }
 
-  pub finds_behind : (Says : X → Journal → Type 0) → (HasCleanDisk (state g after.now) → IfOk r (λ it. Finds (Says it) (state g tx.now) (state g after.now)))
+  pub finds_after : (Says : X → Journal → Type 0) → (HasCleanDisk (state g after.now) → IfOk r (λ it. Finds (Says it) (state g tx.now) (state g after.now)))
       → HasCleanDisk (state g end) → IfOk r (λ it. (journal : Journal) → Rests (state g old) journal → Rests (state g end) journal × Says it journal)
-  finds_behind Says finds clean =
+  finds_after Says finds clean =
       let before : HasCleanDisk (state g after.now) = omega (arith, clean, ending.clean) in
       told r (looked.lives before refl) (rw begun at (finds before))
     where
@@ -99,7 +99,7 @@ module _ {S X E : Type 0} (g : Ghosts S) (old end : Held S) {tx after : MutBor (
           → IfOk r (λ it. Finds (Says it) (state g (record old { in_transaction = true })) (state g after.now))
           → IfOk r (λ it. (journal : Journal) → Rests (state g old) journal → Rests (state g end) journal × Says it journal)
       told (Ok x) shows found = λ journal rests. (
-        stays_behind clean journal rests,
+        stays_after clean journal rests,
         (found journal (holds_as (state g old) (state g (record old { in_transaction = true })) journal refl (rests.now shows.was_open))).1,
       )
       told (Err e) shows found = tt

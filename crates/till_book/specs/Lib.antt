@@ -1,5 +1,12 @@
 pub mod Tables
+pub mod Saying
+pub mod Marks
 pub mod Journal
+pub mod Statements
+pub mod Marking
 pub mod Seen
 pub mod Read
+pub mod Held
+pub mod Register
+pub mod Ends
 pub mod Steps

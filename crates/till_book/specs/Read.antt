@@ -6,7 +6,7 @@ use Rattle.shop_model.specs.Answers.{Answer}
 use Rattle.till_book.specs.declared.lists.BookRows.{BookRows}
 use Rattle.till_book.specs.Journal.{Journal}
 
--- in the order of the entries
+-- settlements in the order of their entries
 abbrev pub in_order : List (ℕ × Answer) → List (ℕ × Answer)
 in_order settled = sort_by (by (λ (it : ℕ × Answer). it.0)) settled
 

@@ -35,7 +35,7 @@ impl Entries {
     }
 }
 
-/// Replies in the order of the entries: the n-th is that to the n-th entry.
+/// Replies in the order of the entries: the n-th reply is to the n-th entry.
 #[derive(Drop)]
 pub struct Replies {
     rows: Vec<BookReply>,
@@ -65,7 +65,7 @@ impl Replies {
     }
 }
 
-/// What entries were told when they were sent once more, in the order of the entries.
+/// The replies that settled entries, in the order of the entries.
 #[derive(Drop)]
 pub struct Settlements {
     rows: Vec<Settlement>,

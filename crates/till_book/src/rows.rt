@@ -15,7 +15,7 @@ pub struct BookReply {
     pub body: Bytes,
 }
 
-/// What an entry was told when it was sent once more, with the entry's number.
+/// The reply that settled an entry, with the entry's number.
 #[derive(Drop)]
 pub struct Settlement {
     pub number: u32,

@@ -1,4 +1,4 @@
--- The parts of a request, one behind another.
+-- The parts of a request, one after another.
 use Rattle.std.proofs.Common.{◌≡◌, ◌∙◌, ◌++◌, ℕ, List, length, ap}
 use Rattle.std.specs.Prelude.{codes, decimal}
 use Rattle.till_client.specs.Requests.{before_token, before_length, before_body, post_text}

@@ -1,4 +1,4 @@
--- The bytes of a reply tell which it is.
+-- The bytes of a reply determine which reply it is.
 use Rattle.shop_types.proofs.Common.{◌≡◌, ◌∙◌, ◌<◌, ◌≤◌, ◌+◌, ◌%◌, ◌^◌, ℕ, List, [], ◌∷◌, ◌++◌, length, Bool, true, false, not, refl, sym, ap, arith, append_assoc, list_all, and_parts, false≢true, decimal_injective, decimal_by_steps, differ_test, equal_test, Answer}
 use Rattle.std.specs.Prelude.{codes, decimal, ◌==◌}
 use Rattle.shop_model.proofs.GoodShops.{all_more}
@@ -31,7 +31,7 @@ not_first c y ys all e =
     let no : false ≡ true = rw same at (and_parts (lacks c y) (list_all (lacks c) ys) all).0 in
     false≢true no
 
--- up to the first byte of that kind
+-- two equal lists are the same up to the first byte `c`, and after it
 cut : (c : ℕ) (xs ys p q : List ℕ) → list_all (lacks c) xs ≡ true → list_all (lacks c) ys ≡ true → xs ++ c ∷ p ≡ ys ++ c ∷ q → (xs ≡ ys) × (p ≡ q)
 cut c [] [] p q all alls e = (refl, tails c c p q e)
 cut c [] (y ∷ ys) p q all alls e = absurd (not_first c y ys alls (heads c y p (ys ++ c ∷ q) e))
@@ -63,7 +63,7 @@ kind = codes "content-type: application/json"
 abbrev pub size : List ℕ
 size = codes "content-length: "
 
--- behind the status
+-- the bytes after the status
 abbrev pub tail_of : Answer → ℕ → List ℕ → List ℕ
 tail_of a status x = phrase status ++ (crlf ++ (kind ++ (crlf ++ (size ++ (decimal (length a.body) ++ (crlf ++ (crlf ++ (a.body ++ x))))))))
 

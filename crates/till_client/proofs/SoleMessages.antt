@@ -27,7 +27,7 @@ one_command bytes token other one two says said =
     let same = HasMessage-unique bytes says.message said.message [] [] says.sole.whole said.sole.whole in
     same_command one two (sym (says.asks no_meaning 0) ∙ ap counter_request same.0 ∙ said.asks no_meaning 0)
 
--- what is read of the bytes is that message, and all of them
+-- what is read from the bytes is this message, and it takes all bytes
 pub is_read : (bytes : List ℕ) (token : Text) (len : ℕ) (m message : Message) → len ≤ length bytes → HasMessage bytes m (drop len bytes) → IsSole bytes token message
     → (m ≡ message) × (len ≡ length bytes)
 is_read bytes token len m message fits has sole =
@@ -35,7 +35,7 @@ is_read bytes token len m message fits has sole =
     let none : length (drop len bytes) ≡ 0 = ap length same.1 in
     (same.0, omega (arith, none, length-drop len bytes))
 
--- of a message of which something else is asked
+-- if the bytes say a command, their message reads as this command
 pub asks_other : (bytes : List ℕ) (token : Text) (m : Message) (command : Command) → IsSole bytes token m → SaysCommand bytes token command → counter_request m ≡ Do command
 asks_other bytes token m command sole says =
     let same = HasMessage-unique bytes m says.message [] [] sole.whole says.sole.whole in
@@ -76,7 +76,7 @@ stays_open m message same isnt is = false≢true (sym isnt ∙ ap (λ (it : Mess
 pub same_message : (bytes : List ℕ) (token : Text) (m : Message) {rest : List ℕ} (command : Command) → HasMessage bytes m rest → (says : SaysCommand bytes token command) → m ≡ says.message
 same_message bytes token m {rest = rest} command has says = (HasMessage-unique bytes m says.message rest [] has says.sole.whole).0
 
--- what says nothing with its own token says nothing with any
+-- bytes that say no command with their own token say no command with any token
 pub unsealed_of : {A : Type 0} (bytes : List ℕ) (digits : Text) (m : Message) {rest : List ℕ} (r : Result A NotSealed) → HasMessage bytes m rest → m.token ≡ Some digits
     → IfErr r (λ fault. IsUnsealed fault bytes digits) → IfErr r (λ fault. (token : Text) → IsUnsealed fault bytes token)
 unsealed_of bytes digits m {rest = rest} (Ok x) has token_is is = tt

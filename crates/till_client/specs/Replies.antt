@@ -1,4 +1,4 @@
--- What the bytes that came so far are: a whole reply of the server's, and nothing behind it, or the start of one, or something else.
+-- Whether the bytes so far are a whole reply of the server with nothing after it, the start of a reply, or something else.
 use Rattle.std.specs.Prelude.{◌≡◌, ⊤, List, ℕ}
 use Rattle.shop_model.specs.Answers.{Answer}
 use Rattle.http_messages.specs.Text.{reply_text}
@@ -6,11 +6,11 @@ use Rattle.till_client.specs.declared.replies.Answer.{Answer as Read}
 use Rattle.till_client.specs.declared.replies.ReplyReading.{ReplyReading}
 use Rattle.till_client.specs.declared.replies.ReplyReading.TheVariants.{Whole, More, Foreign}
 
--- the answer, as the definitions have it
+-- the answer as a value of the definitions
 abbrev pub seen_answer : Read → Answer
 seen_answer answer = record { status = answer.status; body = answer.body.items }
 
--- the bytes that a server sends for it
+-- the bytes that a server sends for the answer
 abbrev pub answer_bytes : Answer → List ℕ
 answer_bytes answer = reply_text answer.status answer.body
 

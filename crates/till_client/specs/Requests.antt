@@ -11,6 +11,6 @@ before_length = crlf ++ codes "connection: close" ++ crlf ++ codes "content-leng
 abbrev pub before_body : List ℕ
 before_body = crlf ++ crlf
 
--- a POST with that token, target and body, behind whose reply the connection ends
+-- a POST with this token, target and body; the connection ends after its reply
 abbrev pub post_text : List ℕ → List ℕ → List ℕ → List ℕ
 post_text token target body = codes "POST " ++ target ++ before_token ++ token ++ before_length ++ decimal (length body) ++ before_body ++ body

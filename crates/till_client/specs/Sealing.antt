@@ -10,20 +10,19 @@ use Rattle.counter_routes.specs.Words.{Meaning}
 use Rattle.till_client.specs.declared.sealed.NotSealed.{NotSealed}
 use Rattle.till_client.specs.declared.sealed.NotSealed.TheVariants.{Other, Memory}
 
--- the bytes are that message, whole, and nothing else, with that token, and the connection ends behind its reply
+-- the bytes are this message, whole, and nothing else; the message has this token, and the connection ends after its reply
 pub record IsSole (bytes : List ℕ) (token : Text) (message : Message) : Type 0 where
   pub whole : HasMessage bytes message []
   pub token_is : message.token ≡ Some token
   pub closes : message.closes ≡ true
 
--- The bytes are one such message, and a branch's message of these bytes is that command, whatever branch it is. It is so by the server's own definitions, whose
--- readers are asked.
+-- The bytes are one such message. By the definitions of the server's own readers, a message with these bytes is this command, whatever branch sends it.
 pub record SaysCommand (bytes : List ℕ) (token : Text) (command : Command) : Type 0 where
   pub message : Message
   pub sole : IsSole bytes token message
   pub asks : (meaning : Meaning) (b : ℕ) → reading_of meaning message (Counter b) ≡ Do command
 
--- they say no command, or there was no memory for one
+-- the bytes say no command, or there was no memory for one
 abbrev pub IsUnsealed : NotSealed → List ℕ → Text → Type 0
 IsUnsealed Other bytes token = (command : Command) → ¬ (SaysCommand bytes token command)
 IsUnsealed Memory bytes token = ⊤

@@ -1,4 +1,4 @@
-//! One request and its reply over a connection.
+//! Sends one request over a connection and reads its reply.
 
 ghost use Rattle.std.specs.Prelude.{◌≡◌, ◌++◌, ℕ, List, length, IfOk, IfErr, OnOk};
 ghost use Rattle.std.specs.Io.KnownBytes.{Appends, Consumes};
@@ -13,12 +13,12 @@ use std::io::{Read, Write};
 /// How many bytes are read at a time.
 const PIECE: usize = 16384;
 
-/// Why there is no answer. But for `Write`, the request may have been done, or not.
+/// Why there is no answer. Except for `Write`, the server may have done the request, or not.
 #[derive(Debug, Drop)]
 pub enum AskFault {
-    /// Not all of the request was written, so it isn't done by this connection.
+    /// Not all of the request was written, so the server doesn't do it by this connection.
     Write,
-    /// A read failed, or none came within the time that the connection allows.
+    /// A read failed, or no bytes came within the time that the connection allows.
     Read,
     /// The input ended before the reply did.
     Cut,
@@ -28,7 +28,7 @@ pub enum AskFault {
     Memory,
 }
 
-/// Reads some more bytes, none only at the end.
+/// Reads more bytes. Reads none only at the end of the input.
 fn read_more<R: Read>(reader: &mut R, inbox: &mut Vec<u8>) -> Result<usize, AskFault>
     ensures ok { IfOk result (λ n. (more : List ℕ) × Consumes (R.remaining reader.old) (R.remaining reader.new) more
         × (inbox.new.items ≡ inbox.old.items ++ more) × (length more ≡ n)) }
@@ -44,7 +44,7 @@ fn read_more<R: Read>(reader: &mut R, inbox: &mut Vec<u8>) -> Result<usize, AskF
     Ok(n)
 }
 
-/// The reply that comes: all that was read is that reply's bytes, and nothing behind them.
+/// Reads a reply. All that was read is the bytes of this reply, and nothing after them.
 pub fn read_answer<R: Read>(alloc: Global, reader: &mut R) -> Result<Answer, AskFault>
     ensures told { IfOk result (λ answer. Consumes (R.remaining reader.old) (R.remaining reader.new)
         (answer_bytes (seen_answer answer))) }
@@ -72,9 +72,9 @@ pub fn read_answer<R: Read>(alloc: Global, reader: &mut R) -> Result<Answer, Ask
     Err(AskFault::Cut)
 }
 
-/// Sends the request and reads its reply: what was written is the request, whole, and what was read is the reply that
-/// is told. At a fault of writing a front of the request was written, and not all; at any other all of it was, and the
-/// request is to be sent again, byte for byte.
+/// Sends the request and reads its reply. The whole request was written, and what was read is the returned reply. If a
+/// write failed, a front of the request was written, and not all. After any other fault, all of it was written: send
+/// the request again, byte for byte.
 pub fn ask<R: Read, W: Write>(
     alloc: Global,
     reader: &mut R,

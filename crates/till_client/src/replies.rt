@@ -1,4 +1,4 @@
-//! Replies, from the bytes so far.
+//! Reads a reply from the bytes so far.
 
 ghost use Rattle.std.specs.Prelude.{◌≡◌, length, All};
 ghost use Rattle.httparse.specs.Spans.{IsHeaderWithin};
@@ -8,10 +8,10 @@ use http_messages::reply_head;
 use httparse::Status;
 use httparse::spans::{EMPTY_HEADER_SPAN, HeaderSpan, parse_response};
 
-/// The most bytes of a reply's head that are looked at.
+/// How many bytes of a reply are looked at for its head, at most.
 const HEAD_LIMIT: usize = 1024;
 
-/// The fields of a reply's head: `content-type` and `content-length`.
+/// How many fields of a reply's head are read, at most. The server sends `content-type` and `content-length`.
 const FIELD_LIMIT: usize = 8;
 
 /// A reply as it was read.
@@ -28,18 +28,18 @@ pub struct ReplySlices<'b> {
     pub body: &'b [u8],
 }
 
-/// What the bytes so far are.
+/// Whether the bytes so far are a reply.
 #[derive(Clone, Copy)]
 pub enum ReplyReading<'b> {
-    /// A whole reply of the server's, with nothing behind it.
+    /// A whole reply of the server, with nothing after it.
     Whole(ReplySlices<'b>),
     /// The start of a reply, or no byte at all.
     More,
-    /// No reply as the server writes them.
+    /// Not a reply as the server writes replies.
     Foreign,
 }
 
-/// The number that the digits write.
+/// Returns the number that the digits write.
 fn number_of(digits: &[u8]) -> Option<usize> {
     if digits.is_empty() || digits.len() > 9 {
         return None;
@@ -48,7 +48,7 @@ fn number_of(digits: &[u8]) -> Option<usize> {
     text.parse::<usize>().ok()
 }
 
-/// The length of the body that a head's fields tell.
+/// Returns the length of the body from the head's fields.
 fn length_in(window: &[u8], headers: &[HeaderSpan]) -> Option<usize>
     requires { All (IsHeaderWithin (length window.now)) headers.now }
 {
@@ -64,8 +64,8 @@ fn length_in(window: &[u8], headers: &[HeaderSpan]) -> Option<usize>
     None
 }
 
-/// The reply whose head says that status and that length: the head has to be, byte for byte, the one that the server
-/// writes.
+/// Reads the reply whose head says this status and this length. The head has to be, byte for byte, the head that the
+/// server writes.
 #[tactic(auto, unfolding(http_messages::specs::Text::head_text))]
 fn reply_with<'b>(bytes: &'b [u8], status: u16, len: usize) -> ReplyReading<'b>
     ensures { IsReplyReading bytes.now result }
@@ -83,8 +83,8 @@ fn reply_with<'b>(bytes: &'b [u8], status: u16, len: usize) -> ReplyReading<'b>
     ReplyReading::Whole(ReplySlices { status, body })
 }
 
-/// What the bytes of a connection so far are. Of `Whole` alone something is promised: that other bytes are told to be
-/// the start of a reply, or none, is left open.
+/// Reads the bytes of a connection so far. The contract covers only `Whole`: it doesn't say which other bytes are the
+/// start of a reply, and which are no reply.
 pub fn read_reply(bytes: &[u8]) -> ReplyReading<'_>
     ensures { IsReplyReading bytes.now result }
 {

@@ -1,4 +1,4 @@
-//! The bytes of requests.
+//! Writes requests as bytes.
 
 ghost use Rattle.std.specs.Prelude.{◌≡◌, ◌++◌, IfOk};
 ghost use Rattle.till_client.specs.Requests.{post_text};
@@ -11,7 +11,7 @@ fn push(bytes: &mut Vec<u8>, text: &[u8]) -> Result<(), AllocError>
     bytes.extend_from_slice(text)
 }
 
-/// A command's request, over a connection of its own: the connection ends behind the reply.
+/// Returns the bytes of a command's request, for a connection of its own, which ends after the reply.
 pub fn post_bytes(
     alloc: Global,
     token: &[u8],

@@ -1,4 +1,4 @@
-//! Requests that the server's own reader has read.
+//! Requests that the server's own reader accepts.
 
 ghost use Rattle.std.specs.Prelude.{◌≡◌, IfOk, IfErr, IfSome, IfNone, ℕ, List, Option, Some, None, option_map};
 ghost use Rattle.http_messages.specs.Message.{Message};
@@ -14,7 +14,7 @@ use http_messages::{Reading as MessageReading, Request as MessageSlices, read_re
 use shop_types::{Caller, Command, Line, OfficeWords, Request, RowNumber, Usage};
 use std::alloc::Global;
 
-/// Words that say nothing: a till asks for nothing of head office's.
+/// Reads no word of head office: a till asks for none.
 struct NoWords;
 
 impl OfficeWords for NoWords {
@@ -35,13 +35,13 @@ pub struct Sealed {
 /// Why bytes are no command's request.
 #[derive(Debug, Drop)]
 pub enum NotSealed {
-    /// They say something else than one command, whole, with that token.
+    /// The bytes say something else than one whole command with the given token.
     Other,
     /// There was no memory.
     Memory,
 }
 
-/// The message that the bytes are, whole, where it has that token and the connection ends behind its reply.
+/// Returns the message that the bytes are, whole, if it has this token and the connection ends after its reply.
 fn sole_message<'b>(token: &[u8], bytes: &'b [u8]) -> Option<MessageSlices<'b>>
     ensures some { IfSome result (λ it. IsSole bytes.now token.now (message_of it)) }
     ensures none { IfNone result ((message : Message) → ¬ (IsSole bytes.now token.now message)) }
@@ -58,7 +58,7 @@ fn sole_message<'b>(token: &[u8], bytes: &'b [u8]) -> Option<MessageSlices<'b>>
     Some(message)
 }
 
-/// The command that was read, where one was.
+/// Returns the command that was read, if it is one.
 fn command_read(reading: Reading) -> Option<Command>
     ensures some { IfSome result (λ command. Reads reading (Do (seen_command command))) }
     ensures none { IfNone result ((written : Written) → ¬ (Reads reading (Do written))) }
@@ -97,7 +97,7 @@ fn command_in(
     }
 }
 
-/// The command that the bytes say to the server, with whatever token.
+/// Returns the command that the bytes say to the server, with whatever token.
 pub fn command_of(alloc: Global, routes: &Routes, bytes: &[u8]) -> Result<Command, NotSealed>
     ensures ok { IfOk result (λ command. (token : List ℕ) × SaysCommand bytes.now token (seen_command command)) }
     ensures err { IfErr result (λ fault. (token : List ℕ) → IsUnsealed fault bytes.now token) }
@@ -111,8 +111,8 @@ pub fn command_of(alloc: Global, routes: &Routes, bytes: &[u8]) -> Result<Comman
     command_in(alloc, routes, token, bytes)
 }
 
-/// What the bytes say to the server, by its own readers, where that is a command with that token, sent over a
-/// connection of its own. Where they say none, they are let go of.
+/// Reads the bytes by the server's own readers, and returns them with their command. They have to say a command with
+/// this token, sent over a connection of its own. If they don't, drops them and fails.
 pub fn seal(
     alloc: Global,
     routes: &Routes,

@@ -33,12 +33,12 @@ kept_one g files P Q holds weaker image may =
 pub only_committed : {D : Type 0} {g : Ghosts D} (c : Held (FileStore D g)) → SeenMayStay g → IsTrue (file_state c).is_open → (db : Trees) → (file_state c).may_leave db → db ≡ (file_state c).committed.trees
 only_committed c stays live db may = settled_at c.store stays db live may
 
--- a crash of the disks leaves less
+-- after a crash of the disks the files hold no more outcomes than before
 pub crashed_one : {D : Type 0} (g : Ghosts D) (files now : Files D) (P : Trees → Type 0) → ((image : Image) → outcomes g now.log now.db image → outcomes g files.log files.db image)
     → (AreClean g now.log now.db → AreClean g files.log files.db) → (AreClean g files.log files.db → HoldsOne g files P) → AreClean g now.log now.db → HoldsOne g now P
 crashed_one g files now P left clean holds honest image may = holds (clean honest) image (left image may)
 
--- a change that was stopped leaves the journal before it or behind it
+-- a change that was stopped leaves the journal before or after the change
 pub leaves_either : (old new : State) (Given : Journal → Type 0) (change : Journal → Journal) → Survives old new (LeavesChanged Given change old) → HasCleanDisk new
     → (journal : Journal) → Rests old journal → Given journal → LeavesEither new journal (change journal)
 leaves_either old new Given change survives clean journal rests given db may = elim (survives.crash clean db may) [

@@ -3,3 +3,5 @@ pub mod Results
 pub mod Keeping
 pub mod Found
 pub mod Making
+pub mod Played
+pub mod Filled

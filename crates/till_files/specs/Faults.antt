@@ -1,4 +1,4 @@
--- Which fault of a book tells a fault of the store.
+-- The fault of a book for each fault of the store.
 use Rattle.till_files.specs.declared.faults.BookFault.{BookFault}
 use Rattle.till_files.specs.declared.faults.BookFault.TheVariants as fault
 use Rattle.sql_rows.specs.declared.fault.StoreFault.{StoreFault}

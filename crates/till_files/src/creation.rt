@@ -1,4 +1,4 @@
-//! How a book is made in two files that hold nothing.
+//! Makes a book in two files that hold no table.
 
 ghost use Rattle.std.specs.Prelude.{◌≡◌, ◌≢◌, ◌↔◌, false, IsTrue, IfOk, OnOk, IfErr};
 ghost use Rattle.sqlite.specs.Held.{state};
@@ -42,7 +42,8 @@ fn is_empty(schema: &Schema) -> bool
     schema.tables.is_empty() && schema.indexes.is_empty() && schema.views.is_empty()
 }
 
-/// Makes a book with nothing in it in a database that has no table. `Already` where it has one; then it isn't touched.
+/// Makes an empty book in a database without a table. Fails with `Already` if the database has a table, and then
+/// changes nothing.
 fn create<S: Alter>(conn: &mut Connection<S>) -> Result<(), BookFault>
     requires { conn.old.in_transaction ≡ false }
     ensures ended { conn.new.in_transaction ≡ false }
@@ -63,9 +64,9 @@ fn create<S: Alter>(conn: &mut Connection<S>) -> Result<(), BookFault>
     }
 }
 
-/// Makes a book with nothing in it in files that hold no table. A fault gives the files back: `Already` where they
-/// hold tables, which stay as they are, and `Memory`, `Size` or `Store` where the store can't do its part; then they
-/// hold no table, or the whole book without an entry.
+/// Makes an empty book in files that hold no table. Returns the files if it fails. It fails with `Already` if the files
+/// hold tables, and the tables stay as they are. It fails with `Memory`, `Size` or `Store` if the store failed, and
+/// then the files hold no table, or the whole book without an entry.
 pub fn create_book<D: Disk + Drop>(
     alloc: Global,
     files: Files<D>,

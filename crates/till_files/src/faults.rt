@@ -8,7 +8,7 @@ use sql_rows::StoreFault;
 /// Why there is no book.
 #[derive(Clone, Copy, Debug)]
 pub enum BookFault {
-    /// There is no memory left.
+    /// Out of memory.
     Memory,
     /// The store can hold no more.
     Size,
@@ -16,11 +16,11 @@ pub enum BookFault {
     Store,
     /// The files hold no till's book.
     NotABook,
-    /// The files hold tables already, where a book was to be made.
+    /// A book was to be made, but the files hold tables already.
     Already,
 }
 
-/// Why there is no book, by what the store answered.
+/// Returns the fault of a book for a fault of the store.
 pub fn named(fault: StoreFault) -> BookFault
     ensures told { result ≡ book_fault_for fault }
     ensures book { result ≢ BookFault.NotABook }

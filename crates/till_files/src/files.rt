@@ -1,4 +1,4 @@
-//! The database in two files: how it is opened, and how the files are given back.
+//! Opens the database in two files, and returns the files.
 
 ghost use Rattle.std.specs.Prelude.{◌≡◌, ◌≢◌, IfOk, IfErr};
 ghost use Rattle.sqlite.specs.Held.{IsNew};
@@ -17,7 +17,7 @@ use sqlite::{Connection, FileStore, Files, Options};
 use sqlite_disk::Disk;
 use std::alloc::Global;
 
-/// Opens the database in the files. A fault of the store gives them back.
+/// Opens the database in the files. If the store fails, the files are returned with the fault.
 pub fn connect<D: Disk + Drop>(
     alloc: Global,
     files: Files<D>,
@@ -38,8 +38,8 @@ pub fn connect<D: Disk + Drop>(
     }
 }
 
-/// Gives the files back, which hold what a crash may leave. Nothing more is written, so they keep the book that rests
-/// there, or, where a change of it was under way or its end isn't known, the book before the change or behind it.
+/// Returns the files, which hold what a crash may leave. Nothing more is written, so the files keep the resting book.
+/// If a change was under way, or its outcome isn't known, the files keep the book before or after the change.
 pub fn close_book<D: Disk + Drop>(conn: Connection<FileStore<D>>) -> Files<D>
     ensures keeps { (journal : Journal) → Rests (file_state conn) journal → KeepsBook D.Disk result journal }
     ensures either { (journal besides : Journal)

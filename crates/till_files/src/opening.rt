@@ -1,4 +1,4 @@
-//! How a book is opened in its files.
+//! Opens a book in its files.
 
 ghost use Rattle.std.specs.Prelude.{◌≡◌, ◌↔◌, IsTrue, IfOk, IfErr};
 ghost use Rattle.sqlite.specs.Held.{state};
@@ -16,7 +16,7 @@ use sqlite_disk::Disk;
 use sqlite_schema::schema::Schema;
 use std::alloc::Global;
 
-/// A new book in memory, whose schema is the one to compare with.
+/// Makes a new book in memory. Its schema is the one to compare with.
 fn new_tables(alloc: Global) -> Result<Connection<MemStore>, StoreFault>
     ensures { IfOk result (λ conn. (state over_memory conn).now.schema ≡ book_schema) }
 {
@@ -25,7 +25,7 @@ fn new_tables(alloc: Global) -> Result<Connection<MemStore>, StoreFault>
     Ok(conn)
 }
 
-/// Whether the schema of a database is that of a book. Its store isn't called.
+/// Returns whether the schema of a database is a book's. The database's store isn't called.
 fn is_book(alloc: Global, schema: &Schema) -> Result<bool, StoreFault>
     ensures { IfOk result (λ is. IsTrue is ↔ (schema.now ≡ book_schema)) }
 {
@@ -33,8 +33,8 @@ fn is_book(alloc: Global, schema: &Schema) -> Result<bool, StoreFault>
     Ok(same_schema(schema, conn.schema()))
 }
 
-/// Opens the book that the files hold. A fault gives the files back: `NotABook` where they hold none, and `Memory`,
-/// `Size` or `Store` where the store can't do its part. What they hold stays.
+/// Opens the book that the files hold. Returns the files if it fails: with `NotABook` if the files hold no book, and
+/// with `Memory`, `Size` or `Store` if the store failed. What the files hold stays.
 pub fn open_book<D: Disk + Drop>(
     alloc: Global,
     files: Files<D>,

@@ -1,4 +1,4 @@
-//! How a book is stopped at some call, its disks crash, and it is opened again.
+//! Stops a book at some call, lets its disks crash, and opens the book again.
 
 ghost use Rattle.std.specs.Prelude.{◌≡◌, ◌⊎◌, false, IfOk};
 ghost use Rattle.sqlite.specs.State.{HasCleanDisk};
@@ -13,12 +13,13 @@ ghost use Rattle.till_files.specs.Files.{LeavesEither};
 use crate::faults::BookFault;
 use crate::files::close_book;
 use crate::opening::open_book;
+use counter_routes::Routes;
 use sqlite::{Connection, FileStore, Files};
 use sqlite_disk::Crash;
 use std::alloc::Global;
 use till_book::{enter, note_settled, record};
 
-/// The files behind a crash of their disks.
+/// Returns the files after a crash of their disks.
 fn crashed<D: Crash + Drop>(files: Files<D>) -> Files<D>
     ensures left { (image : Image) → outcomes D.Disk result.log result.db image
         → outcomes D.Disk files.log files.db image }
@@ -30,8 +31,8 @@ fn crashed<D: Crash + Drop>(files: Files<D>) -> Files<D>
     Files { log, db }
 }
 
-/// Stops a book, lets its disks crash, and opens the files that are left: the book that rested, or, where a change of
-/// it was under way or its end wasn't known, the book before the change or behind it.
+/// Stops a book, lets its disks crash, and opens the files that are left. The opened book is the book that rested. If a
+/// change was under way, or its outcome wasn't known, the opened book is the book before or after the change.
 pub fn restart_book<D: Crash + Drop>(
     alloc: Global,
     conn: Connection<FileStore<D>>,
@@ -47,8 +48,8 @@ pub fn restart_book<D: Crash + Drop>(
     open_book(alloc, crashed(close_book(conn)))
 }
 
-/// Enters a request, and is stopped at any call of that or behind it; then the disks crash, and the files that are
-/// left are opened: the book is the one before the entry or the one with it.
+/// Enters a request and is stopped at any call during that or after it. Then the disks crash, and the files that are
+/// left are opened. The opened book is the book before the entry or the book with the entry.
 pub fn enter_over_a_stop<D: Crash + Drop>(
     alloc: Global,
     conn: Connection<FileStore<D>>,
@@ -65,10 +66,11 @@ pub fn enter_over_a_stop<D: Crash + Drop>(
     restart_book(alloc, conn)
 }
 
-/// Records a reply, and is stopped at any call of that or behind it; then the disks crash, and the files that are
-/// left are opened: the book is the one before the reply or the one with it.
+/// Records a reply and is stopped at any call during that or after it. Then the disks crash, and the files that are
+/// left are opened. The opened book is the book before the reply or the book with the reply.
 pub fn record_over_a_stop<D: Crash + Drop>(
     alloc: Global,
+    routes: &Routes,
     conn: Connection<FileStore<D>>,
     number: u32,
     status: u32,
@@ -81,14 +83,15 @@ pub fn record_over_a_stop<D: Crash + Drop>(
         (with_reply (record { status = status; body = body.now }) journal) ∥₁) }
 {
     let mut conn = conn;
-    let _stopped = record(&mut conn, number, status, body);
+    let _stopped = record(alloc, routes, &mut conn, number, status, body);
     restart_book(alloc, conn)
 }
 
-/// Records what an entry was told when it was sent once more, and is stopped at any call of that or behind it; then
-/// the disks crash, and the files that are left are opened: the book is the one before that or the one with it.
+/// Records a settlement and is stopped at any call during that or after it. Then the disks crash, and the files that
+/// are left are opened. The opened book is the book before the settlement or the book with the settlement.
 pub fn note_settled_over_a_stop<D: Crash + Drop>(
     alloc: Global,
+    routes: &Routes,
     conn: Connection<FileStore<D>>,
     number: u32,
     status: u32,
@@ -101,6 +104,6 @@ pub fn note_settled_over_a_stop<D: Crash + Drop>(
         (with_settled number (record { status = status; body = body.now }) journal) ∥₁) }
 {
     let mut conn = conn;
-    let _stopped = note_settled(&mut conn, number, status, body);
+    let _stopped = note_settled(alloc, routes, &mut conn, number, status, body);
     restart_book(alloc, conn)
 }

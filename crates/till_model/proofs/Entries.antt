@@ -1,4 +1,4 @@
--- Entries by place and by key, and those that acted.
+-- Entries by place and by key, and the entries that acted.
 use Rattle.shop_model.proofs.Common.{◌≡◌, inl, inr, ◌∙◌, ℕ, zero, suc, ◌<◌, List, [], ◌∷◌, ◌++◌, filter, Bool, true, false, not, Some, refl, sym, subst, ap, arith, slice_get, list_any, bytes_eq, cases_Bool, and_parts, or_parts, not-true, false≢true, bytes_eq-Decides, Text, Command, Kept}
 use Rattle.shop_model.proofs.ActLaws.{bytes_same}
 use Rattle.shop_model.proofs.Resends.{same_some, same_none}
@@ -24,7 +24,7 @@ turned a b isnt = elim (cases_Bool (bytes_eq b a)) [
   | inl is ↦ let same : bytes_eq a b ≡ true = (bytes_eq-Decides a b).1 (sym ((bytes_eq-Decides b a).0 is)) in absurd (false≢true (sym isnt ∙ same))
 ]
 
--- the one of a key
+-- two entries with the same key are the same entry
 pub same_entry : (es : List Entry) (i j : ℕ) (x y : Entry) → have_own_keys es ≡ true → slice_get es i ≡ Some x → slice_get es j ≡ Some y → bytes_eq x.command.key y.command.key ≡ true → x ≡ y
 same_entry [] i j x y own at_i at_j same = absurd (same_none x at_i)
 same_entry (e ∷ es) zero zero x y own at_i at_j same = sym (same_some e x at_i) ∙ same_some e y at_j
@@ -43,7 +43,7 @@ marked_at has_mark [] i x all there = absurd (same_none x there)
 marked_at has_mark (e ∷ es) zero x all there = subst (λ (it : Entry). has_mark it.command.key ≡ true) (same_some e x there) (and_parts (has_mark e.command.key) (are_marked has_mark es) all).0
 marked_at has_mark (e ∷ es) (suc i) x all there = marked_at has_mark es i x (and_parts (has_mark e.command.key) (are_marked has_mark es) all).1 there
 
--- ---- the entries that acted, behind one more kept row
+-- ---- the entries that acted, after one more kept row
 
 abbrev pub acted : List Entry → List Kept → List Entry
 acted es ks = filter (λ (e : Entry). has e.command.key ks) es

@@ -1,4 +1,4 @@
--- What acted of a till's entries did so in the order of entering, as far as the branch has come.
+-- The entries of a till that have acted did so in the order of entering, at any point of the branch's history.
 use Rattle.shop_model.proofs.Common.{◌≡◌, inl, inr, ◌∙◌, ℕ, suc, ◌<◌, List, [], ◌∷◌, ◌++◌, map, filter, Bool, true, false, Some, None, Option, refl, sym, subst, ap, arith, slice_get, bytes_eq, cases_Bool, false≢true, nat_tests, Moment, is_earlier, is_by, Text, Command, Rules, Kept, is_within, Verdict, Again, Refused, Accepted, first, refusals, is_before, verdict, Do, Unread, Look, Office, OfficeLook, Input, FromOffice, Arrive, Own, State, reply_text, reply_to, if_accepted, done, moved, state_after}
 use Rattle.shop_model.proofs.RowLemmas.{more_yes, more_no}
 use Rattle.shop_model.proofs.Accepted.{accepted_holds, none_kept}
@@ -8,7 +8,7 @@ use Rattle.till_model.proofs.Entries.{NoneAbove, acted, acted_other, acted_own, 
 
 -- ---- what is known of the branch, as far as the till goes
 
--- no late one of the till's is behind what acted
+-- an entry that is still to be served has an earlier moment than any later entry that has acted
 abbrev Late : List Entry → List Kept → List Served → Type 0
 Late es ks served =
     (i j n : ℕ) (x y : Entry) (late : Served) → i < j → slice_get es i ≡ Some x → slice_get es j ≡ Some y → has y.command.key ks ≡ true
@@ -25,14 +25,14 @@ moves_on (Some last) moment m on by = grind (arith, nat_tests)
 self_by : (moment : Moment) → is_by moment moment ≡ true
 self_by moment = grind (arith, nat_tests)
 
--- what is earlier than something within is before the last moment
+-- a moment that is earlier than one up to the last moment is before the last moment
 falls_back : (last : Option Moment) (x y : Moment) → is_within last y ≡ true → is_earlier x y ≡ true → is_before x last ≡ true
 falls_back None x y by less = absurd (false≢true by)
 falls_back (Some last) x y by less = grind (arith, nat_tests)
 
 -- ---- one more accepted
 
--- not the till's
+-- a command without the till's mark
 other_accepted : (has_mark : Text → Bool) (es : List Entry) (ks : List Kept) (last : Option Moment) (k : Kept) → are_marked has_mark es ≡ true → has_mark k.command.key ≡ false
     → is_before k.command.moment last ≡ false → Knows has_mark es ks last → Knows has_mark es (ks ++ k ∷ []) (Some k.command.moment)
 other_accepted has_mark es ks last k all isnt on knows = record {
@@ -42,7 +42,7 @@ other_accepted has_mark es ks last k all isnt on knows = record {
       moves_on last k.command.moment y.command.moment on (knows.within j y there was);
 }
 
--- the till's
+-- a command of the till
 own_accepted : (has_mark : Text → Bool) (es : List Entry) (ks : List Kept) (last : Option Moment) (k : Kept) (i : ℕ) (x : Entry) → have_own_keys es ≡ true → has_mark k.command.key ≡ true
     → is_before k.command.moment last ≡ false → slice_get es i ≡ Some x → x.command ≡ k.command → has k.command.key ks ≡ false → NoneAbove es i ks
     → Knows has_mark es ks last → Knows has_mark es (ks ++ k ∷ []) (Some k.command.moment)
@@ -64,7 +64,7 @@ own_accepted has_mark es ks last k i x own is on there same fresh above knows = 
   map_more [] x = refl
   map_more (y ∷ ys) x = ap (λ (l : List Command). y.command ∷ l) (map_more ys x)
 
--- none of the entries behind it has acted
+-- no later entry has acted
 none_above : (has_mark : Text → Bool) (es : List Entry) (ks : List Kept) (last : Option Moment) (command : Command) (i : ℕ) (x : Entry) (it : Served) (more : List Served)
     → is_before command.moment last ≡ false → slice_get es i ≡ Some x → x.command ≡ command → it.command ≡ command → Late es ks (it ∷ more) → Knows has_mark es ks last → NoneAbove es i ks
 none_above has_mark es ks last command i x it more on there same came late knows j y above at_j = elim (cases_Bool (has y.command.key ks)) [
@@ -76,7 +76,7 @@ none_above has_mark es ks last command i x it more on there same came late knows
       absurd (false≢true (sym on' ∙ back))
 ]
 
--- ---- what an accepted command tells
+-- ---- what holds of an accepted command
 
 pub is_on : (rules : Rules) (b : ℕ) (s : State) (command : Command) → verdict rules b s.catalogue s.shop command ≡ Accepted
     → (is_before command.moment s.shop.last ≡ false) × (has command.key s.shop.kept ≡ false)
@@ -84,7 +84,7 @@ is_on rules b s command e =
     let tests = accepted_holds rules b s.catalogue s.shop command e in
     (tests.1.0, none_has command.key s.shop.kept (none_kept command (filter (λ (k : Kept). bytes_eq k.command.key command.key) s.shop.kept) (first (refusals rules b s.catalogue s.shop command)) e).0)
 
--- ---- one event, and any
+-- ---- one event, and any number of events
 
 come_on : (es : List Entry) (front more : List Served) → ComeFrom es (front ++ more) → ComeFrom es more
 come_on es [] more h = h
@@ -98,7 +98,7 @@ late_on : (es : List Entry) (ks : List Kept) (front more : List Served) → Late
 late_on es ks [] more h = h
 late_on es ks (x ∷ front) more h = late_on es ks front more (λ i j n x y late low at_i at_j is at_n same. h i j (suc n) x y late low at_i at_j is at_n same)
 
--- what is late behind a new row of the till's
+-- `Late` still holds after the till's command has acted
 late_own : (es : List Entry) (ks : List Kept) (k : Kept) (i : ℕ) (x : Entry) (it : Served) (more : List Served) → have_own_keys es ≡ true → slice_get es i ≡ Some x → x.command ≡ k.command → it.command ≡ k.command
     → ComeInOrder es (it ∷ more) → Late es ks (it ∷ more) → Late es (ks ++ k ∷ []) more
 late_own es ks k i x it more own there same came order late l j n p y one low at_l at_j kept at_n is = elim (one_of (has y.command.key ks) (bytes_eq k.command.key y.command.key) (sym (has_more y.command.key ks k) ∙ kept)) [

@@ -9,3 +9,8 @@ pub mod OverStops
 pub mod Press
 pub mod Numbered
 pub mod Settled
+pub mod Bodies
+pub mod LastRent
+pub mod Returned
+pub mod Held
+pub mod OfCopy

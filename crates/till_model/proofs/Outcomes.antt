@@ -1,4 +1,4 @@
--- What became of a till's entries.
+-- The outcome of a till's entries.
 use Rattle.shop_model.proofs.Common.{◌≡◌, inl, inr, ◌∙◌, ℕ, List, [], ◌∷◌, map, filter, Bool, true, false, Some, refl, sym, subst, ap, slice_get, bytes_eq, cases_Bool, false≢true, bytes_eq-Decides, Text, Command, Rules, Refusal, MomentBack, Kept, Shop, same_command, Verdict, Again, Refused, Accepted, first, resent, refusals, is_before, verdict, Do, Sorry, Done, Input, Own, State, reply_text, reply_by, if_accepted, done, moved, state_after, Answer, answer_of}
 use Rattle.shop_model.proofs.RowLemmas.{filter_away}
 use Rattle.shop_model.proofs.ActLaws.{command_same}
@@ -12,7 +12,7 @@ use Rattle.till_model.proofs.Places.{Place, place_of, state_append}
 use Rattle.till_model.proofs.Replies.{Says, good_reply, kept_as, row_of, said, says_more}
 use Rattle.till_model.proofs.Refused.{IsPast, absent, is_past, past}
 
--- ---- what became of the entries
+-- ---- the outcome of the entries
 
 not_sorry : (text : Text) (refusal : Refusal) → Done text ≡ Sorry refusal → ⊥
 not_sorry text refusal e = cc
@@ -58,7 +58,7 @@ module _ (has_mark : Text → Bool) (rules : Rules) (b : ℕ) (es : List Entry) 
     abbrev last_state : State
     last_state = state_after rules b inputs s
 
-    -- the state at a place, and what is known there
+    -- the invariant `Knows` holds for the state at a place
     known_at : (n : ℕ) (it : Served) (p : Place has_mark rules b inputs s n it) → Knows has_mark es (state_after rules b p.front s).shop.kept (state_after rules b p.front s).shop.last
     known_at n it p = known p.front book.marked book.keys (λ m x there. book.come m x (p.before m x there))
         (λ i j m k x y one late low at_i at_j less at_m is at_k is'. book.order i j m k x y one late low at_i at_j less (p.before m one at_m) is (p.before k late at_k) is')
@@ -90,14 +90,14 @@ module _ (has_mark : Text → Bool) (rules : Rules) (b : ℕ) (es : List Entry) 
         let body : text ≡ well.0 = ap (λ (a : Answer). a.body) well.1 in
         subst (λ (t : Text). IsKeptAs e.command t last_state.shop) (sym body) well.2
 
-    -- what came under an entry's key is the entry
+    -- a command that was served under an entry's key is that entry's
     of_key : (i : ℕ) (e : Entry) → slice_get es i ≡ Some e → (n : ℕ) (x : Served) → slice_get served n ≡ Some x → bytes_eq x.command.key e.command.key ≡ true → x.command ≡ e.command
     of_key i e there n x at_n same =
         let found = book.come n x at_n in
         let key : bytes_eq found.1.command.key e.command.key ≡ true = subst (λ (c : Command). bytes_eq c.key e.command.key ≡ true) (sym found.3) same in
         sym found.3 ∙ ap (λ (it : Entry). it.command) (same_entry es found.0 i found.1 e book.keys found.2 there key)
 
-    -- where none of an entry comes, nothing of its key does
+    -- a served command that isn't the entry's has another key
     other_keys : (i : ℕ) (e : Entry) → slice_get es i ≡ Some e → (n : ℕ) (x : Served) → slice_get served n ≡ Some x → (x.command ≡ e.command → ⊥) → bytes_eq x.command.key e.command.key ≡ false
     other_keys i e there n x at_n not_it = elim (cases_Bool (bytes_eq x.command.key e.command.key)) [
       | inr other ↦ other
@@ -109,7 +109,7 @@ module _ (has_mark : Text → Bool) (rules : Rules) (b : ℕ) (es : List Entry) 
         let owned = marked_at has_mark es i e book.marked there in
         absent e.command.key has_mark rules b inputs s owned (fresh_has has_mark e.command.key s.shop.kept fresh owned) (λ n x at_n. other_keys i e there n x at_n (never n x at_n))
 
-    -- at a place where it was refused it has not acted
+    -- an entry has not acted before a place where it was refused
     not_yet : (i : ℕ) (e : Entry) → slice_get es i ≡ Some e → (n : ℕ) (it : Served) (refusal : Refusal) (p : Place has_mark rules b inputs s n it) → it.command ≡ e.command → it.reply ≡ Sorry refusal
         → (verdict rules b (state_after rules b p.front s).catalogue (state_after rules b p.front s).shop it.command ≡ Refused refusal) × (has e.command.key (state_after rules b p.front s).shop.kept ≡ false)
     not_yet i e there n it refusal p same sorry =

@@ -1,4 +1,4 @@
--- The same over a chain's stops.
+-- The laws of a till over a chain's stops.
 use Rattle.shop_model.proofs.Common.{◌≡◌, inl, inr, ◌∙◌, ℕ, zero, suc, List, [], ◌∷◌, ◌++◌, length, take, Bool, true, Some, refl, sym, subst, ap, append_assoc, slice_get, cases_Bool, Text, Command, OfficeAsk, Rules, Do, Reply, Input, Own, State, reply_to, moved, state_after, Answer, answer_of, Books, Event, Counter, state_of, caller_in, reply_in, after, last_books, seen_of, view, is_decided, counted_in, Asks, books_next, Life, in_flight, acted_in, Lives, history_of, begun}
 use Rattle.shop_model.proofs.RowLemmas.{same_test}
 use Rattle.shop_model.proofs.Histories.{last_append}
@@ -22,7 +22,7 @@ once_over_stops has_mark rules look b es lives old new lived numbers fresh book 
     sym (alone rules look history old b numbers).state ∙ ap (state_of b) (sym (last_of rules look lives old new lived)) in
     subst (λ (s : State). Became has_mark es (served_in has_mark rules b inputs (state_of b old)) s.shop) ends became
 
--- ---- where an answer was given
+-- ---- the event that gave an answer
 
 record Given (rules : Rules) (look : Reads) (b : ℕ) (command : Command) (answer : Answer) (history : List Event) (books : Books) : Type 0 where
   front : List Event
@@ -121,7 +121,7 @@ module _ (rules : Rules) (look : Reads) (b : ℕ) (command : Command) where
         reply = subst (λ (bs : Books). x ≡ answer_of (reply_in rules look it.event bs)) at_it it.reply;
       }
 
--- ---- what came, in parts
+-- ---- the served commands of two histories in a row
 
 view_append : (rules : Rules) (b : ℕ) (front back : List Event) (books : Books) → view rules b (front ++ back) books ≡ view rules b front books ++ view rules b back (last_books rules front books)
 view_append rules b [] back books = refl

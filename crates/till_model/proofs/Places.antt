@@ -3,9 +3,9 @@ use Rattle.shop_model.proofs.Common.{◌≡◌, ◌⊎◌, inl, inr, ◌∙◌, 
 use Rattle.shop_model.proofs.Resends.{same_some, same_none}
 use Rattle.till_model.specs.Tills.{Served, served_by, served_in}
 
--- ---- the place at which it came
+-- ---- the place at which a command was served
 
--- an event brings nothing of the till's, or the one command
+-- an event brings either no command of the till, or one
 serves : (has_mark : Text → Bool) (rules : Rules) (b : ℕ) (input : Input) (s : State) → (served_by has_mark rules b input s ≡ [])
     ⊎ ((command : Command) × (input ≡ Own (Do command)) × (has_mark command.key ≡ true)
     × (served_by has_mark rules b input s ≡ record { command = command; reply = reply_to rules b s.catalogue s.shop (Do command) } ∷ []))

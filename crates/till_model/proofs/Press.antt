@@ -6,7 +6,7 @@ use Rattle.till_model.specs.Laws.{entries_of, served_over, FromThePressToTheDisk
 use Rattle.till_model.proofs.Entries.{marked_at}
 use Rattle.till_model.proofs.OverStops.{once_over_stops, answers_served, rising_in_order}
 
--- an entry with a reply stands where its command and its reply do
+-- the entry at place i has the command and the reply at place i
 pub record Stands (commands : List Command) (replies : List Answer) (i : ℕ) (e : Entry) (answer : Answer) : Type 0 where
   pub command : slice_get commands i ≡ Some e.command
   pub reply : slice_get replies i ≡ Some answer

@@ -1,4 +1,4 @@
--- What never comes to act: what isn't sent, and what is behind the branch's last moment.
+-- Commands that never act: those that aren't sent, and those whose moment is earlier than the branch's last.
 use Rattle.shop_model.proofs.Common.{◌≡◌, inl, inr, ◌∙◌, ℕ, zero, suc, ◌<◌, List, [], ◌∷◌, ◌++◌, Bool, true, false, not, Some, None, Option, refl, sym, subst, ap, arith, slice_get, nat_lt, list_any, bytes_eq, cases_Bool, and_parts, false≢true, nat_tests, bytes_eq-Decides, at, Moment, Text, Command, Rules, Refusal, refusal_number, KeyUsed, Full, MomentBack, NoStaff, Kept, same_command, Verdict, Again, Refused, Accepted, first, resent, refusals, act_refusals, staff_is, is_before, is_full, verdict, Do, Unread, Look, Office, OfficeLook, Input, FromOffice, Arrive, Own, State, reply_text, reply_to, if_accepted, done, moved, state_after, rise_from}
 use Rattle.shop_model.proofs.Resends.{same_none}
 use Rattle.shop_model.proofs.Refusing.{in_order}
@@ -8,7 +8,7 @@ use Rattle.till_model.proofs.InOrder.{is_on}
 
 -- ---- what never acts
 
--- nothing of that key comes
+-- if no command with that key is served, none is kept
 absent_by : (key : Text) (has_mark : Text → Bool) (rules : Rules) (b : ℕ) (s : State) (command : Command) (v : Verdict) → has_mark key ≡ true → has key s.shop.kept ≡ false
     → ((n : ℕ) (x : Served) → slice_get (served_by has_mark rules b (Own (Do command)) s) n ≡ Some x → bytes_eq x.command.key key ≡ false)
     → has key (if_accepted v (done rules s.catalogue command s.shop) s.shop).kept ≡ false
@@ -33,7 +33,7 @@ none_by key has_mark rules b (Own (Office command)) s owned none away = none
 none_by key has_mark rules b (Own (OfficeLook ask)) s owned none away = none
 none_by key has_mark rules b (Own (Do command)) s owned none away = absent_by key has_mark rules b s command (verdict rules b s.catalogue s.shop command) owned none away
 
--- of a list, what is found in its parts
+-- what holds for all of a list holds for all of its front and for all of the rest
 in_front : (front behind_ : List Served) (P : Served → Type 0) → ((n : ℕ) (x : Served) → slice_get (front ++ behind_) n ≡ Some x → P x) → (n : ℕ) (x : Served) → slice_get front n ≡ Some x → P x
 in_front [] behind_ P all n x there = absurd (same_none x there)
 in_front (it ∷ front) behind_ P all zero x there = all 0 x there
@@ -53,7 +53,7 @@ absent key has_mark rules b (input ∷ inputs) s owned none away =
     let P : Served → Type 0 = λ x. bytes_eq x.command.key key ≡ false in
     absent key has_mark rules b inputs (moved rules b input s) owned (none_by key has_mark rules b input s owned none (in_front front more P away)) (in_more front more P away)
 
--- the branch's last moment is behind the command's, and that key's command is this one alone
+-- the branch keeps no command with that key, and the command's moment is earlier than the branch's last
 pub record IsPast (command : Command) (s : State) : Type 0 where
   pub none : has command.key s.shop.kept ≡ false
   pub past : is_before command.moment s.shop.last ≡ true
@@ -104,7 +104,7 @@ past it has_mark rules b (input ∷ inputs) s owned at only =
     let P : Served → Type 0 = λ x. bytes_eq x.command.key it.key ≡ true → x.command ≡ it in
     past it has_mark rules b inputs (moved rules b input s) owned (past_once it has_mark rules b input s owned at (in_front front more P only)) (in_more front more P only)
 
--- ---- what a refusal tells
+-- ---- what holds at a refusal
 
 above_all : (n : ℕ) (tests : List (Refusal × Bool)) (refusal : Refusal) → rise_from n tests ≡ true → first tests ≡ Refused refusal → n < refusal_number refusal
 above_all n [] refusal rise e = absurd (clash e)

@@ -1,4 +1,4 @@
--- A command that was told 200 is kept with that reply, and its row is the only one.
+-- A command whose reply was 200 is kept with that reply, in one row alone.
 use Rattle.shop_model.proofs.Common.{◌≡◌, inl, inr, ◌∙◌, ℕ, List, [], ◌∷◌, ◌++◌, map, filter, Bool, true, Some, Option, refl, sym, ap, arith, slice_get, bytes_eq, cases_Bool, bytes_eq-Decides, Moment, Text, Command, Rules, Refusal, TooLong, NoCounter, NoRoute, BadBody, KeyUsed, Full, MomentBack, NoStaff, NoCustomer, CustomerInactive, NoCopy, CopyNotHere, CopyOut, FilmWithdrawn, SameMoment, NoRental, RentalReturned, WrongCustomer, NoFilm, LotIn, BadCsv, NoBranch, OwnBranch, NoArrival, ArrivalReceived, BadLines, BadThreshold, TokenTaken, NoSharedRow, Already, Usage, Kept, same_command, Verdict, Again, Refused, Accepted, first, resent, refusals, verdict, Sorry, Done, State, reply_text, reply_by, if_accepted, done, answer_of, filter-append}
 use Rattle.shop_model.proofs.RowLemmas.{filter_map, filter_away}
 use Rattle.shop_model.proofs.ActLaws.{bytes_same}
@@ -38,7 +38,7 @@ again_row command (k ∷ ks) v text fresh e = elim (cases_Bool (same_command k.c
 same_done : (x y : Text) → Done x ≡ Done y → x ≡ y
 same_done x y e = cc
 
--- a command that was told so is kept with it
+-- a command is kept with the text of its reply, if the reply is 200
 pub said : (rules : Rules) (b : ℕ) (s : State) (command : Command) (text : Text) (v : Verdict) → v ≡ verdict rules b s.catalogue s.shop command → reply_by v (reply_text rules command s.shop) ≡ Done text
     → Says command.key text (if_accepted v (done rules s.catalogue command s.shop) s.shop).kept
 said rules b s command text (Again t) is told =
@@ -135,7 +135,7 @@ sorry_status NoSharedRow e = omega (arith, e)
 sorry_status Already e = omega (arith, e)
 sorry_status Usage e = omega (arith, e)
 
--- a reply of status 200 to a command
+-- a reply of status 200 to a command is a `Done`
 pub good_reply : (v : Verdict) (new : Text) → (answer_of (reply_by v new)).status ≡ 200 → (text : Text) × (reply_by v new ≡ Done text)
 good_reply (Again text) new is = (text, refl)
 good_reply (Refused refusal) new is = absurd (sorry_status refusal is)

@@ -1,4 +1,4 @@
--- What became of a book of which entries were settled.
+-- The outcome of a book with settled entries.
 use Rattle.shop_model.proofs.Common.{◌≡◌, ◌⊎◌, inl, inr, ◌∙◌, ℕ, zero, suc, ◌+◌, List, [], ◌∷◌, ◌++◌, map, take, Bool, true, false, not, Some, None, Option, refl, sym, subst, ap, arith, ◌==◌, ◌&&◌, ◌||◌, slice_get, AllByRecursion, list_any, bytes_eq, cases_Bool, and_parts, false≢true, bytes_eq-Decides, is_earlier, numbered_from, Text, Command, OfficeAsk, Rules, Refusal, MomentBack, Decision, Do, Reply, Sorry, Done, Shows, Answer, answer_of, problem_text, Books, Counter, shop_of, last_books, HasNumbers, is_decided, Asks, Life, Lives, history_of}
 use Rattle.shop_model.specs.Json.{escape_byte}
 use Rattle.shop_model.proofs.RowLemmas.{same_if, same_test}
@@ -61,7 +61,7 @@ entry_there (c ∷ cs) [] (suc i) command there = entry_there cs [] i command th
 entry_there (c ∷ cs) (a ∷ answers) zero command there = (record { command = c; reply = Some a }, refl, same_some c command there)
 entry_there (c ∷ cs) (a ∷ answers) (suc i) command there = entry_there cs answers i command there
 
--- ---- what was told
+-- ---- found settlements
 
 found_in : (P : ℕ × Answer → Type 0) (n : ℕ) (settled : List (ℕ × Answer)) (answer : Answer) → accepted_of n settled ≡ Some answer → AllByRecursion P settled → P (n, answer)
 found_in P n [] answer is all = absurd (same_none answer is)
@@ -83,7 +83,7 @@ either_told : (accepted reply : Option Answer) (answer : Answer) → or_reply ac
 either_told None reply answer is = inr is
 either_told (Some it) reply answer is = inl is
 
--- the reply that has the bytes of this refusal is it
+-- a refusal whose text has the bytes of this one's is this one
 back_alone : (refusal : Refusal) → bytes_eq (problem_text (Decision refusal)) (problem_text (Decision MomentBack)) ≡ true → refusal ≡ MomentBack
 unfolding escape_byte
 back_alone MomentBack same = refl
@@ -94,7 +94,7 @@ sorry_back (Sorry refusal) same = ap Sorry (back_alone refusal ((bytes_eq-Decide
 sorry_back (Done text) same = let status : 200 ≡ 409 = ap (λ (answer : Answer). answer.status) same in absurd (omega (arith, status))
 sorry_back (Shows shown) same = let status : 200 ≡ 409 = ap (λ (answer : Answer). answer.status) same in absurd (omega (arith, status))
 
--- ---- what became of the entries
+-- ---- the outcome of the entries
 
 module _ (has_mark : Text → Bool) (rules : Rules) (look : OfficeAsk → Books → Reply) (b : ℕ) (commands : List Command) (replies : List Answer) (lives : List Life) (old new : Books)
     (lived : Lives rules look lives old new) (numbers : HasNumbers old) (fresh : IsUnused has_mark (shop_of b old)) (book : KeepsBook has_mark rules b commands replies lives old) where
@@ -168,7 +168,7 @@ pub all_of : {X : Type 0} (P Q : X → Type 0) → ((x : X) → P x → Q x) →
 all_of P Q each [] all = tt
 all_of P Q each (x ∷ xs) all = (each x all.0, all_of P Q each xs all.1)
 
--- ---- as the chain lives on
+-- ---- settlements stay as the chain lives on
 
 still_at : (lives more : List Life) (n : ℕ) (life : Life) → slice_get lives n ≡ Some life → slice_get (lives ++ more) n ≡ Some life
 still_at [] more n life there = absurd (same_none life there)

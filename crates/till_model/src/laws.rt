@@ -1,4 +1,4 @@
-//! Laws, each on a function with nothing to do.
+//! Laws. Each is the contract of a function that does nothing.
 
 ghost use Rattle.till_model.specs.Laws.{
   ActsOnceInOrder,
@@ -9,43 +9,64 @@ ghost use Rattle.till_model.specs.Laws.{
   RisingComeInOrder,
 };
 ghost use Rattle.till_model.specs.Settled.{SettledForGood};
+ghost use Rattle.till_model.specs.RegisterLaws.{RegisterIsTheLastRent, RentsStayOfTheirCopies, ReturnsTookBack};
 
-/// What was entered at a till acts at most once, in the order of entering; what it shows as accepted has acted, with
-/// that reply. This is of any history of the branch that begins with nothing kept under the till's mark, whatever
-/// else comes.
+/// Each entry of a till acts at most once, and entries act in the order of entering. An entry whose recorded reply is
+/// 200 has acted with that reply. This holds for any history of the branch, whatever else the branch gets, if the
+/// branch keeps nothing under the till's mark at first.
 pub fn entries_act_once_in_order()
     ensures { ActsOnceInOrder }
 {}
 
-/// The same over any number of stops of the chain, and of all that acted, whether it was answered or not.
+/// The same law over any number of stops of the chain. It covers every entry that acted, also one without a response.
 pub fn entries_act_once_over_stops()
     ensures { ActsOnceOverStops }
 {}
 
-/// What a chain answered a branch, but for want of memory, room or store, is a reply to what the branch was asked.
+/// An answer of the chain to a command of a branch is the branch's reply to that command. Answers with status 503 don't
+/// count: with them the chain reports that it lacked memory, room or its store.
 pub fn answers_were_served()
     ensures { AnswersWereServed }
 {}
 
-/// Where moments rise from entry to entry, entries act in order, whatever comes late.
+/// If moments rise from entry to entry, entries come in order, also when commands arrive late.
 pub fn rising_moments_come_in_order()
     ensures { RisingComeInOrder }
 {}
 
-/// Where the n-th entry has the till's mark and its number for a key, and a moment above those before it, all keys are
-/// the till's, each its entry's own, and moments rise.
+/// Suppose that the n-th entry's key is the till's mark with the number n, and that its moment is later than all
+/// before. Then all keys have the till's mark, no two entries share a key, and moments rise.
 pub fn numbered_entries_are_own()
     ensures { NumberedAreOwn }
 {}
 
-/// From the key press to the disk, once: what the till's book says of each entry is what the chain's books have, over
-/// any number of stops. The premise on others is that nobody else uses the mark.
+/// The till's book and the chain's books agree on each entry, over any number of stops: from the key press to the
+/// disk, once. The premise on others is that nobody else uses the mark.
 pub fn from_the_press_to_the_disk()
     ensures { FromThePressToTheDisk }
 {}
 
-/// What settled an entry is so for good. One that was told 200 when it was sent once more has acted, once, with exactly
-/// that reply; one that was told that its moment is behind has not acted and never will, whatever comes late.
+/// A settlement is permanent. An entry whose retry got 200 has acted once, with exactly that reply. An entry whose
+/// retry got `moment_back` has not acted and never will, also when a command arrives late.
 pub fn settled_entries_stay_settled()
     ensures { SettledForGood }
+{}
+
+/// The register has a rental for a copy exactly if two things hold. The copy's last accepted rent made that rental, and
+/// no later entry is an accepted return of that rental.
+pub fn the_register_is_the_last_rent()
+    ensures { RegisterIsTheLastRent }
+{}
+
+/// Suppose that the register had a rental for a copy when a return of that rental was entered, and the return was
+/// accepted. Then the return took that copy back: an earlier accepted rent of the copy was answered with that
+/// rental, and after the return the register lacks that rental.
+pub fn returns_by_copy_took_back()
+    ensures { ReturnsTookBack }
+{}
+
+/// The reply to an accepted rent has the number of a rental of the rented copy. That rental stays one of that copy,
+/// whatever the branch gets later.
+pub fn rents_stay_of_their_copies()
+    ensures { RentsStayOfTheirCopies }
 {}

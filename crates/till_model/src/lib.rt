@@ -1,4 +1,4 @@
-//! What a till enters, and what becomes of it at its branch.
+//! Laws of what a till enters, and of the outcome at its branch.
 #![tactic(auto)]
 
 pub mod laws;

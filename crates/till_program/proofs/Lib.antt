@@ -1,1 +1,3 @@
 pub mod GoingOn
+pub mod Giving
+pub mod Doing

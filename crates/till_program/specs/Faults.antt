@@ -3,8 +3,8 @@ use Rattle.std.specs.Prelude.{◌≡◌, ◌≢◌, ◌⊎◌, ⊤, ℕ, Option,
 use Rattle.till_work.specs.declared.settling.Settled.{Settled}
 use Rattle.till_work.specs.declared.settling.SettleFault.{SettleFault}
 use Rattle.till_work.specs.declared.settling.SettleFault.TheVariants as settle
-use Rattle.till_desk.specs.declared.fault.DeskFault.{DeskFault}
-use Rattle.till_desk.specs.declared.fault.DeskFault.TheVariants as desk
+use Rattle.till_work.specs.declared.fault.DeskFault.{DeskFault}
+use Rattle.till_work.specs.declared.fault.DeskFault.TheVariants as desk
 use Rattle.till_program.specs.declared.fault.TillFault.{TillFault}
 use Rattle.till_program.specs.declared.fault.TillFault.TheVariants as word
 
@@ -30,11 +30,11 @@ IsSettlingKept (Err settle.NoEntry) = ⊤
 IsSettlingKept (Err (settle.Unanswered fault)) = ⊤
 IsSettlingKept (Err settle.NotNow) = ⊤
 
--- a book that can't be read has failed, or has too many entries, or there was no memory
+-- a book that can't be read has failed, or there was no memory
 abbrev pub IsReading : TillFault → Type 0
-IsReading fault = (fault ≡ word.Book) ⊎ ((fault ≡ word.Full) ⊎ (fault ≡ word.Memory))
+IsReading fault = (fault ≡ word.Book) ⊎ (fault ≡ word.Memory)
 
--- what is told of the other's word: of a branch's at head office's book, where nobody works, and of head office's at a branch's
+-- the fault of a word that is for the other kind of book: a branch's word at head office's book, where nobody works, or head office's at a branch's
 abbrev pub others_fault : Option ℕ → TillFault
 others_fault None = word.IsOffice
 others_fault (Some own) = word.IsBranch

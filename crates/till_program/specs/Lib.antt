@@ -1,2 +1,4 @@
 pub mod Faults
+pub mod Giving
 pub mod Word
+pub mod Doing

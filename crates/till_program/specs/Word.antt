@@ -1,26 +1,31 @@
 -- What a word leaves of a till's book.
-use Rattle.std.specs.Prelude.{◌≡◌, ⊤, ℕ, List, ◌++◌, length, Option, None, IsSome}
+use Rattle.std.specs.Prelude.{◌≡◌, ◌≤◌, ⊤, ℕ, List, ◌++◌, length, Option, None, Some, IsSome}
 use Rattle.sqlite.specs.State.{State}
 use Rattle.shop_model.specs.Values.{Text, Command}
+use Rattle.shop_model.specs.Answers.{Answer}
 use Rattle.till_book.specs.Journal.{Journal}
 use Rattle.till_book.specs.Steps.{Rests}
-use Rattle.till_book.specs.declared.lists.BookRows.{BookRows}
+use Rattle.till_book.specs.Register.{IsHeld}
+use Rattle.till_book.specs.declared.rents.HeldRental.{HeldRental}
 use Rattle.till_work.specs.Entering.{IsTillsBook}
-use Rattle.till_desk.specs.Desk.{Extends}
-use Rattle.till_desk.specs.declared.place.Place.{Place}
+use Rattle.till_work.specs.Told.{AreSettled}
+use Rattle.till_work.specs.Desk.{HasPlace, Extends, AreSent, FailsToSend}
+use Rattle.till_work.specs.declared.fault.DeskFault.{DeskFault}
+use Rattle.till_work.specs.declared.place.Place.{Place}
 use Rattle.till_words.specs.declared.words.TillAct.{TillAct}
 use Rattle.till_words.specs.declared.words.TillAct.TheVariants as act
+use Rattle.till_program.specs.declared.fault.TillFault.{TillFault}
+use Rattle.till_program.specs.Faults.{told_fault}
 use Rattle.till_program.specs.declared.word.Plan.{Plan}
 use Rattle.till_program.specs.declared.word.Plan.TheVariants as plan
-
--- so many entries and replies are in the rows
-pub record IsPlaceIn (place : Place) (rows : BookRows) : Type 0 where
-  pub entries : place.entries ≡ length rows.entries
-  pub replies : place.replies ≡ length rows.replies
 
 -- so many entries and replies are in the book
 abbrev pub IsPlaceOf : Place → State → Type 0
 IsPlaceOf place s = (journal : Journal) → Rests s journal → (place.entries ≡ length journal.entries) × (place.replies ≡ length journal.replies)
+
+-- that rental is the register's of the copy, with its customer, in each journal that the book stands for
+abbrev pub IsHeldIn : ℕ → HeldRental → State → Type 0
+IsHeldIn copy held s = (journal : Journal) → Rests s journal → IsHeld copy (Some held) journal
 
 -- head office's words are planned for its own book alone, and a branch's commands for a branch's
 abbrev pub IsPlannedFor : Option ℕ → Plan → Type 0
@@ -43,36 +48,50 @@ IsFor staff (act.Last count) = ⊤
 IsFor staff act.Help = ⊤
 IsFor staff act.Prompt = ⊤
 
+-- the fault tells one of the desk's, at which sending ended, and why
+abbrev pub FailsToSendAll : {R W : Type 0} → (List ℕ → Answer → Type 0) → Type 0 → (R → W → Type 0) → (W → Option (List ℕ)) → Place → State → Place → State → TillFault → Type 0
+FailsToSendAll Tells refuses opens contents before old after new told =
+    (it : DeskFault) × (told ≡ told_fault it) × FailsToSend Tells refuses opens contents before old after new it
+
+-- Some of what waited was sent. If no reply was without its entry, each entry has its reply.
+abbrev pub SendsAll : (List ℕ → Answer → Type 0) → Place → State → Place → State → Type 0
+SendsAll Tells before old after new =
+    (journal : Journal) → HasPlace before old journal
+    → (answers : List Answer) × AreSent Tells answers after new journal
+    × (length journal.replies ≤ length journal.entries → length (journal.replies ++ answers) ≡ length journal.entries)
+
 -- a till's book that was this one, and goes on
-pub record IsBehind (mark : Text) (s : State) (old : Journal) (said : List Command) : Type 0 where
+pub record IsBehind (Tells : List ℕ → Answer → Type 0) (mark : Text) (s : State) (old : Journal) (said : List Command) : Type 0 where
   pub journal : Journal
   pub commands : List Command
   pub rests : Rests s journal
   pub book : IsTillsBook mark journal commands
-  pub extends : Extends old journal
+  pub extends : Extends Tells old journal
   pub says : (more : List Command) × (commands ≡ said ++ more)
 
 -- a till's book stays one, and what stood in it stays
-abbrev pub KeepsATillsBook : Text → State → State → Type 0
-KeepsATillsBook mark old new = (journal : Journal) (commands : List Command) → Rests old journal → IsTillsBook mark journal commands → IsBehind mark new journal commands
+abbrev pub KeepsATillsBook : (List ℕ → Answer → Type 0) → Text → State → State → Type 0
+KeepsATillsBook Tells mark old new =
+    (journal : Journal) (commands : List Command) → Rests old journal → IsTillsBook mark journal commands → IsBehind Tells mark new journal commands
 
 -- a book that was that one, whatever its entries say, and has what stood in it
-pub record HasMore (s : State) (old : Journal) : Type 0 where
+pub record HasMore (Tells : List ℕ → Answer → Type 0) (s : State) (old : Journal) : Type 0 where
   pub journal : Journal
   pub rests : Rests s journal
-  pub extends : Extends old journal
+  pub extends : Extends Tells old journal
 
 -- what stood in a book stays in it
-abbrev pub KeepsABook : State → State → Type 0
-KeepsABook old new = (journal : Journal) → Rests old journal → HasMore new journal
+abbrev pub KeepsABook : (List ℕ → Answer → Type 0) → State → State → Type 0
+KeepsABook Tells old new = (journal : Journal) → Rests old journal → HasMore Tells new journal
 
--- a book with the same entries and replies
-pub record IsSame (s : State) (old : Journal) : Type 0 where
+-- a book with the same entries and replies; each settlement that was added is a reply to the entry of its number
+pub record IsSame (Tells : List ℕ → Answer → Type 0) (s : State) (old : Journal) : Type 0 where
   pub journal : Journal
   pub rests : Rests s journal
   pub entries : journal.entries ≡ old.entries
   pub replies : journal.replies ≡ old.replies
+  pub settled : (more : List (ℕ × Answer)) × (journal.settled ≡ old.settled ++ more) × AreSettled Tells old.entries more
 
--- nothing is entered or recorded but what entries were told that were sent once more
-abbrev pub EntersNothing : State → State → Type 0
-EntersNothing old new = (journal : Journal) → Rests old journal → IsSame new journal
+-- nothing is entered or recorded but settlements of entries that were sent once more
+abbrev pub EntersNothing : (List ℕ → Answer → Type 0) → State → State → Type 0
+EntersNothing Tells old new = (journal : Journal) → Rests old journal → IsSame Tells new journal

@@ -150,7 +150,7 @@ pub(crate) fn says_sales(
     says_table(alloc, &table, "", said)
 }
 
-/// What is said behind the line of an accepted command: to whom, or how much, with the customer's name.
+/// Returns the end of an accepted command's line: to whom, or how much, with the customer's name.
 pub(crate) fn besides(alloc: Global, act: &Act, name: &str) -> Result<String, TillFault> {
     match act {
         Act::Rent { copy, .. } => Ok(format!(in alloc; ": copy {} to {name}", copy.get())?),
@@ -167,7 +167,7 @@ pub(crate) fn besides(alloc: Global, act: &Act, name: &str) -> Result<String, Ti
     }
 }
 
-/// What became of a command, with what is said behind its line.
+/// Says the outcome of a command, with the end of its line.
 pub(crate) fn command_said(
     alloc: Global,
     is_json: bool,

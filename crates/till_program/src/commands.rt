@@ -1,14 +1,21 @@
 //! A command is entered, sent, and answered.
 
-ghost use Rattle.std.specs.Prelude.{◌≡◌, false};
+ghost use Rattle.std.specs.Prelude.{◌≡◌, ◌≤◌, ◌+◌, true, false, [], ◌∷◌, IfOk, IfSome, OnOk, OnErr};
 ghost use Rattle.sqlite.specs.Held.{state};
 ghost use Rattle.sqlite.specs.State.{HasCleanDisk};
-ghost use Rattle.till_desk.specs.Desk.{GoesOn};
-ghost use Rattle.till_program.specs.Faults.{IsBookKept};
+ghost use Rattle.shop_types.specs.Seen.{seen_act};
+ghost use Rattle.shop_model.specs.Calendar.{seconds_of};
+ghost use Rattle.till_client.specs.Replies.{seen_answer};
+ghost use Rattle.till_shows.specs.Told.{Tells};
+ghost use Rattle.till_work.specs.Told.{IsTold};
+ghost use Rattle.till_work.specs.Desk.{GoesOn, Stays};
+ghost use Rattle.till_program.specs.Faults.{IsBookKept, giver_of};
+ghost use Rattle.till_program.specs.Giving.{IsDated, IsRequest, EntersTry, Tries, IsBack, Gives};
 
 use crate::answers::{besides, command_said};
 use crate::book::Book;
 use crate::caches::Shelf;
+use crate::clock::WallClock;
 use crate::desk::Desk;
 use crate::fault::TillFault;
 use crate::lists::name_if_known;
@@ -16,26 +23,28 @@ use crate::said::Said;
 use crate::sendings::send_all;
 use shop_types::{Act, CustomerNo, Moment, Refusal};
 use sqlite::{Alter, Connection};
-use std::time::Clock;
 use till_client::Answer;
-use till_desk::{Server, Watch, enter};
 use till_requests::{command_request, next_moment};
 use till_shows::refusal_in;
+use till_work::{Server, Watch, enter};
 
-/// By how many seconds more than the clock says a command goes again whose moment was behind the branch's.
+/// How many seconds ahead of the clock a command is tried, one try after another, while its moment is before the
+/// branch's last.
 const AHEAD: [u64; 8] = [0, 1, 3, 7, 15, 31, 63, 119];
 
 /// How many seconds an entry's moment may be ahead of the clock.
 const SPAN: u64 = 120;
 
-/// What an entry was told.
+/// The reply to an entry.
 #[derive(Drop)]
 pub(crate) struct Told {
     pub(crate) answer: Answer,
 }
 
 impl Told {
-    pub(crate) fn refusal(&self) -> Option<Refusal> {
+    pub(crate) fn refusal(&self) -> Option<Refusal>
+        ensures { IfSome result (Tells self.now.answer.status self.now.answer.body.items) }
+    {
         refusal_in(self.answer.status, self.answer.body.as_slice())
     }
 
@@ -43,33 +52,61 @@ impl Told {
         self.answer.status == 200
     }
 
-    /// Whether its moment was behind the branch's.
-    fn is_back(&self) -> bool {
+    /// Tests whether it was refused because its moment was before the branch's last.
+    fn is_back(&self) -> bool
+        ensures { result ≡ true → IsBack (seen_answer self.now.answer) }
+    {
         matches!(self.refusal(), Some(Refusal::MomentBack))
     }
 }
 
-/// A command's request, and its moment.
+/// A command's request with its moment.
 #[derive(Drop)]
 struct Prepared {
     request: Vec<u8>,
     at: Moment,
 }
 
-/// The request of the next entry, at the clock's moment or so many seconds behind it.
-fn next_request<K: Clock, V: Server, L: Shelf>(
-    desk: &Desk<'_, K, V, L>,
-    book: &Book,
-    act: &Act,
-    ahead: u64,
-) -> Result<Prepared, TillFault> {
-    let staff = desk.giver()?;
-    let now = desk.now()?;
-    let at = next_moment(now, book.last, ahead).ok_or(TillFault::System)?;
+/// Tests whether the moment is at most `SPAN` seconds later than the other. Fails with `Ahead` if it is later.
+fn within_span(at: Moment, now: Moment) -> Result<(), TillFault>
+    ensures { OnOk result (seconds_of at ≤ seconds_of now + 120) }
+{
     let over = at.seconds().saturating_sub(now.seconds());
     if over > SPAN {
         return Err(TillFault::Ahead(over - SPAN));
     }
+    Ok(())
+}
+
+/// Returns the moment of the next entry: the clock's, or that many seconds after it, or a second after the last
+/// entry's, whichever is the latest. Fails with `Ahead` if that is more than two minutes ahead of the clock.
+fn next_date<K: WallClock, V: Server, L: Shelf>(
+    desk: &Desk<'_, K, V, L>,
+    last: Option<Moment>,
+    ahead: u64,
+) -> Result<Moment, TillFault>
+    ensures { IfOk result (IsDated (K.shows desk.now.clock.now) last ahead) }
+{
+    let now = desk.now()?;
+    let Some(at) = next_moment(now, last, ahead) else {
+        return Err(TillFault::System);
+    };
+    within_span(at, now)?;
+    Ok(at)
+}
+
+/// Returns the request of the next entry, at the clock's moment or that many seconds after it.
+fn next_request<K: WallClock, V: Server, L: Shelf>(
+    desk: &Desk<'_, K, V, L>,
+    book: &Book,
+    act: &Act,
+    ahead: u64,
+) -> Result<Prepared, TillFault>
+    ensures { IfOk result (λ it. IsRequest (K.shows desk.now.clock.now) desk.now.settings.now.token
+        (giver_of desk.now.settings.now.staff desk.now.staff) (seen_act act.now) it.request.items) }
+{
+    let staff = desk.giver()?;
+    let at = next_date(desk, book.last, ahead)?;
     let number = book.place.entries.checked_add(1).ok_or(TillFault::Full)?;
     let settings = desk.settings;
     let request = command_request(
@@ -85,8 +122,8 @@ fn next_request<K: Clock, V: Server, L: Shelf>(
     Ok(Prepared { request, at })
 }
 
-/// Enters a command behind the last entry, at the clock's moment or so many seconds behind it.
-fn enter_act<S: Alter, K: Clock, V: Server, L: Shelf>(
+/// Enters a command after the last entry, at the clock's moment or that many seconds after it.
+fn enter_act<S: Alter, K: WallClock, V: Server, L: Shelf>(
     desk: &Desk<'_, K, V, L>,
     conn: &mut Connection<S>,
     book: &mut Book,
@@ -96,9 +133,12 @@ fn enter_act<S: Alter, K: Clock, V: Server, L: Shelf>(
     requires { conn.old.in_transaction ≡ false }
     ensures ended { conn.new.in_transaction ≡ false }
     ensures clean { HasCleanDisk (state S.Store conn.new) → HasCleanDisk (state S.Store conn.old) }
-    ensures keeps { HasCleanDisk (state S.Store conn.new) → IsBookKept result
-        → GoesOn desk.now.settings.now.mark book.old.place (state S.Store conn.old) book.new.place
-        (state S.Store conn.new) }
+    ensures entered { HasCleanDisk (state S.Store conn.new) → OnOk result (EntersTry (K.shows desk.now.clock.now)
+        desk.now.settings.now.mark desk.now.settings.now.token
+        (giver_of desk.now.settings.now.staff desk.now.staff) (seen_act act.now) book.old.place
+        (state S.Store conn.old) book.new.place (state S.Store conn.new)) }
+    ensures stays { HasCleanDisk (state S.Store conn.new) → IsBookKept result
+        → OnErr result (Stays book.old.place (state S.Store conn.old) book.new.place (state S.Store conn.new)) }
 {
     let Prepared { request, at } = next_request(desk, book, act, ahead)?;
     match enter(desk.alloc, conn, desk.identity(), &mut book.place, request) {
@@ -111,7 +151,7 @@ fn enter_act<S: Alter, K: Clock, V: Server, L: Shelf>(
 }
 
 /// Enters a command, and sends what waits and then it.
-fn give_once<S: Alter, K: Clock, V: Server, L: Shelf, W: Watch>(
+fn give_once<S: Alter, K: WallClock, V: Server, L: Shelf, W: Watch>(
     desk: &Desk<'_, K, V, L>,
     conn: &mut Connection<S>,
     book: &mut Book,
@@ -122,8 +162,14 @@ fn give_once<S: Alter, K: Clock, V: Server, L: Shelf, W: Watch>(
     requires { conn.old.in_transaction ≡ false }
     ensures ended { conn.new.in_transaction ≡ false }
     ensures clean { HasCleanDisk (state S.Store conn.new) → HasCleanDisk (state S.Store conn.old) }
+    ensures tried { HasCleanDisk (state S.Store conn.new) → IfOk result (λ told. Tries
+        (IsTold (V.opens desk.now.server.now) V.Reader.remaining V.Writer.contents) (K.shows desk.now.clock.now)
+        desk.now.settings.now.mark desk.now.settings.now.token
+        (giver_of desk.now.settings.now.staff desk.now.staff) (seen_act act.now) (seen_answer told.answer ∷ [])
+        book.old.place (state S.Store conn.old) book.new.place (state S.Store conn.new)) }
     ensures keeps { HasCleanDisk (state S.Store conn.new) → IsBookKept result
-        → GoesOn desk.now.settings.now.mark book.old.place (state S.Store conn.old) book.new.place
+        → GoesOn (IsTold (V.opens desk.now.server.now) V.Reader.remaining V.Writer.contents)
+        desk.now.settings.now.mark book.old.place (state S.Store conn.old) book.new.place
         (state S.Store conn.new) }
 {
     match enter_act(desk, conn, book, act, ahead) {
@@ -137,9 +183,9 @@ fn give_once<S: Alter, K: Clock, V: Server, L: Shelf, W: Watch>(
     }
 }
 
-/// Enters a command, and sends what waits and then it. One whose moment was behind the branch's never acts, and is
-/// entered anew, later and later, up to two minutes ahead of the clock.
-pub(crate) fn give<S: Alter, K: Clock, V: Server, L: Shelf, W: Watch>(
+/// Enters a command, sends what waits and then the command. If its moment is before the branch's last, it never acts,
+/// and the command is entered anew, later and later, up to two minutes ahead of the clock.
+pub(crate) fn give<S: Alter, K: WallClock, V: Server, L: Shelf, W: Watch>(
     desk: &Desk<'_, K, V, L>,
     conn: &mut Connection<S>,
     book: &mut Book,
@@ -149,8 +195,14 @@ pub(crate) fn give<S: Alter, K: Clock, V: Server, L: Shelf, W: Watch>(
     requires { conn.old.in_transaction ≡ false }
     ensures ended { conn.new.in_transaction ≡ false }
     ensures clean { HasCleanDisk (state S.Store conn.new) → HasCleanDisk (state S.Store conn.old) }
+    ensures given { HasCleanDisk (state S.Store conn.new) → IfOk result (λ told. Gives
+        (IsTold (V.opens desk.now.server.now) V.Reader.remaining V.Writer.contents) (K.shows desk.now.clock.now)
+        desk.now.settings.now.mark desk.now.settings.now.token
+        (giver_of desk.now.settings.now.staff desk.now.staff) (seen_act act.now) (seen_answer told.answer)
+        book.old.place (state S.Store conn.old) book.new.place (state S.Store conn.new)) }
     ensures keeps { HasCleanDisk (state S.Store conn.new) → IsBookKept result
-        → GoesOn desk.now.settings.now.mark book.old.place (state S.Store conn.old) book.new.place
+        → GoesOn (IsTold (V.opens desk.now.server.now) V.Reader.remaining V.Writer.contents)
+        desk.now.settings.now.mark book.old.place (state S.Store conn.old) book.new.place
         (state S.Store conn.new) }
 {
     let mut told = Err(TillFault::OtherBook);
@@ -167,8 +219,8 @@ pub(crate) fn give<S: Alter, K: Clock, V: Server, L: Shelf, W: Watch>(
     told
 }
 
-/// The name of the customer of a rent or a payment; nobody's of another act.
-fn customer_name<K: Clock, V: Server, L: Shelf>(
+/// Returns the name of the customer of a rent or a payment, and nobody's of another act.
+fn customer_name<K: WallClock, V: Server, L: Shelf>(
     desk: &Desk<'_, K, V, L>,
     act: &Act,
 ) -> Result<String, TillFault> {
@@ -183,8 +235,8 @@ fn customer_name<K: Clock, V: Server, L: Shelf>(
     }
 }
 
-/// The customer's name, where the till has it, and else the number.
-pub(crate) fn called<K: Clock, V: Server, L: Shelf>(
+/// Returns the customer's name, if the till knows the name, and else the number.
+pub(crate) fn called<K: WallClock, V: Server, L: Shelf>(
     desk: &Desk<'_, K, V, L>,
     customer: CustomerNo,
 ) -> Result<String, TillFault> {
@@ -197,8 +249,8 @@ pub(crate) fn called<K: Clock, V: Server, L: Shelf>(
     }
 }
 
-/// What is said behind the command's line, where it was accepted.
-fn more_of<K: Clock, V: Server, L: Shelf>(
+/// Returns the end of the command's line, if it was accepted.
+fn more_of<K: WallClock, V: Server, L: Shelf>(
     desk: &Desk<'_, K, V, L>,
     act: &Act,
     told: &Told,
@@ -210,8 +262,8 @@ fn more_of<K: Clock, V: Server, L: Shelf>(
     besides(desk.alloc, act, name.as_str())
 }
 
-/// Says what became of a command.
-pub(crate) fn tell<K: Clock, V: Server, L: Shelf>(
+/// Says the outcome of a command.
+pub(crate) fn tell<K: WallClock, V: Server, L: Shelf>(
     desk: &Desk<'_, K, V, L>,
     act: &Act,
     told: &Told,

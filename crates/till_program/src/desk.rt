@@ -1,17 +1,19 @@
 //! What a till has beside its book.
 
-ghost use Rattle.std.specs.Prelude.{◌≡◌, IsSome, OnOk};
+ghost use Rattle.std.specs.Prelude.{◌≡◌, IfOk, IsSome, OnOk};
+ghost use Rattle.shop_model.specs.Calendar.{seconds_of};
 ghost use Rattle.till_program.specs.Faults.{giver_of};
 
 use crate::caches::Shelf;
+use crate::clock::WallClock;
 use crate::fault::TillFault;
 use counter_routes::Routes;
 use shop_types::{Moment, StaffNo};
 use std::alloc::Global;
-use std::time::{Clock, Duration};
+use std::time::Duration;
 use till_client::{Answer, ask};
-use till_desk::{Identity, Server};
 use till_requests::{Settings, moment_at};
+use till_work::{Identity, Server};
 
 /// How often something is asked for that changes nothing.
 const ROUNDS: u64 = 3;
@@ -19,7 +21,7 @@ const ROUNDS: u64 = 3;
 /// What a till works with beside its book: a clock, the way to the server, a shelf for lists, the server's own reader
 /// of requests, and its settings.
 #[derive(Drop)]
-pub struct Desk<'d, K: Clock, V: Server, L: Shelf> {
+pub struct Desk<'d, K: WallClock, V: Server, L: Shelf> {
     pub alloc: Global,
     pub clock: &'d K,
     pub server: &'d V,
@@ -32,10 +34,11 @@ pub struct Desk<'d, K: Clock, V: Server, L: Shelf> {
     pub is_json: bool,
 }
 
-impl<K: Clock, V: Server, L: Shelf> Desk<'_, K, V, L> {
+impl<K: WallClock, V: Server, L: Shelf> Desk<'_, K, V, L> {
     /// Who the till is, by its settings.
     pub(crate) fn identity(&self) -> Identity<'_>
-        ensures { result.mark.now ≡ self.now.settings.now.mark }
+        ensures mark { result.mark.now ≡ self.now.settings.now.mark }
+        ensures token { result.token.now ≡ self.now.settings.now.token }
     {
         Identity {
             routes: self.routes,
@@ -44,14 +47,24 @@ impl<K: Clock, V: Server, L: Shelf> Desk<'_, K, V, L> {
         }
     }
 
-    /// The seconds since 1970, by the clock.
-    pub(crate) fn seconds(&self) -> Result<u64, TillFault> {
-        Ok(self.clock.since_1970()?.as_secs())
+    /// Reads the seconds since 1970 from the clock.
+    pub(crate) fn seconds(&self) -> Result<u64, TillFault>
+        ensures { IfOk result (K.shows self.now.clock.now) }
+    {
+        match self.clock.seconds() {
+            Ok(seconds) => Ok(seconds),
+            Err(error) => Err(TillFault::from(error)),
+        }
     }
 
-    /// The moment by the clock.
-    pub(crate) fn now(&self) -> Result<Moment, TillFault> {
-        moment_at(self.seconds()?).ok_or(TillFault::System)
+    /// Reads the moment from the clock.
+    pub(crate) fn now(&self) -> Result<Moment, TillFault>
+        ensures { IfOk result (λ moment. K.shows self.now.clock.now (seconds_of moment)) }
+    {
+        match moment_at(self.seconds()?) {
+            Some(moment) => Ok(moment),
+            None => Err(TillFault::System),
+        }
     }
 
     /// The moment by the clock, or the last entry's where that is later: what was entered counts in it.

@@ -1,16 +1,16 @@
 //! What keeps the till from doing a word.
 
-ghost use Rattle.std.specs.Prelude.{◌≡◌};
+ghost use Rattle.std.specs.Prelude.{◌≡◌, ◌<◌};
 ghost use Rattle.till_program.specs.Faults.{told_fault};
 
 use std::alloc::{AllocError, AllocFailed};
 use std::{fmt, io};
-use till_desk::DeskFault;
 use till_files::BookFault;
 use till_requests::{NoSettings, NotBuilt};
 use till_shows::NotShown;
+use till_work::DeskFault;
 
-/// Why the till didn't do a word, or can't say yet what became of it.
+/// Why the till didn't do a word, or can't say its outcome yet.
 #[derive(Clone, Copy, Debug, PartialEq, Eq)]
 pub enum TillFault {
     /// The book can't be read or written.
@@ -66,7 +66,9 @@ pub enum TillFault {
 impl TillFault {
     /// The program's status for it: 1 where a word can't be done as it was said, 3 for a fault of the till's own, 4
     /// where it isn't answered yet.
-    pub fn status(self) -> u8 {
+    pub fn status(self) -> u8
+        ensures { 0 < result }
+    {
         match self {
             TillFault::NoRental
             | TillFault::RentWaits

@@ -5,6 +5,7 @@ ghost use Rattle.std.specs.Prelude.{◌≡◌, false, IfOk};
 
 use crate::caches::Shelf;
 use crate::fault::TillFault;
+use counter_routes::Routes;
 use sqlite::{Connection, FileStore, Files};
 use sqlite_disk::Unknown;
 use sqlite_std_file::{File, OpenError};
@@ -14,8 +15,8 @@ use std::io::{self, ErrorKind, Write};
 use std::os::unix::fs::{OpenOptionsExt, PermissionsExt};
 use std::thread;
 use std::time::Duration;
-use till_book::read_book;
-use till_files::{BookFault, close_book, create_book, open_book};
+use till_book::read_end;
+use till_files::{BookFault, close_book, create_book, migrate_book, open_book};
 
 /// How often a book is asked for that another window has, a tenth of a second apart.
 const TURNS: u32 = 50;
@@ -71,20 +72,63 @@ fn fault_at(rt: &HostRuntime, path: &str, fault: BookFault) -> TillFault {
     TillFault::from(fault)
 }
 
-/// The two files of a book; while another window has them, they are asked for up to five seconds.
-fn files_at(rt: &HostRuntime, path: &str) -> Result<Files<File>, TillFault> {
-    for turn in 0..TURNS {
-        if turn > 0 {
-            thread::sleep(rt, Duration::from_millis(100));
-        }
-        match sqlite_std_file::open(rt, path, Unknown) {
-            Ok(files) => return Ok(files),
-            Err(OpenError::Busy) => {}
-            Err(OpenError::OutOfMemory) => return Err(TillFault::Memory),
-            Err(_) => return Err(TillFault::Book),
+/// Returns the name of the file that a window makes beside a book that it wants while another window has it.
+fn wanted_at(alloc: Global, path: &str) -> Option<String> {
+    format!(in alloc; "{path}.wanted").ok()
+}
+
+/// Asks the window that has the book for it.
+fn ask_for(rt: &HostRuntime, path: &str) {
+    if let Some(wanted) = wanted_at(rt.alloc(), path) {
+        let _ = make_own(rt, wanted.as_str());
+    }
+}
+
+/// Tests whether another window asks for the book.
+pub(crate) fn is_asked_for(rt: &HostRuntime, path: &str) -> bool {
+    match wanted_at(rt.alloc(), path) {
+        Some(wanted) => is_there(rt, wanted.as_str()),
+        None => false,
+    }
+}
+
+/// Takes back what asks for the book.
+pub(crate) fn unask(rt: &HostRuntime, path: &str) {
+    if let Some(wanted) = wanted_at(rt.alloc(), path) {
+        let _ = fs::remove_file(rt, wanted.as_str());
+    }
+}
+
+/// Opens the two files of a book. Returns none if another window has them.
+fn free_files(rt: &HostRuntime, path: &str) -> Result<Option<Files<File>>, TillFault> {
+    match sqlite_std_file::open(rt, path, Unknown) {
+        Ok(files) => Ok(Some(files)),
+        Err(OpenError::Busy) => Ok(None),
+        Err(OpenError::OutOfMemory) => Err(TillFault::Memory),
+        Err(_) => Err(TillFault::Book),
+    }
+}
+
+/// Asks for the two files of a book that another window has, up to five seconds.
+fn asked_files(rt: &HostRuntime, path: &str) -> Result<Files<File>, TillFault> {
+    for _ in 0..TURNS {
+        ask_for(rt, path);
+        thread::sleep(rt, Duration::from_millis(100));
+        if let Some(files) = free_files(rt, path)? {
+            return Ok(files);
         }
     }
     Err(TillFault::Busy)
+}
+
+/// Opens the two files of a book. If another window has them, they are asked for up to five seconds.
+fn files_at(rt: &HostRuntime, path: &str) -> Result<Files<File>, TillFault> {
+    if let Some(files) = free_files(rt, path)? {
+        return Ok(files);
+    }
+    let files = asked_files(rt, path);
+    unask(rt, path);
+    files
 }
 
 /// Makes a book in a file that isn't there or holds nothing.
@@ -100,15 +144,31 @@ fn create_at(rt: &HostRuntime, path: &str) -> Result<Connection<FileStore<File>>
     }
 }
 
+/// Opens the book in two files. A book that was made before it had tables beside the journal gets them.
+fn opened_or_migrated(
+    alloc: Global,
+    routes: &Routes,
+    files: Files<File>,
+) -> Result<Connection<FileStore<File>>, (BookFault, Files<File>)>
+    ensures { IfOk result (λ conn. conn.in_transaction ≡ false) }
+{
+    match open_book(alloc, files) {
+        Ok(conn) => Ok(conn),
+        Err((BookFault::NotABook, files)) => migrate_book(alloc, routes, files),
+        Err((fault, files)) => Err((fault, files)),
+    }
+}
+
 /// Opens the book in a file.
 pub(crate) fn open_at(
     rt: &HostRuntime,
+    routes: &Routes,
     path: &str,
 ) -> Result<Connection<FileStore<File>>, TillFault>
     ensures { IfOk result (λ conn. conn.in_transaction ≡ false) }
 {
     let files = files_at(rt, path)?;
-    match open_book(rt.alloc(), files) {
+    match opened_or_migrated(rt.alloc(), routes, files) {
         Ok(conn) => Ok(conn),
         Err((fault, files)) => {
             drop(files);
@@ -117,12 +177,15 @@ pub(crate) fn open_at(
     }
 }
 
-/// Opens the book in a file, where it has no entry.
+/// Opens the book in a file, if it has no entry.
 fn open_empty(rt: &HostRuntime, path: &str) -> Result<Connection<FileStore<File>>, TillFault> {
-    let mut conn = open_at(rt, path)?;
-    let rows = read_book(rt.alloc(), &mut conn);
-    match rows {
-        Ok(rows) if rows.entries.as_slice().is_empty() => Ok(conn),
+    let Ok(routes) = Routes::new(rt.alloc()) else {
+        return Err(TillFault::Memory);
+    };
+    let mut conn = open_at(rt, &routes, path)?;
+    let end = read_end(&mut conn);
+    match end {
+        Ok(end) if end.entries == 0 => Ok(conn),
         Ok(_) => {
             drop(close_book(conn));
             Err(TillFault::Already)
@@ -160,7 +223,7 @@ impl FileShelf<'_> {
     }
 }
 
-/// The second in the first line, and what stands behind it.
+/// Parts the second in the first line from the bytes after that line.
 fn parted(alloc: Global, bytes: &[u8]) -> Option<(u64, Vec<u8>)> {
     let end = bytes.iter().position(|byte| *byte == b'\n')?;
     let (line, rest) = bytes.split_at(end);

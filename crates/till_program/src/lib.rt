@@ -5,15 +5,19 @@
 mod answers;
 mod book;
 mod caches;
+mod clock;
 mod commands;
 mod desk;
+mod entries;
 mod fault;
 mod files;
 mod init;
+mod input;
 mod lists;
 mod lists_of_entries;
 mod looks;
 mod office;
+mod opening;
 mod program;
 mod prompt;
 mod returns;
@@ -26,6 +30,7 @@ mod word;
 
 pub use book::Book;
 pub use caches::Shelf;
+pub use clock::WallClock;
 pub use desk::Desk;
 pub use fault::TillFault;
 pub use program::run;

@@ -1,17 +1,17 @@
 //! The branch's customers and the films, from lists that are kept for ten minutes.
 
 use crate::caches::Shelf;
+use crate::clock::WallClock;
 use crate::desk::Desk;
 use crate::fault::TillFault;
 use shop_types::{CustomerNo, FilmNo, View};
 use std::alloc::Global;
-use std::time::Clock;
 use till_client::Answer;
-use till_desk::Server;
 use till_requests::view_request;
 use till_shows::{
     NotShown, Table, customer_named, customers_with, film_named, films_with, refusal_in,
 };
+use till_work::Server;
 
 /// For how many seconds a list is kept.
 const KEPT: u64 = 600;
@@ -59,7 +59,10 @@ impl List {
 }
 
 /// The list, where the shelf has one that isn't old.
-fn kept<K: Clock, V: Server, L: Shelf>(desk: &Desk<'_, K, V, L>, list: List) -> Option<Vec<u8>> {
+fn kept<K: WallClock, V: Server, L: Shelf>(
+    desk: &Desk<'_, K, V, L>,
+    list: List,
+) -> Option<Vec<u8>> {
     let (second, bytes) = desk.shelf.take(desk.alloc, list.name())?;
     let now = desk.seconds().ok()?;
     if second <= now && now - second < KEPT {
@@ -70,7 +73,7 @@ fn kept<K: Clock, V: Server, L: Shelf>(desk: &Desk<'_, K, V, L>, list: List) -> 
 }
 
 /// Asks the server for the list, and puts it on the shelf. The reply may be a refusal.
-fn fetched<K: Clock, V: Server, L: Shelf>(
+fn fetched<K: WallClock, V: Server, L: Shelf>(
     desk: &Desk<'_, K, V, L>,
     list: List,
 ) -> Result<Answer, TillFault> {
@@ -102,8 +105,8 @@ fn pick(alloc: Global, list: List, answer: Answer, part: &str) -> Result<Picked,
     Ok(Picked { answer, table })
 }
 
-/// Those of a list in which the part stands; where the kept list has none, a new one is asked for.
-pub(crate) fn found<K: Clock, V: Server, L: Shelf>(
+/// Returns the rows of a list that have the part in them. If the kept list has none, a new one is asked for.
+pub(crate) fn found<K: WallClock, V: Server, L: Shelf>(
     desk: &Desk<'_, K, V, L>,
     list: List,
     part: &str,
@@ -120,8 +123,8 @@ pub(crate) fn found<K: Clock, V: Server, L: Shelf>(
     pick(desk.alloc, list, answer, part)
 }
 
-/// The customer's name, where the kept list has it: nothing is asked for it.
-pub(crate) fn name_if_known<K: Clock, V: Server, L: Shelf>(
+/// Returns the customer's name from the kept list. Nothing is asked for.
+pub(crate) fn name_if_known<K: WallClock, V: Server, L: Shelf>(
     desk: &Desk<'_, K, V, L>,
     customer: CustomerNo,
 ) -> Option<String> {
@@ -130,7 +133,7 @@ pub(crate) fn name_if_known<K: Clock, V: Server, L: Shelf>(
 }
 
 /// The customer's name; where the kept list lacks it, a new one is asked for. It is none where the list is refused.
-pub(crate) fn name_of<K: Clock, V: Server, L: Shelf>(
+pub(crate) fn name_of<K: WallClock, V: Server, L: Shelf>(
     desk: &Desk<'_, K, V, L>,
     customer: CustomerNo,
 ) -> Result<Option<String>, TillFault> {
@@ -145,7 +148,7 @@ pub(crate) fn name_of<K: Clock, V: Server, L: Shelf>(
 }
 
 /// The film's title; where the kept list lacks it, a new one is asked for. It is none where the list is refused.
-pub(crate) fn title_of<K: Clock, V: Server, L: Shelf>(
+pub(crate) fn title_of<K: WallClock, V: Server, L: Shelf>(
     desk: &Desk<'_, K, V, L>,
     film: FilmNo,
 ) -> Result<Option<String>, TillFault> {

@@ -1,21 +1,27 @@
-//! What the book has, as tables.
+//! Entries of the book as tables.
+
+ghost use Rattle.std.specs.Prelude.{◌≡◌, false};
+ghost use Rattle.sqlite.specs.Held.{state};
+ghost use Rattle.sqlite.specs.State.{HasCleanDisk};
+ghost use Rattle.till_book.specs.Steps.{Stays};
 
 use crate::answers::says_table;
 use crate::book::Book;
 use crate::caches::Shelf;
+use crate::clock::WallClock;
 use crate::desk::Desk;
+use crate::entries::EntriesAfter;
 use crate::fault::TillFault;
 use crate::said::Said;
 use counter_routes::Routes;
 use serde_json::Value;
+use sqlite::{Alter, Connection};
 use std::alloc::Global;
-use std::ops::Range;
-use std::time::Clock;
 use till_book::BookReply;
-use till_desk::Server;
 use till_shows::{Column, Row, Side, Table, asks_for, refusal_in, reply_line};
+use till_work::Server;
 
-/// What became of an entry, in a few words.
+/// Returns the outcome of an entry in a few words.
 fn outcome(alloc: Global, is_office: bool, reply: Option<&BookReply>) -> Result<String, TillFault> {
     let Some(reply) = reply else {
         return Ok(String::from_str(alloc, "waits")?);
@@ -93,43 +99,48 @@ fn words_line(alloc: Global, request: Option<&[u8]>) -> Result<String, TillFault
     Ok(line)
 }
 
-/// What the entry at that place asks for.
-fn asked_at(alloc: Global, routes: &Routes, book: &Book, at: usize) -> Result<String, TillFault> {
-    match book.command_at(alloc, routes, at) {
+/// Returns what the entry at that place asks for.
+fn asked_at(
+    alloc: Global,
+    routes: &Routes,
+    entries: &EntriesAfter,
+    at: usize,
+) -> Result<String, TillFault> {
+    match entries.command_at(alloc, routes, at) {
         Ok(command) => asks_for(alloc, &command).map_err(|_| TillFault::Memory),
-        Err(TillFault::OtherBook) => words_line(alloc, book.request_at(at)),
+        Err(TillFault::OtherBook) => words_line(alloc, entries.request_at(at)),
         Err(fault) => Err(fault),
     }
 }
 
-/// One more row of the table.
+/// Adds a row to the table.
 fn add_row(
     alloc: Global,
-    at: usize,
+    number: usize,
     what: String,
     became: String,
     table: &mut Table,
 ) -> Result<(), TillFault> {
     let mut row = Row::new(alloc);
-    row.push(format!(in alloc; "{}", at.saturating_add(1))?)?;
+    row.push(format!(in alloc; "{number}")?)?;
     row.push(what)?;
     row.push(became)?;
     table.add(row)?;
     Ok(())
 }
 
-/// A row for the entry at that place.
+/// Adds a row for the entry at that place.
 fn add_entry(
     alloc: Global,
     routes: &Routes,
     is_office: bool,
-    book: &Book,
+    entries: &EntriesAfter,
     at: usize,
     table: &mut Table,
 ) -> Result<(), TillFault> {
-    let what = asked_at(alloc, routes, book, at)?;
-    let became = outcome(alloc, is_office, book.told_at(at))?;
-    add_row(alloc, at, what, became, table)
+    let what = asked_at(alloc, routes, entries, at)?;
+    let became = outcome(alloc, is_office, entries.reply_at(at))?;
+    add_row(alloc, entries.number_at(at), what, became, table)
 }
 
 /// What a list of entries has.
@@ -148,49 +159,78 @@ const COLUMNS: [Column; 3] = [
     },
 ];
 
-/// Returns a table of the entries at these places.
+/// Returns a table of the first entries, up to that many.
 fn entries_table(
     alloc: Global,
     routes: &Routes,
     is_office: bool,
-    book: &Book,
-    places: Range<usize>,
+    entries: &EntriesAfter,
+    most: usize,
 ) -> Result<Table, TillFault> {
     let mut table = Table::new(alloc, &COLUMNS)?;
-    for at in places {
-        add_entry(alloc, routes, is_office, book, at, &mut table)?;
+    for at in 0..entries.len().min(most) {
+        add_entry(alloc, routes, is_office, entries, at, &mut table)?;
     }
     Ok(table)
 }
 
-/// Shows the entries at these places as a table.
-pub(crate) fn entries_at<K: Clock, V: Server, L: Shelf>(
+/// Shows the first of the entries as a table, up to that many.
+fn shown<K: WallClock, V: Server, L: Shelf>(
     desk: &Desk<'_, K, V, L>,
-    book: &Book,
-    places: Range<usize>,
+    entries: &EntriesAfter,
+    most: u32,
     none: &str,
 ) -> Result<Said, TillFault> {
     let (alloc, is_office) = (desk.alloc, desk.settings.staff.is_none());
-    let table = entries_table(alloc, desk.routes, is_office, book, places)?;
+    let table = entries_table(alloc, desk.routes, is_office, entries, most as usize)?;
     let mut said = Said::done(alloc);
     says_table(alloc, &table, none, &mut said)?;
     Ok(said)
 }
 
-/// The entries that have no reply yet.
-pub(crate) fn waiting_entries<K: Clock, V: Server, L: Shelf>(
+/// Shows the entries after that number as a table, up to that many. The book stays.
+pub(crate) fn entries_after<S: Alter, K: WallClock, V: Server, L: Shelf>(
     desk: &Desk<'_, K, V, L>,
-    book: &Book,
-) -> Result<Said, TillFault> {
-    entries_at(desk, book, book.replies()..book.len(), "nothing waits")
+    conn: &mut Connection<S>,
+    number: u32,
+    most: u32,
+    none: &str,
+) -> Result<Said, TillFault>
+    requires { conn.old.in_transaction ≡ false }
+    ensures ended { conn.new.in_transaction ≡ false }
+    ensures clean { HasCleanDisk (state S.Store conn.new) → HasCleanDisk (state S.Store conn.old) }
+    ensures stays { HasCleanDisk (state S.Store conn.new) → Stays (state S.Store conn.old) (state S.Store conn.new) }
+{
+    let entries = EntriesAfter::read(desk.alloc, conn, number)?;
+    shown(desk, &entries, most, none)
 }
 
-/// The last so many entries, with what became of them.
-pub(crate) fn last_entries<K: Clock, V: Server, L: Shelf>(
+/// Shows the entries that have no reply yet. The book stays.
+pub(crate) fn waiting_entries<S: Alter, K: WallClock, V: Server, L: Shelf>(
     desk: &Desk<'_, K, V, L>,
+    conn: &mut Connection<S>,
+    book: &Book,
+) -> Result<Said, TillFault>
+    requires { conn.old.in_transaction ≡ false }
+    ensures ended { conn.new.in_transaction ≡ false }
+    ensures clean { HasCleanDisk (state S.Store conn.new) → HasCleanDisk (state S.Store conn.old) }
+    ensures stays { HasCleanDisk (state S.Store conn.new) → Stays (state S.Store conn.old) (state S.Store conn.new) }
+{
+    entries_after(desk, conn, book.place.replies, u32::MAX, "nothing waits")
+}
+
+/// Shows the last entries, up to that many, with their outcomes. The book stays.
+pub(crate) fn last_entries<S: Alter, K: WallClock, V: Server, L: Shelf>(
+    desk: &Desk<'_, K, V, L>,
+    conn: &mut Connection<S>,
     book: &Book,
     count: u32,
-) -> Result<Said, TillFault> {
-    let first = book.len().saturating_sub(count as usize);
-    entries_at(desk, book, first..book.len(), "nothing was entered yet")
+) -> Result<Said, TillFault>
+    requires { conn.old.in_transaction ≡ false }
+    ensures ended { conn.new.in_transaction ≡ false }
+    ensures clean { HasCleanDisk (state S.Store conn.new) → HasCleanDisk (state S.Store conn.old) }
+    ensures stays { HasCleanDisk (state S.Store conn.new) → Stays (state S.Store conn.old) (state S.Store conn.new) }
+{
+    let first = book.place.entries.saturating_sub(count);
+    entries_after(desk, conn, first, count, "nothing was entered yet")
 }

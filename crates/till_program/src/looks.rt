@@ -2,24 +2,24 @@
 
 use crate::answers::{says_all, says_holder, says_lines, says_list, says_sales, says_table};
 use crate::caches::Shelf;
+use crate::clock::WallClock;
 use crate::commands::called;
 use crate::desk::Desk;
 use crate::fault::TillFault;
 use crate::lists::{List, found, name_of, title_of};
 use crate::said::Said;
 use shop_types::{Ask, CopyNo, CustomerNo, FilmNo, Moment, Refusal, View};
-use std::time::Clock;
 use till_client::Answer;
-use till_desk::Server;
 use till_requests::{look_request, view_request};
 use till_shows::{Table, customer_sheet, holder, refusal_in};
 use till_words::TillLook;
+use till_work::Server;
 
 /// Below this a number is too short to be looked for in telephone numbers.
 const SHORT: u32 = 100;
 
 /// The answer to a look.
-fn looked<K: Clock, V: Server, L: Shelf>(
+fn looked<K: WallClock, V: Server, L: Shelf>(
     desk: &Desk<'_, K, V, L>,
     ask: &Ask,
 ) -> Result<Answer, TillFault> {
@@ -27,7 +27,7 @@ fn looked<K: Clock, V: Server, L: Shelf>(
     desk.ask(request.as_slice())
 }
 
-fn viewed<K: Clock, V: Server, L: Shelf>(
+fn viewed<K: WallClock, V: Server, L: Shelf>(
     desk: &Desk<'_, K, V, L>,
     view: View,
 ) -> Result<Answer, TillFault> {
@@ -36,7 +36,7 @@ fn viewed<K: Clock, V: Server, L: Shelf>(
 }
 
 /// Says the table of what is asked for, or that nothing is in it.
-fn table_look<K: Clock, V: Server, L: Shelf>(
+fn table_look<K: WallClock, V: Server, L: Shelf>(
     desk: &Desk<'_, K, V, L>,
     ask: &Ask,
     none: &str,
@@ -50,7 +50,7 @@ fn table_look<K: Clock, V: Server, L: Shelf>(
 }
 
 /// The name of the customer whose balance is asked for; nobody's for anything else.
-fn name_in<K: Clock, V: Server, L: Shelf>(
+fn name_in<K: WallClock, V: Server, L: Shelf>(
     desk: &Desk<'_, K, V, L>,
     ask: &Ask,
 ) -> Result<String, TillFault> {
@@ -61,7 +61,7 @@ fn name_in<K: Clock, V: Server, L: Shelf>(
 }
 
 /// Says what is asked for of one thing, as lines.
-fn line_look<K: Clock, V: Server, L: Shelf>(
+fn line_look<K: WallClock, V: Server, L: Shelf>(
     desk: &Desk<'_, K, V, L>,
     ask: &Ask,
     said: &mut Said,
@@ -75,7 +75,7 @@ fn line_look<K: Clock, V: Server, L: Shelf>(
 }
 
 /// The holder's name, where there is one.
-fn holder_name<K: Clock, V: Server, L: Shelf>(
+fn holder_name<K: WallClock, V: Server, L: Shelf>(
     desk: &Desk<'_, K, V, L>,
     who: &Option<CustomerNo>,
 ) -> Result<Option<String>, TillFault> {
@@ -86,7 +86,7 @@ fn holder_name<K: Clock, V: Server, L: Shelf>(
 }
 
 /// Who has the copy, by number and name.
-fn held_by<K: Clock, V: Server, L: Shelf>(
+fn held_by<K: WallClock, V: Server, L: Shelf>(
     desk: &Desk<'_, K, V, L>,
     copy: CopyNo,
     said: &mut Said,
@@ -101,7 +101,7 @@ fn held_by<K: Clock, V: Server, L: Shelf>(
 }
 
 /// The film's title, and its copies in stock and out.
-fn copies<K: Clock, V: Server, L: Shelf>(
+fn copies<K: WallClock, V: Server, L: Shelf>(
     desk: &Desk<'_, K, V, L>,
     film: FilmNo,
     said: &mut Said,
@@ -119,7 +119,7 @@ fn copies<K: Clock, V: Server, L: Shelf>(
 }
 
 /// What customers paid for rentals, in all or by category.
-fn sales_by<K: Clock, V: Server, L: Shelf>(
+fn sales_by<K: WallClock, V: Server, L: Shelf>(
     desk: &Desk<'_, K, V, L>,
     view: View,
     said: &mut Said,
@@ -132,7 +132,7 @@ fn sales_by<K: Clock, V: Server, L: Shelf>(
 }
 
 /// Customers or films that are looked for by a part of their texts; for a program the whole list.
-fn search<K: Clock, V: Server, L: Shelf>(
+fn search<K: WallClock, V: Server, L: Shelf>(
     desk: &Desk<'_, K, V, L>,
     list: List,
     part: &str,
@@ -147,7 +147,7 @@ fn search<K: Clock, V: Server, L: Shelf>(
 
 /// Those who have a customer's number in their telephone number, where that is no short one: a number that no
 /// customer of the branch has may be meant so.
-fn with_phone<K: Clock, V: Server, L: Shelf>(
+fn with_phone<K: WallClock, V: Server, L: Shelf>(
     desk: &Desk<'_, K, V, L>,
     customer: CustomerNo,
     answer: &Answer,
@@ -163,7 +163,7 @@ fn with_phone<K: Clock, V: Server, L: Shelf>(
 }
 
 /// The customer of a number, or those who have it in their telephone number.
-fn customer_look<K: Clock, V: Server, L: Shelf>(
+fn customer_look<K: WallClock, V: Server, L: Shelf>(
     desk: &Desk<'_, K, V, L>,
     customer: CustomerNo,
     said: &mut Said,
@@ -182,7 +182,7 @@ fn customer_look<K: Clock, V: Server, L: Shelf>(
 }
 
 /// What customers paid for rentals, in all and then by category.
-fn sales<K: Clock, V: Server, L: Shelf>(
+fn sales<K: WallClock, V: Server, L: Shelf>(
     desk: &Desk<'_, K, V, L>,
     said: &mut Said,
 ) -> Result<(), TillFault> {
@@ -191,7 +191,7 @@ fn sales<K: Clock, V: Server, L: Shelf>(
 }
 
 /// What a customer owes now, or at the last entry's moment where that is later.
-fn balance<K: Clock, V: Server, L: Shelf>(
+fn balance<K: WallClock, V: Server, L: Shelf>(
     desk: &Desk<'_, K, V, L>,
     customer: CustomerNo,
     last: Option<Moment>,
@@ -202,7 +202,7 @@ fn balance<K: Clock, V: Server, L: Shelf>(
 }
 
 /// Looks, and puts what is said of it.
-fn put_look<K: Clock, V: Server, L: Shelf>(
+fn put_look<K: WallClock, V: Server, L: Shelf>(
     desk: &Desk<'_, K, V, L>,
     look: &TillLook,
     last: Option<Moment>,
@@ -235,7 +235,7 @@ fn put_look<K: Clock, V: Server, L: Shelf>(
 }
 
 /// Does a look of the words, and says what it shows; `last` is the last entry's moment.
-pub(crate) fn look<K: Clock, V: Server, L: Shelf>(
+pub(crate) fn look<K: WallClock, V: Server, L: Shelf>(
     desk: &Desk<'_, K, V, L>,
     look: TillLook,
     last: Option<Moment>,

@@ -3,20 +3,21 @@
 ghost use Rattle.std.specs.Prelude.{◌≡◌, false};
 ghost use Rattle.sqlite.specs.Held.{state};
 ghost use Rattle.sqlite.specs.State.{HasCleanDisk};
-ghost use Rattle.till_desk.specs.Desk.{Grows};
+ghost use Rattle.till_work.specs.Told.{IsTold};
+ghost use Rattle.till_work.specs.Desk.{Grows};
 ghost use Rattle.till_program.specs.Faults.{IsBookKept};
 
 use crate::answers::office_said;
 use crate::book::Book;
 use crate::caches::Shelf;
+use crate::clock::WallClock;
 use crate::desk::Desk;
 use crate::fault::TillFault;
 use crate::said::Said;
 use crate::sendings::send_all;
 use sqlite::{Alter, Connection};
-use std::time::Clock;
-use till_desk::{Place, Server, Watch, enter_request};
 use till_requests::{NotSaid, office_look_request, office_request};
+use till_work::{Place, Server, Watch, enter_request};
 
 /// Words that are none, or can't be sent.
 fn unsaid(fault: NotSaid) -> Result<Said, TillFault> {
@@ -28,7 +29,7 @@ fn unsaid(fault: NotSaid) -> Result<Said, TillFault> {
 }
 
 /// What a reading of head office shows.
-pub(crate) fn read_office<K: Clock, V: Server, L: Shelf>(
+pub(crate) fn read_office<K: WallClock, V: Server, L: Shelf>(
     desk: &Desk<'_, K, V, L>,
     words: &[String],
 ) -> Result<Said, TillFault> {
@@ -42,7 +43,7 @@ pub(crate) fn read_office<K: Clock, V: Server, L: Shelf>(
 }
 
 /// The bytes of a command of head office, with the key of the entry of that number.
-fn office_bytes<K: Clock, V: Server, L: Shelf>(
+fn office_bytes<K: WallClock, V: Server, L: Shelf>(
     desk: &Desk<'_, K, V, L>,
     number: u32,
     words: &[String],
@@ -60,7 +61,7 @@ fn office_bytes<K: Clock, V: Server, L: Shelf>(
 }
 
 /// Enters those bytes, and sends them until they are answered.
-fn give_request<S: Alter, K: Clock, V: Server, L: Shelf, W: Watch>(
+fn give_request<S: Alter, K: WallClock, V: Server, L: Shelf, W: Watch>(
     desk: &Desk<'_, K, V, L>,
     conn: &mut Connection<S>,
     place: &mut Place,
@@ -71,7 +72,8 @@ fn give_request<S: Alter, K: Clock, V: Server, L: Shelf, W: Watch>(
     ensures ended { conn.new.in_transaction ≡ false }
     ensures clean { HasCleanDisk (state S.Store conn.new) → HasCleanDisk (state S.Store conn.old) }
     ensures grows { HasCleanDisk (state S.Store conn.new) → IsBookKept result
-        → Grows place.old (state S.Store conn.old) place.new (state S.Store conn.new) }
+        → Grows (IsTold (V.opens desk.now.server.now) V.Reader.remaining V.Writer.contents) place.old (state S.Store
+        conn.old) place.new (state S.Store conn.new) }
 {
     match enter_request(conn, place, request) {
         Ok(()) => {}
@@ -85,7 +87,7 @@ fn give_request<S: Alter, K: Clock, V: Server, L: Shelf, W: Watch>(
 }
 
 /// Enters a command of head office, with a key of the book's, and sends it until it is answered.
-pub(crate) fn give_office<S: Alter, K: Clock, V: Server, L: Shelf, W: Watch>(
+pub(crate) fn give_office<S: Alter, K: WallClock, V: Server, L: Shelf, W: Watch>(
     desk: &Desk<'_, K, V, L>,
     conn: &mut Connection<S>,
     book: &mut Book,
@@ -96,7 +98,8 @@ pub(crate) fn give_office<S: Alter, K: Clock, V: Server, L: Shelf, W: Watch>(
     ensures ended { conn.new.in_transaction ≡ false }
     ensures clean { HasCleanDisk (state S.Store conn.new) → HasCleanDisk (state S.Store conn.old) }
     ensures grows { HasCleanDisk (state S.Store conn.new) → IsBookKept result
-        → Grows book.old.place (state S.Store conn.old) book.new.place (state S.Store conn.new) }
+        → Grows (IsTold (V.opens desk.now.server.now) V.Reader.remaining V.Writer.contents) book.old.place (state
+        S.Store conn.old) book.new.place (state S.Store conn.new) }
 {
     let number = book.place.entries.checked_add(1).ok_or(TillFault::Full)?;
     match office_bytes(desk, number, words) {

@@ -1,33 +1,36 @@
 //! The program for one list of words.
 
-ghost use Rattle.std.specs.Prelude.{◌≡◌, false};
+ghost use Rattle.std.specs.Prelude.{◌≡◌, false, IfErr, IfSome};
+ghost use Rattle.sqlite.specs.Held.{state};
+ghost use Rattle.sqlite.specs.State.{HasCleanDisk};
+ghost use Rattle.till_work.specs.Told.{IsTold};
+ghost use Rattle.till_program.specs.Word.{EntersNothing};
 
 use crate::caches::Shelf;
+use crate::clock::WallClock;
 use crate::desk::Desk;
 use crate::fault::TillFault;
-use crate::files::{FileShelf, is_there, open_at};
-use crate::init::{begin, settings_of};
+use crate::files::FileShelf;
+use crate::init::begin;
+use crate::opening::{OpenBook, Tools, close_held, opened};
 use crate::prompt::prompt;
 use crate::said::Said;
 use crate::settling::make_sure;
 use crate::tcp::Tcp;
 use crate::word::do_word;
-use counter_routes::Routes;
 use shop_types::{Act, StaffNo, StockFile, Usage};
 use sqlite::{Alter, Connection, FileStore};
 use sqlite_std_file::File;
 use std::fs;
 use std::io::Write;
 use std::time::{Clock, Duration};
-use till_desk::{Server, Watch};
-use till_files::close_book;
-use till_requests::Settings;
 use till_words::{FileName, TillAct, TillLine, asks_for_help, help_text, read_till_words};
+use till_work::{Server, Watch};
 
-/// The book's file, where none is named.
+/// The book's file, if none is named.
 const BOOK: &str = "till.book";
 
-/// Tells on standard error how far a sending is, behind its first second, and then once a second.
+/// Reports on standard error how far a sending is, after its first second and then once a second.
 #[derive(Drop)]
 struct Progress<'a> {
     rt: &'a HostRuntime,
@@ -44,7 +47,7 @@ impl Watch for Progress<'_> {
     }
 }
 
-/// The act with its stock file read, where it names one.
+/// Returns the act with its stock file read, if it names one.
 fn with_file(rt: &HostRuntime, act: TillAct) -> Result<TillAct, TillFault> {
     match act {
         TillAct::Import { file, lot } => {
@@ -60,8 +63,10 @@ fn with_file(rt: &HostRuntime, act: TillAct) -> Result<TillAct, TillFault> {
     }
 }
 
-/// Prints what a word came to, and tells its status.
-fn print<W: Write, E: Write>(said: Result<Said, TillFault>, out: &mut W, err: &mut E) -> u8 {
+/// Prints what a word resulted in, and returns its status. That is 0 only if the word was done.
+fn print<W: Write, E: Write>(said: Result<Said, TillFault>, out: &mut W, err: &mut E) -> u8
+    ensures { result ≡ 0 → IfErr said (λ _. ⊥) }
+{
     match said {
         Ok(Said { text, status: 0 }) => {
             let is_out = write!(out, "{text}").is_ok() && out.flush().is_ok();
@@ -78,30 +83,59 @@ fn print<W: Write, E: Write>(said: Result<Said, TillFault>, out: &mut W, err: &m
     }
 }
 
-/// Does a word at an open book, and prints what it came to. Where it is done, refused entries are made sure of behind
-/// it: what that comes to is printed where it comes to anything, and else it is for another time.
-fn word_at<S: Alter, K: Clock, V: Server, L: Shelf, W: Write, E: Write>(
+/// The status of a word, and whether the book failed at it: then it is to be opened anew.
+#[derive(Clone, Copy)]
+struct Outcome {
+    status: u8,
+    is_failed: bool,
+}
+
+/// Makes sure of refused entries after a word, and prints what that results in. Returns whether the book failed.
+fn sure_at<S: Alter, K: WallClock, V: Server, L: Shelf, W: Write, E: Write>(
+    desk: &Desk<'_, K, V, L>,
+    conn: &mut Connection<S>,
+    out: &mut W,
+    err: &mut E,
+) -> bool
+    requires { conn.old.in_transaction ≡ false }
+    ensures ended { conn.new.in_transaction ≡ false }
+    ensures clean { HasCleanDisk (state S.Store conn.new) → HasCleanDisk (state S.Store conn.old) }
+    ensures same { HasCleanDisk (state S.Store conn.new) → result ≡ false
+        → EntersNothing (IsTold (V.opens desk.now.server.now) V.Reader.remaining V.Writer.contents) (state S.Store
+        conn.old) (state S.Store conn.new) }
+{
+    let mut more = Said::done(desk.alloc);
+    let sure = make_sure(desk, conn, &mut more);
+    print(Ok(more), out, err);
+    matches!(sure, Err(TillFault::Book))
+}
+
+/// Does a word at an open book, and prints what it resulted in. If it was done, refused entries are made sure of after
+/// it: what comes of that is printed, and what can't be asked now is left for another time.
+fn word_at<S: Alter, K: WallClock, V: Server, L: Shelf, W: Write, E: Write>(
     desk: &Desk<'_, K, V, L>,
     conn: &mut Connection<S>,
     act: TillAct,
     watch: &mut Progress<'_>,
     out: &mut W,
     err: &mut E,
-) -> u8
+) -> Outcome
     requires { conn.old.in_transaction ≡ false }
     ensures ended { conn.new.in_transaction ≡ false }
 {
     let said = do_word(desk, conn, act, watch);
+    let is_failed = matches!(said, Err(TillFault::Book));
     let status = print(said, out, err);
-    if status == 0 {
-        let mut more = Said::done(desk.alloc);
-        let _ = make_sure(desk, conn, &mut more);
-        print(Ok(more), out, err);
+    if status != 0 {
+        return Outcome { status, is_failed };
     }
-    status
+    Outcome {
+        status,
+        is_failed: sure_at(desk, conn, out, err),
+    }
 }
 
-/// A word, how its answer is printed, and who gives it, where it isn't whose till it is.
+/// A word, how its answer is printed, and who gives it, if it isn't the member of staff whose till it is.
 #[derive(Drop)]
 struct Word {
     is_json: bool,
@@ -109,43 +143,17 @@ struct Word {
     act: TillAct,
 }
 
-/// What a word wants beside its book: the settings, the server's own reader of requests, and when it began.
-#[derive(Drop)]
-struct Tools {
-    settings: Settings,
-    routes: Routes,
-    begun: Duration,
-}
-
-/// Those of the book of that name.
-fn tools_of(rt: &HostRuntime, book: &str) -> Result<Tools, TillFault> {
-    if !is_there(rt, book) {
-        return Err(TillFault::NoBook);
-    }
-    let begun = rt.monotonic()?;
-    let settings = settings_of(rt, book)?;
-    match Routes::new(rt.alloc()) {
-        Ok(routes) => Ok(Tools {
-            settings,
-            routes,
-            begun,
-        }),
-        Err(_) => Err(TillFault::Memory),
-    }
-}
-
-/// Does a word with these tools at the open book of that name, prints what it came to, closes the book, and tells the
-/// status.
+/// Does a word with these tools at an open book, and prints what it resulted in.
 fn with_tools<'x, W: Write, E: Write>(
     rt: &'x HostRuntime,
-    book: &'x str,
     tools: &'x Tools,
-    mut conn: Connection<FileStore<File>>,
+    conn: &mut Connection<FileStore<File>>,
     word: Word,
     out: &mut W,
     err: &mut E,
-) -> u8
-    requires { conn.in_transaction ≡ false }
+) -> Outcome
+    requires { conn.old.in_transaction ≡ false }
+    ensures { conn.new.in_transaction ≡ false }
 {
     let Word {
         is_json,
@@ -156,7 +164,10 @@ fn with_tools<'x, W: Write, E: Write>(
         rt,
         address: tools.settings.address.as_str(),
     };
-    let shelf = FileShelf { rt, book };
+    let shelf = FileShelf {
+        rt,
+        book: tools.name.as_str(),
+    };
     let desk = Desk {
         alloc: rt.alloc(),
         clock: rt,
@@ -167,29 +178,38 @@ fn with_tools<'x, W: Write, E: Write>(
         staff,
         is_json,
     };
+    let begun = rt.monotonic().unwrap_or(Duration::ZERO);
     let mut watch = Progress {
         rt,
-        next: tools.begun.saturating_add(Duration::from_secs(1)),
+        next: begun.saturating_add(Duration::from_secs(1)),
     };
-    let status = word_at(&desk, &mut conn, act, &mut watch, out, err);
-    drop(close_book(conn));
-    status
+    word_at(&desk, conn, act, &mut watch, out, err)
 }
 
-/// Does a word at the book of that name, prints what it came to, and tells its status.
+/// Does a word at the book of that name, prints what it resulted in, and returns its status. The book stays open, and
+/// is held, unless it failed.
 fn at_book<W: Write, E: Write>(
     rt: &HostRuntime,
-    book: &str,
+    name: &str,
+    held: &mut Option<OpenBook>,
     word: Word,
     out: &mut W,
     err: &mut E,
-) -> Result<u8, TillFault> {
-    let tools = tools_of(rt, book)?;
-    let conn = open_at(rt, book)?;
-    Ok(with_tools(rt, book, &tools, conn, word, out, err))
+) -> Result<u8, TillFault>
+    requires { IfSome held.old (λ book. book.conn.in_transaction ≡ false) }
+    ensures { IfSome held.new (λ book. book.conn.in_transaction ≡ false) }
+{
+    let mut book = opened(rt, name, held)?;
+    let outcome = with_tools(rt, &book.tools, &mut book.conn, word, out, err);
+    if outcome.is_failed {
+        book.close();
+    } else {
+        *held = Some(book);
+    }
+    Ok(outcome.status)
 }
 
-/// The name of the book's file.
+/// Returns the name of the book's file.
 fn book_of(rt: &HostRuntime, named: &Option<FileName>) -> Result<String, TillFault> {
     let name = match named {
         Some(name) => name.as_str(),
@@ -198,14 +218,18 @@ fn book_of(rt: &HostRuntime, named: &Option<FileName>) -> Result<String, TillFau
     Ok(String::from_str(rt.alloc(), name)?)
 }
 
-/// Does what a line of words asks for, but for a prompt, of which there is only one, prints what it came to, and
-/// tells its status.
+/// Does what a line of words asks for, prints what it resulted in, and returns its status. A prompt in a line is
+/// answered by the words that there are.
 fn perform_line<W: Write, E: Write>(
     rt: &HostRuntime,
     line: TillLine,
+    held: &mut Option<OpenBook>,
     out: &mut W,
     err: &mut E,
-) -> Result<u8, TillFault> {
+) -> Result<u8, TillFault>
+    requires { IfSome held.old (λ book. book.conn.in_transaction ≡ false) }
+    ensures { IfSome held.new (λ book. book.conn.in_transaction ≡ false) }
+{
     let TillLine {
         book,
         is_json,
@@ -214,7 +238,10 @@ fn perform_line<W: Write, E: Write>(
     } = line;
     let book = book_of(rt, &book)?;
     match act {
-        TillAct::Init(beginning) => Ok(print(begin(rt, book.as_str(), beginning), out, err)),
+        TillAct::Init(beginning) => {
+            close_held(held);
+            Ok(print(begin(rt, book.as_str(), beginning), out, err))
+        }
         TillAct::Help | TillAct::Prompt => Ok(print(help(rt), out, err)),
         act => {
             let act = with_file(rt, act)?;
@@ -223,19 +250,19 @@ fn perform_line<W: Write, E: Write>(
                 staff,
                 act,
             };
-            at_book(rt, book.as_str(), word, out, err)
+            at_book(rt, book.as_str(), held, word, out, err)
         }
     }
 }
 
-/// The words that there are.
+/// Returns the words that there are.
 fn help(rt: &HostRuntime) -> Result<Said, TillFault> {
     let mut text = help_text(rt.alloc())?;
     text.push_str("\nAt the prompt, exit or quit ends it.\n")?;
     Ok(Said { text, status: 0 })
 }
 
-/// Says how words are to be given. Where they ask for that by `--help`, it is what they wanted.
+/// Says how words are to be given. If they ask for that by `--help`, it is what they wanted.
 fn usage(rt: &HostRuntime, words: &[String], text: &str) -> Result<Said, TillFault> {
     let mut said = Said::done(rt.alloc());
     said.line(text.trim_end())?;
@@ -245,15 +272,20 @@ fn usage(rt: &HostRuntime, words: &[String], text: &str) -> Result<Said, TillFau
     Ok(said)
 }
 
-/// Does what words ask for that aren't a prompt's beginning.
+/// Does what words ask for that don't begin a prompt, and returns the status. The book that is held is closed if
+/// another is named; the book of the words is held after them, unless it failed.
 pub(crate) fn perform_words<W: Write, E: Write>(
     rt: &HostRuntime,
     words: &[String],
+    held: &mut Option<OpenBook>,
     out: &mut W,
     err: &mut E,
-) -> u8 {
+) -> u8
+    requires { IfSome held.old (λ book. book.conn.in_transaction ≡ false) }
+    ensures { IfSome held.new (λ book. book.conn.in_transaction ≡ false) }
+{
     match read_till_words(rt.alloc(), words) {
-        Ok(line) => match perform_line(rt, line, out, err) {
+        Ok(line) => match perform_line(rt, line, held, out, err) {
             Ok(status) => status,
             Err(fault) => print(Err(fault), out, err),
         },
@@ -262,9 +294,22 @@ pub(crate) fn perform_words<W: Write, E: Write>(
     }
 }
 
-/// The whole program for its words, without its own name: it prints on `out` what a word came to, and on `err` why it
-/// was refused or not done, and answers the status: 0 done, 1 refused, 2 usage, 3 a fault of the till's own, 4 not
-/// answered yet, but in the book. Without a word it reads lines of words from standard input.
+/// Opens the book for words that don't begin a prompt, does what they ask for, and closes it.
+fn perform_once<W: Write, E: Write>(
+    rt: &HostRuntime,
+    words: &[String],
+    out: &mut W,
+    err: &mut E,
+) -> u8 {
+    let mut held = None;
+    let status = perform_words(rt, words, &mut held, out, err);
+    close_held(&mut held);
+    status
+}
+
+/// Runs the whole program for its words, without its own name. It prints on `out` what a word resulted in, and on
+/// `err` why it was refused or not done. Returns the status: 0 done, 1 refused, 2 usage, 3 a fault of the till's own, 4
+/// not answered yet, but in the book. Without a word it reads lines of words from standard input.
 pub fn run<W: Write, E: Write>(rt: &HostRuntime, words: &[String], out: &mut W, err: &mut E) -> u8 {
     let is_prompt = matches!(
         read_till_words(rt.alloc(), words),
@@ -274,7 +319,7 @@ pub fn run<W: Write, E: Write>(rt: &HostRuntime, words: &[String], out: &mut W, 
         })
     );
     if !is_prompt {
-        return perform_words(rt, words, out, err);
+        return perform_once(rt, words, out, err);
     }
     match prompt(rt, words, out, err) {
         Ok(status) => status,

@@ -1,11 +1,18 @@
 //! The prompt, which reads lines of words.
 
+ghost use Rattle.std.specs.Prelude.{◌≡◌, false, IfSome};
+
 use crate::fault::TillFault;
+use crate::input::has_input;
+use crate::opening::{OpenBook, close_held, close_if_asked};
 use crate::program::perform_words;
 use std::io::{ErrorKind, Write};
 use till_words::split_line;
 
-/// Whether the words end the prompt.
+/// For how many milliseconds a line is waited for before another look at whether another window asks for the book.
+const LOOKS: i32 = 500;
+
+/// Tests whether the words end the prompt.
 fn is_end(words: &[String]) -> bool {
     match words {
         [word] => word.as_str() == "exit" || word.as_str() == "quit",
@@ -13,14 +20,18 @@ fn is_end(words: &[String]) -> bool {
     }
 }
 
-/// Does what a line asks for, and tells whether the prompt goes on.
+/// Does what a line asks for, and returns whether the prompt goes on.
 fn perform_line<W: Write, E: Write>(
     rt: &HostRuntime,
     before: &[String],
     line: &str,
+    held: &mut Option<OpenBook>,
     out: &mut W,
     err: &mut E,
-) -> Result<bool, TillFault> {
+) -> Result<bool, TillFault>
+    requires { IfSome held.old (λ book. book.conn.in_transaction ≡ false) }
+    ensures { IfSome held.new (λ book. book.conn.in_transaction ≡ false) }
+{
     let alloc = rt.alloc();
     let Ok(more) = split_line(alloc, line) else {
         writeln!(
@@ -38,24 +49,56 @@ fn perform_line<W: Write, E: Write>(
             words.push(word.clone()?)?;
         }
         words.extend(more)?;
-        perform_words(rt, words.as_slice(), out, err);
+        perform_words(rt, words.as_slice(), held, out, err);
     }
     Ok(true)
 }
 
-/// Reads lines of words to the end of the input, or to `exit` or `quit`, and does what each asks for. The words
-/// before the prompt's own, which name the book, stand before each line.
-pub(crate) fn prompt<W: Write, E: Write>(
+/// Waits for the next line as long as a book is held. The book is closed as soon as another window asks for it.
+///
+/// Standard input is read byte by byte from a terminal or a pipe, so nothing is read ahead, and a file always has input.
+fn wait(rt: &HostRuntime, held: &mut Option<OpenBook>)
+    requires { IfSome held.old (λ book. book.conn.in_transaction ≡ false) }
+    ensures { IfSome held.new (λ book. book.conn.in_transaction ≡ false) }
+{
+    'looks: for _ in 0..u64::MAX {
+        if held.is_none() || has_input(LOOKS) {
+            return;
+        }
+        close_if_asked(rt, held);
+    }
+}
+
+/// Prints that a line is wanted, and waits for one as long as a book is held.
+fn invite<W: Write>(
     rt: &HostRuntime,
-    before: &[String],
+    held: &mut Option<OpenBook>,
     out: &mut W,
-    err: &mut E,
-) -> Result<u8, TillFault> {
+) -> Result<(), TillFault>
+    requires { IfSome held.old (λ book. book.conn.in_transaction ≡ false) }
+    ensures { IfSome held.new (λ book. book.conn.in_transaction ≡ false) }
+{
     write!(out, "till> ")?;
     out.flush()?;
-    for line in rt.lines(rt.alloc()) {
+    wait(rt, held);
+    Ok(())
+}
+
+/// Reads lines of words to the end of the input, or to `exit` or `quit`, and does what each asks for.
+fn perform_lines<W: Write, E: Write>(
+    rt: &HostRuntime,
+    before: &[String],
+    held: &mut Option<OpenBook>,
+    out: &mut W,
+    err: &mut E,
+) -> Result<(), TillFault>
+    requires { IfSome held.old (λ book. book.conn.in_transaction ≡ false) }
+    ensures { IfSome held.new (λ book. book.conn.in_transaction ≡ false) }
+{
+    invite(rt, held, out)?;
+    'lines: for line in rt.lines(rt.alloc()) {
         let goes_on = match line {
-            Ok(line) => perform_line(rt, before, line.as_str(), out, err)?,
+            Ok(line) => perform_line(rt, before, line.as_str(), held, out, err)?,
             Err(error) if error.kind() == ErrorKind::InvalidData => {
                 writeln!(err, "That line isn't UTF-8. Say it again in other letters.")?;
                 true
@@ -63,11 +106,26 @@ pub(crate) fn prompt<W: Write, E: Write>(
             Err(error) => return Err(TillFault::from(error)),
         };
         if !goes_on {
-            return Ok(0);
+            return Ok(());
         }
-        write!(out, "till> ")?;
-        out.flush()?;
+        invite(rt, held, out)?;
     }
     writeln!(out)?;
+    Ok(())
+}
+
+/// Reads lines of words to the end of the input, or to `exit` or `quit`, and does what each asks for. The words
+/// before the prompt's own, which name the book, are put before each line. The book is held open from word to word,
+/// until another window asks for it.
+pub(crate) fn prompt<W: Write, E: Write>(
+    rt: &HostRuntime,
+    before: &[String],
+    out: &mut W,
+    err: &mut E,
+) -> Result<u8, TillFault> {
+    let mut held = None;
+    let ended = perform_lines(rt, before, &mut held, out, err);
+    close_held(&mut held);
+    ended?;
     Ok(0)
 }

@@ -1,61 +1,80 @@
 //! A copy comes back: the rental is the register's, and what is owed is said.
 
+ghost use Rattle.std.specs.Prelude.{◌≡◌, false, Some, IfOk};
+ghost use Rattle.sqlite.specs.Held.{state};
+ghost use Rattle.sqlite.specs.State.{HasCleanDisk};
+ghost use Rattle.till_book.specs.Steps.{Stays};
+ghost use Rattle.till_program.specs.Word.{IsHeldIn};
+
 use crate::book::Book;
 use crate::caches::Shelf;
+use crate::clock::WallClock;
 use crate::commands::called;
 use crate::desk::Desk;
+use crate::entries::EntriesAfter;
 use crate::fault::TillFault;
-use counter_routes::Routes;
 use shop_types::{Act, Ask, CopyNo, CustomerNo, Moment, RentalNo};
-use std::alloc::Global;
-use std::time::Clock;
-use till_desk::Server;
-use till_register::{Entry, rental_of};
+use sqlite::{Alter, Connection};
+use till_book::{HeldRental, held_of, renter_of};
 use till_requests::look_request;
 use till_shows::balance_line;
+use till_work::Server;
 
-/// The customer whose accepted rent was told the rental, where the book has it.
-fn renter(
-    alloc: Global,
-    entries: &[Entry],
-    rental: RentalNo,
-) -> Result<Option<CustomerNo>, TillFault> {
-    for one in entries.chunks(1) {
-        let [entry] = one else {
-            continue;
-        };
-        if let Act::Rent { customer, copy } = &entry.command.act {
-            if let Some(told) = rental_of(alloc, one, *copy)? {
-                if told.get() == rental.get() {
-                    return Ok(Some(*customer));
-                }
-            }
+/// Tests whether the act is a rent of that copy.
+fn is_rent_of(act: &Act, copy: CopyNo) -> bool {
+    matches!(act, Act::Rent { copy: rented, .. } if rented.get() == copy.get())
+}
+
+/// Tests whether one of the entries is a rent of that copy. All have to be commands.
+fn has_rent_of<K: WallClock, V: Server, L: Shelf>(
+    desk: &Desk<'_, K, V, L>,
+    entries: &EntriesAfter,
+    copy: CopyNo,
+) -> Result<bool, TillFault> {
+    for at in 0..entries.len() {
+        let command = entries.command_at(desk.alloc, desk.routes, at)?;
+        if is_rent_of(&command.act, copy) {
+            return Ok(true);
         }
     }
-    Ok(None)
+    Ok(false)
 }
 
-/// Whether a rent of the copy has no reply yet.
-fn is_rent_waiting(entries: &[Entry], copy: CopyNo) -> bool {
-    entries.iter().any(|entry| match &entry.command.act {
-        Act::Rent {
-            customer: _,
-            copy: rented,
-        } => entry.reply.is_none() && rented.get() == copy.get(),
-        _ => false,
-    })
+/// Tests whether a rent of the copy has no reply yet. The book stays.
+fn is_rent_waiting<S: Alter, K: WallClock, V: Server, L: Shelf>(
+    desk: &Desk<'_, K, V, L>,
+    conn: &mut Connection<S>,
+    book: &Book,
+    copy: CopyNo,
+) -> Result<bool, TillFault>
+    requires { conn.old.in_transaction ≡ false }
+    ensures ended { conn.new.in_transaction ≡ false }
+    ensures clean { HasCleanDisk (state S.Store conn.new) → HasCleanDisk (state S.Store conn.old) }
+    ensures stays { HasCleanDisk (state S.Store conn.new) → Stays (state S.Store conn.old) (state S.Store conn.new) }
+{
+    let entries = EntriesAfter::read(desk.alloc, conn, book.place.replies)?;
+    has_rent_of(desk, &entries, copy)
 }
 
-/// The copy's rental, by the book alone.
-fn rental_in(alloc: Global, entries: &[Entry], copy: CopyNo) -> Result<RentalNo, TillFault> {
-    if is_rent_waiting(entries, copy) {
-        return Err(TillFault::RentWaits);
+/// Returns the rental that the register has of a copy, and its customer. Fails with `NoRental` if it has none. The
+/// book stays.
+fn held_at<S: Alter>(conn: &mut Connection<S>, copy: CopyNo) -> Result<HeldRental, TillFault>
+    requires { conn.old.in_transaction ≡ false }
+    ensures ended { conn.new.in_transaction ≡ false }
+    ensures clean { HasCleanDisk (state S.Store conn.new) → HasCleanDisk (state S.Store conn.old) }
+    ensures stays { HasCleanDisk (state S.Store conn.new) → Stays (state S.Store conn.old) (state S.Store conn.new) }
+    ensures held { HasCleanDisk (state S.Store conn.new)
+        → IfOk result (λ held. IsHeldIn copy held (state S.Store conn.old)) }
+{
+    match held_of(conn, copy) {
+        Ok(Some(held)) => Ok(held),
+        Ok(None) => Err(TillFault::NoRental),
+        Err(_) => Err(TillFault::Book),
     }
-    rental_of(alloc, entries, copy)?.ok_or(TillFault::NoRental)
 }
 
-/// What the customer owes now, as a line; `last` is the last entry's moment.
-pub(crate) fn owed<K: Clock, V: Server, L: Shelf>(
+/// Returns what the customer owes now, as a line; `last` is the last entry's moment.
+pub(crate) fn owed<K: WallClock, V: Server, L: Shelf>(
     desk: &Desk<'_, K, V, L>,
     customer: CustomerNo,
     last: Option<Moment>,
@@ -70,26 +89,39 @@ pub(crate) fn owed<K: Clock, V: Server, L: Shelf>(
     Ok(balance_line(desk.alloc, name.as_str(), answer.body.as_slice())?)
 }
 
-/// The customer whose rental it is, where the book knows it.
-pub(crate) fn customer_of(
-    alloc: Global,
-    routes: &Routes,
-    book: &Book,
+/// Returns the customer whose rental it is, if the book knows. The book stays.
+pub(crate) fn customer_of<S: Alter>(
+    conn: &mut Connection<S>,
     rental: RentalNo,
-) -> Result<Option<CustomerNo>, TillFault> {
-    let entries = book.entries(alloc, routes)?;
-    renter(alloc, entries.as_slice(), rental)
+) -> Result<Option<CustomerNo>, TillFault>
+    requires { conn.old.in_transaction ≡ false }
+    ensures ended { conn.new.in_transaction ≡ false }
+    ensures clean { HasCleanDisk (state S.Store conn.new) → HasCleanDisk (state S.Store conn.old) }
+    ensures stays { HasCleanDisk (state S.Store conn.new) → Stays (state S.Store conn.old) (state S.Store conn.new) }
+{
+    match renter_of(conn, rental) {
+        Ok(customer) => Ok(customer),
+        Err(_) => Err(TillFault::Book),
+    }
 }
 
-/// The rental that the book has of a copy, and its customer.
-pub(crate) fn rental_at(
-    alloc: Global,
-    routes: &Routes,
+/// Returns the rental that the register has of a copy, and its customer. Fails with `RentWaits` if a rent of the copy
+/// has no reply yet, and with `NoRental` if the register has no rental of it. The book stays.
+pub(crate) fn rental_at<S: Alter, K: WallClock, V: Server, L: Shelf>(
+    desk: &Desk<'_, K, V, L>,
+    conn: &mut Connection<S>,
     book: &Book,
     copy: CopyNo,
-) -> Result<(RentalNo, Option<CustomerNo>), TillFault> {
-    let entries = book.entries(alloc, routes)?;
-    let rental = rental_in(alloc, entries.as_slice(), copy)?;
-    let customer = renter(alloc, entries.as_slice(), rental)?;
-    Ok((rental, customer))
+) -> Result<HeldRental, TillFault>
+    requires { conn.old.in_transaction ≡ false }
+    ensures ended { conn.new.in_transaction ≡ false }
+    ensures clean { HasCleanDisk (state S.Store conn.new) → HasCleanDisk (state S.Store conn.old) }
+    ensures stays { HasCleanDisk (state S.Store conn.new) → Stays (state S.Store conn.old) (state S.Store conn.new) }
+    ensures held { HasCleanDisk (state S.Store conn.new)
+        → IfOk result (λ held. IsHeldIn copy held (state S.Store conn.old)) }
+{
+    if is_rent_waiting(desk, conn, book, copy)? {
+        return Err(TillFault::RentWaits);
+    }
+    held_at(conn, copy)
 }

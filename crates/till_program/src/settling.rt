@@ -1,77 +1,50 @@
 //! Refused entries that may have been sent more than once are made sure of, once a later one was accepted.
 
-ghost use Rattle.std.specs.Prelude.{◌≡◌, false};
+ghost use Rattle.std.specs.Prelude.{◌≡◌, ◌<◌, false};
 ghost use Rattle.sqlite.specs.Held.{state};
 ghost use Rattle.sqlite.specs.State.{HasCleanDisk};
 ghost use Rattle.shop_model.specs.Values.{Text};
+ghost use Rattle.till_book.specs.Steps.{Stays};
+ghost use Rattle.till_work.specs.Told.{IsTold};
 ghost use Rattle.till_program.specs.Faults.{IsBookKept, IsSettlingKept};
 ghost use Rattle.till_program.specs.Word.{EntersNothing, KeepsATillsBook};
 
-use crate::book::Book;
 use crate::caches::Shelf;
+use crate::clock::WallClock;
 use crate::desk::Desk;
 use crate::fault::TillFault;
 use crate::said::Said;
-use shop_types::Refusal;
 use sqlite::{Alter, Connection};
-use std::time::Clock;
-use till_desk::Server;
-use till_shows::{refusal_in, reply_line};
-use till_work::{SettleFault, Settled, settle};
+use std::alloc::Global;
+use till_book::{EntryNumber, last_accepted, unsure_of};
+use till_shows::reply_line;
+use till_work::{Server, SettleFault, Settled, settle};
 
-/// How many entries are made sure of behind one word.
-const MOST: usize = 10;
-
-/// Whether an entry that was refused so may get another reply when it is sent once more. These the server tells before
-/// it looks at the moment, and so each time, but for `MomentBack` itself, which decides the entry.
-fn can_be_settled(refusal: Refusal) -> bool {
-    !matches!(
-        refusal,
-        Refusal::BadHead
-            | Refusal::TooLong
-            | Refusal::NoRoute
-            | Refusal::BadBody
-            | Refusal::KeyUsed
-            | Refusal::Full
-            | Refusal::MomentBack
-    )
-}
-
-/// Whether the entry at that place was refused, may still act for all that its reply says, and wasn't made sure of.
-fn is_open(book: &Book, at: usize) -> bool {
-    let Some(reply) = book.reply_at(at) else {
-        return false;
+/// Returns the numbers of the entries to make sure of, at most ten: those before the last accepted one that were
+/// refused, may still act, and may get another reply. The book stays.
+fn open_entries<S: Alter>(
+    alloc: Global,
+    conn: &mut Connection<S>,
+) -> Result<Vec<EntryNumber>, TillFault>
+    requires { conn.old.in_transaction ≡ false }
+    ensures ended { conn.new.in_transaction ≡ false }
+    ensures clean { HasCleanDisk (state S.Store conn.new) → HasCleanDisk (state S.Store conn.old) }
+    ensures stays { HasCleanDisk (state S.Store conn.new) → Stays (state S.Store conn.old) (state S.Store conn.new) }
+{
+    let last = match last_accepted(conn) {
+        Ok(Some(last)) => last,
+        Ok(None) => return Ok(Vec::new(alloc)),
+        Err(_) => return Err(TillFault::Book),
     };
-    if reply.status == 200 || book.is_settled(at) {
-        return false;
-    }
-    match refusal_in(reply.status, reply.body.as_slice()) {
-        Some(refusal) => can_be_settled(refusal),
-        None => true,
+    match unsure_of(alloc, conn, last.number) {
+        Ok(unsure) => Ok(unsure),
+        Err(_) => Err(TillFault::Book),
     }
 }
 
-/// The numbers of the entries to make sure of: those that are open before the last accepted one.
-fn open_entries(book: &Book) -> [u32; MOST] {
-    let mut numbers = [0u32; MOST];
-    let Some(last) = book.last_accepted() else {
-        return numbers;
-    };
-    let mut count = 0;
-    for at in 0..last {
-        if count < MOST && is_open(book, at) {
-            if let Ok(number) = u32::try_from(at) {
-                numbers[count] = number.saturating_add(1);
-                count += 1;
-            }
-        }
-    }
-    numbers
-}
-
-/// Says what an entry was told that was sent once more, where it has acted after all, and tells whether another may
-/// be sent.
-fn say_settled<K: Clock, V: Server, L: Shelf>(
+/// Says which reply an entry got that was sent once more, if it has acted after all. Returns whether another may be
+/// sent.
+fn say_settled<K: WallClock, V: Server, L: Shelf>(
     desk: &Desk<'_, K, V, L>,
     number: u32,
     settled: Result<Settled, SettleFault>,
@@ -94,45 +67,54 @@ fn say_settled<K: Clock, V: Server, L: Shelf>(
     }
 }
 
-/// Makes sure of an entry, and says so where it has acted after all. Whether another may be asked for is told.
-fn settle_one<S: Alter, K: Clock, V: Server, L: Shelf>(
+/// Makes sure of an entry, and says so if it has acted after all. Returns whether another may be asked for.
+fn settle_one<S: Alter, K: WallClock, V: Server, L: Shelf>(
     desk: &Desk<'_, K, V, L>,
     conn: &mut Connection<S>,
     number: u32,
     said: &mut Said,
 ) -> Result<bool, TillFault>
-    requires { conn.old.in_transaction ≡ false }
+    requires idle { conn.old.in_transaction ≡ false }
+    requires numbered { 0 < number }
     ensures ended { conn.new.in_transaction ≡ false }
     ensures clean { HasCleanDisk (state S.Store conn.new) → HasCleanDisk (state S.Store conn.old) }
     ensures same { HasCleanDisk (state S.Store conn.new) → IsBookKept result
-        → EntersNothing (state S.Store conn.old) (state S.Store conn.new) }
+        → EntersNothing (IsTold (V.opens desk.now.server.now) V.Reader.remaining V.Writer.contents) (state S.Store
+        conn.old) (state S.Store conn.new) }
 {
     let Ok((mut reader, mut writer)) = desk.server.connect() else {
         return Ok(false);
     };
-    let settled = settle(desk.alloc, conn, number, &mut reader, &mut writer);
+    let settled = settle(
+        desk.alloc,
+        desk.routes,
+        conn,
+        number,
+        &mut reader,
+        &mut writer,
+    );
     say_settled(desk, number, settled, said)
 }
 
-/// Makes sure of some refused entries, where a later one was accepted: each of these has acted by now, or never will.
-/// What can't be asked now is asked another time.
-fn settle_refused<S: Alter, K: Clock, V: Server, L: Shelf>(
+/// Makes sure of refused entries. After one that gets no answer, the rest is left for another time.
+fn settle_refused<S: Alter, K: WallClock, V: Server, L: Shelf>(
     desk: &Desk<'_, K, V, L>,
     conn: &mut Connection<S>,
-    book: &Book,
+    entries: &[EntryNumber],
     said: &mut Said,
 ) -> Result<(), TillFault>
     requires { conn.old.in_transaction ≡ false }
     ensures ended { conn.new.in_transaction ≡ false }
     ensures clean { HasCleanDisk (state S.Store conn.new) → HasCleanDisk (state S.Store conn.old) }
     ensures same { HasCleanDisk (state S.Store conn.new) → IsBookKept result
-        → EntersNothing (state S.Store conn.old) (state S.Store conn.new) }
+        → EntersNothing (IsTold (V.opens desk.now.server.now) V.Reader.remaining V.Writer.contents) (state S.Store
+        conn.old) (state S.Store conn.new) }
 {
-    'numbers: for number in open_entries(book) {
-        if number == 0 {
+    'entries: for entry in entries {
+        if entry.number == 0 {
             return Ok(());
         }
-        match settle_one(desk, conn, number, said) {
+        match settle_one(desk, conn, entry.number, said) {
             Ok(true) => continue,
             Ok(false) => return Ok(()),
             Err(fault) => return Err(fault),
@@ -141,25 +123,27 @@ fn settle_refused<S: Alter, K: Clock, V: Server, L: Shelf>(
     Ok(())
 }
 
-/// Makes sure of some refused entries of a branch's book, where a later one was accepted, and says behind what is
-/// said which of them have acted all the same. Nothing is entered or recorded but what they were told, unless the
-/// book failed. Head office's commands have no moment, so one that was refused could still be done: it isn't sent
-/// again.
-pub fn make_sure<S: Alter, K: Clock, V: Server, L: Shelf>(
+/// Makes sure of some refused entries of a branch's book, if a later one was accepted, and adds to what is said which
+/// of them have acted all the same. Nothing is entered or recorded but their settlements, unless the book failed. Head
+/// office's commands have no moment, so one that was refused could still be done: it isn't sent again.
+pub fn make_sure<S: Alter, K: WallClock, V: Server, L: Shelf>(
     desk: &Desk<'_, K, V, L>,
     conn: &mut Connection<S>,
     said: &mut Said,
 ) -> Result<(), TillFault>
     requires { conn.old.in_transaction ≡ false }
     ensures ended { conn.new.in_transaction ≡ false }
+    ensures clean { HasCleanDisk (state S.Store conn.new) → HasCleanDisk (state S.Store conn.old) }
     ensures same { HasCleanDisk (state S.Store conn.new) → IsBookKept result
-        → EntersNothing (state S.Store conn.old) (state S.Store conn.new) }
+        → EntersNothing (IsTold (V.opens desk.now.server.now) V.Reader.remaining V.Writer.contents) (state S.Store
+        conn.old) (state S.Store conn.new) }
     ensures keeps { HasCleanDisk (state S.Store conn.new) → IsBookKept result → (mark : Text)
-        → KeepsATillsBook mark (state S.Store conn.old) (state S.Store conn.new) }
+        → KeepsATillsBook (IsTold (V.opens desk.now.server.now) V.Reader.remaining V.Writer.contents) mark (state
+        S.Store conn.old) (state S.Store conn.new) }
 {
     if desk.settings.staff.is_none() {
         return Ok(());
     }
-    let book = Book::read(desk.alloc, desk.routes, conn)?;
-    settle_refused(desk, conn, &book, said)
+    let entries = open_entries(desk.alloc, conn)?;
+    settle_refused(desk, conn, entries.as_slice(), said)
 }

@@ -1,9 +1,11 @@
 //! Connections over a socket.
 
+ghost use Rattle.std.specs.Prelude.{⊤};
+
 use std::io::{self, ErrorKind};
 use std::net::{TcpStream, ToSocketAddrs};
 use std::time::Duration;
-use till_desk::Server;
+use till_work::Server;
 
 /// For how many seconds a connection is waited for, at each address of a name.
 const CONNECTS: u64 = 10;
@@ -35,6 +37,11 @@ impl Server for Tcp<'_> {
     type Reader = TcpStream;
 
     type Writer = TcpStream;
+
+    // nothing is known of sockets
+    ghost opens = { λ _ _ _. ⊤ };
+
+    ghost refuses = { λ _. ⊤ };
 
     fn connect(&self) -> io::Result<(TcpStream, TcpStream)> {
         let stream = connected(self.rt, self.address)?;

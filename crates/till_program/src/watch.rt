@@ -1,8 +1,8 @@
-//! Who is told how far a sending is.
+//! A watch that reports nothing.
 
-use till_desk::Watch;
+use till_work::Watch;
 
-/// Nobody is told.
+/// Reports nothing.
 #[derive(Clone, Copy)]
 pub struct Quiet;
 

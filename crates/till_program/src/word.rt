@@ -3,13 +3,18 @@
 ghost use Rattle.std.specs.Prelude.{◌≡◌, ◌⊎◌, false, None, Err, IfOk, IfErr, OnOk, IsSome};
 ghost use Rattle.sqlite.specs.Held.{state};
 ghost use Rattle.sqlite.specs.State.{HasCleanDisk};
+ghost use Rattle.shop_types.specs.Seen.{seen_act};
 ghost use Rattle.till_book.specs.Steps.{Stays};
-ghost use Rattle.till_desk.specs.Desk.{GoesOn, Grows};
-ghost use Rattle.till_program.specs.Faults.{IsBookKept, IsReading, others_fault};
+ghost use Rattle.till_work.specs.Told.{IsTold};
+ghost use Rattle.till_work.specs.Desk.{GoesOn, Grows};
+ghost use Rattle.till_program.specs.Faults.{IsBookKept, IsReading, giver_of, others_fault};
+ghost use Rattle.till_program.specs.Giving.{GivesAct};
 ghost use Rattle.till_program.specs.Word.{KeepsATillsBook, KeepsABook, IsFor, IsPlannedFor};
+ghost use Rattle.till_program.specs.Doing.{IsPlanOf, IsCarriedOut, DoesWord};
 
 use crate::book::Book;
 use crate::caches::Shelf;
+use crate::clock::WallClock;
 use crate::commands::{Told, give, tell};
 use crate::desk::Desk;
 use crate::fault::TillFault;
@@ -22,25 +27,24 @@ use crate::said::Said;
 use crate::sendings::{send, waited};
 use shop_types::{Act, CopyNo, CustomerNo, Moment};
 use sqlite::{Alter, Connection};
-use std::time::Clock;
-use till_desk::{Server, Watch};
 use till_requests::is_office_look;
 use till_words::{TillAct, TillLook, WordList, help_text};
+use till_work::{Server, Watch};
 
-/// What a word comes to, once the book was looked at.
+/// What a word results in, once the book was looked at.
 enum Plan {
-    /// A command is entered; behind it is said what the customer owes.
+    /// A command is entered, and then it is said what the customer owes.
     Give(Act, Option<CustomerNo>),
     /// Head office's words are entered.
     Office(WordList),
     /// What waits is sent.
     Send,
-    /// All was asked for that there is to say.
+    /// Everything was asked for that there is to say.
     Say(Said),
 }
 
-/// Refuses a book that another till's settings were beside.
-fn is_own<K: Clock, V: Server, L: Shelf>(
+/// Refuses a book that another till's settings are beside.
+fn is_own<K: WallClock, V: Server, L: Shelf>(
     desk: &Desk<'_, K, V, L>,
     book: &Book,
 ) -> Result<(), TillFault> {
@@ -51,8 +55,8 @@ fn is_own<K: Clock, V: Server, L: Shelf>(
     }
 }
 
-/// The plan for head office's words, which are for its own book.
-fn office_plan<K: Clock, V: Server, L: Shelf>(
+/// Plans head office's words, which are for its own book.
+fn office_plan<K: WallClock, V: Server, L: Shelf>(
     desk: &Desk<'_, K, V, L>,
     book: &Book,
     words: WordList,
@@ -72,56 +76,80 @@ fn office_plan<K: Clock, V: Server, L: Shelf>(
     }
 }
 
-/// The plan for a command of the branch.
-fn act_plan<K: Clock, V: Server, L: Shelf>(
+/// Returns the customer of a return's rental, if the book knows, and none of another act. The book stays.
+fn customer_in<S: Alter>(
+    conn: &mut Connection<S>,
+    act: &Act,
+) -> Result<Option<CustomerNo>, TillFault>
+    requires { conn.old.in_transaction ≡ false }
+    ensures ended { conn.new.in_transaction ≡ false }
+    ensures clean { HasCleanDisk (state S.Store conn.new) → HasCleanDisk (state S.Store conn.old) }
+    ensures stays { HasCleanDisk (state S.Store conn.new) → Stays (state S.Store conn.old) (state S.Store conn.new) }
+{
+    if let Act::TakeBack(rental) = act {
+        return customer_of(conn, *rental);
+    }
+    Ok(None)
+}
+
+/// Plans a command of the branch. The book stays.
+fn act_plan<S: Alter, K: WallClock, V: Server, L: Shelf>(
     desk: &Desk<'_, K, V, L>,
+    conn: &mut Connection<S>,
     book: &Book,
     act: Act,
 ) -> Result<Plan, TillFault>
+    requires { conn.old.in_transaction ≡ false }
+    ensures ended { conn.new.in_transaction ≡ false }
+    ensures clean { HasCleanDisk (state S.Store conn.new) → HasCleanDisk (state S.Store conn.old) }
+    ensures stays { HasCleanDisk (state S.Store conn.new) → Stays (state S.Store conn.old) (state S.Store conn.new) }
     ensures planned { IfOk result (IsPlannedFor desk.now.settings.now.staff) }
+    ensures acts { IfOk result (IsPlanOf (state S.Store conn.old) (TillAct.Do act)) }
     ensures own { OnOk result (IsSome desk.now.settings.now.staff) }
     ensures others { desk.now.settings.now.staff ≡ None → result ≡ Err (others_fault desk.now.settings.now.staff) }
 {
     let _ = desk.giver()?;
     is_own(desk, book)?;
-    match act {
-        Act::TakeBack(rental) => {
-            let customer = customer_of(desk.alloc, desk.routes, book, rental)?;
-            Ok(Plan::Give(act, customer))
-        }
-        _ => Ok(Plan::Give(act, None)),
-    }
+    let customer = customer_in(conn, &act)?;
+    Ok(Plan::Give(act, customer))
 }
 
-/// The plan for a copy that comes back.
-fn copy_plan<K: Clock, V: Server, L: Shelf>(
+/// Plans the return of a copy: the rental is the register's. The book stays.
+fn copy_plan<S: Alter, K: WallClock, V: Server, L: Shelf>(
     desk: &Desk<'_, K, V, L>,
+    conn: &mut Connection<S>,
     book: &Book,
     copy: CopyNo,
 ) -> Result<Plan, TillFault>
+    requires { conn.old.in_transaction ≡ false }
+    ensures ended { conn.new.in_transaction ≡ false }
+    ensures clean { HasCleanDisk (state S.Store conn.new) → HasCleanDisk (state S.Store conn.old) }
+    ensures stays { HasCleanDisk (state S.Store conn.new) → Stays (state S.Store conn.old) (state S.Store conn.new) }
     ensures planned { IfOk result (IsPlannedFor desk.now.settings.now.staff) }
+    ensures acts { HasCleanDisk (state S.Store conn.new)
+        → IfOk result (IsPlanOf (state S.Store conn.old) (TillAct.ReturnCopy copy)) }
     ensures own { OnOk result (IsSome desk.now.settings.now.staff) }
     ensures others { desk.now.settings.now.staff ≡ None → result ≡ Err (others_fault desk.now.settings.now.staff) }
 {
     let _ = desk.giver()?;
     is_own(desk, book)?;
-    let (rental, customer) = rental_at(desk.alloc, desk.routes, book, copy)?;
-    Ok(Plan::Give(Act::TakeBack(rental), customer))
+    let held = rental_at(desk, conn, book, copy)?;
+    Ok(Plan::Give(Act::TakeBack(held.rental), Some(held.customer)))
 }
 
-/// The plan for what waits.
-fn send_plan<K: Clock, V: Server, L: Shelf>(
+/// Plans the sending of what waits.
+fn send_plan<K: WallClock, V: Server, L: Shelf>(
     desk: &Desk<'_, K, V, L>,
     book: &Book,
 ) -> Result<Plan, TillFault>
-    ensures { IfOk result (IsPlannedFor desk.now.settings.now.staff) }
+    ensures { IfOk result (λ plan. plan ≡ Plan.Send) }
 {
     is_own(desk, book)?;
     Ok(Plan::Send)
 }
 
-/// The plan for a look, which is a branch's.
-fn look_plan<K: Clock, V: Server, L: Shelf>(
+/// Plans a look, which is a branch's.
+fn look_plan<K: WallClock, V: Server, L: Shelf>(
     desk: &Desk<'_, K, V, L>,
     book: &Book,
     it: TillLook,
@@ -134,25 +162,32 @@ fn look_plan<K: Clock, V: Server, L: Shelf>(
     Ok(Plan::Say(look(desk, it, book.last)?))
 }
 
-/// What a word comes to: looks are asked for at once, and a return by copy is of the rental that the book has of it.
-fn plan_of<K: Clock, V: Server, L: Shelf>(
+/// Plans a word: looks are asked for at once, and a return by copy is of the rental that the register has of it. The
+/// book stays.
+fn plan_of<S: Alter, K: WallClock, V: Server, L: Shelf>(
     desk: &Desk<'_, K, V, L>,
+    conn: &mut Connection<S>,
     book: &Book,
     act: TillAct,
 ) -> Result<Plan, TillFault>
+    requires { conn.old.in_transaction ≡ false }
+    ensures ended { conn.new.in_transaction ≡ false }
+    ensures clean { HasCleanDisk (state S.Store conn.new) → HasCleanDisk (state S.Store conn.old) }
+    ensures stays { HasCleanDisk (state S.Store conn.new) → Stays (state S.Store conn.old) (state S.Store conn.new) }
     ensures planned { IfOk result (IsPlannedFor desk.now.settings.now.staff) }
+    ensures acts { HasCleanDisk (state S.Store conn.new) → IfOk result (IsPlanOf (state S.Store conn.old) act) }
     ensures own { OnOk result (IsFor desk.now.settings.now.staff act) }
     ensures others { ¬ IsFor desk.now.settings.now.staff act
         → result ≡ Err (others_fault desk.now.settings.now.staff) }
 {
     match act {
-        TillAct::Do(act) => act_plan(desk, book, act),
-        TillAct::ReturnCopy(copy) => copy_plan(desk, book, copy),
+        TillAct::Do(act) => act_plan(desk, conn, book, act),
+        TillAct::ReturnCopy(copy) => copy_plan(desk, conn, book, copy),
         TillAct::Office(words) => office_plan(desk, book, words),
         TillAct::Send => send_plan(desk, book),
         TillAct::Look(it) => look_plan(desk, book, it),
-        TillAct::Waiting => Ok(Plan::Say(waiting_entries(desk, book)?)),
-        TillAct::Last(count) => Ok(Plan::Say(last_entries(desk, book, count)?)),
+        TillAct::Waiting => Ok(Plan::Say(waiting_entries(desk, conn, book)?)),
+        TillAct::Last(count) => Ok(Plan::Say(last_entries(desk, conn, book, count)?)),
         TillAct::Help | TillAct::Init(_) | TillAct::Import { .. } | TillAct::Prompt => {
             Ok(Plan::Say(Said {
                 text: help_text(desk.alloc)?,
@@ -162,8 +197,8 @@ fn plan_of<K: Clock, V: Server, L: Shelf>(
     }
 }
 
-/// Says what became of a command, what its customer owes, and what became of those that had waited before it.
-fn told<K: Clock, V: Server, L: Shelf>(
+/// Says the outcome of a command, what its customer owes, and the outcomes of the entries that had waited before it.
+fn told<K: WallClock, V: Server, L: Shelf>(
     desk: &Desk<'_, K, V, L>,
     act: &Act,
     customer: Option<CustomerNo>,
@@ -189,8 +224,8 @@ fn told<K: Clock, V: Server, L: Shelf>(
     Ok(said)
 }
 
-/// Gives a command, and says what became of it.
-fn give_and_tell<S: Alter, K: Clock, V: Server, L: Shelf, W: Watch>(
+/// Gives a command, and says its outcome.
+fn give_and_tell<S: Alter, K: WallClock, V: Server, L: Shelf, W: Watch>(
     desk: &Desk<'_, K, V, L>,
     conn: &mut Connection<S>,
     book: &mut Book,
@@ -201,20 +236,27 @@ fn give_and_tell<S: Alter, K: Clock, V: Server, L: Shelf, W: Watch>(
     requires { conn.old.in_transaction ≡ false }
     ensures ended { conn.new.in_transaction ≡ false }
     ensures clean { HasCleanDisk (state S.Store conn.new) → HasCleanDisk (state S.Store conn.old) }
+    ensures given { HasCleanDisk (state S.Store conn.new)
+        → OnOk result (GivesAct (IsTold (V.opens desk.now.server.now) V.Reader.remaining V.Writer.contents)
+        (K.shows desk.now.clock.now) desk.now.settings.now.mark desk.now.settings.now.token
+        (giver_of desk.now.settings.now.staff desk.now.staff) (seen_act act.now) book.old.place
+        (state S.Store conn.old) book.new.place (state S.Store conn.new)) }
     ensures keeps { HasCleanDisk (state S.Store conn.new) → IsBookKept result
-        → GoesOn desk.now.settings.now.mark book.old.place (state S.Store conn.old) book.new.place
+        → GoesOn (IsTold (V.opens desk.now.server.now) V.Reader.remaining V.Writer.contents)
+        desk.now.settings.now.mark book.old.place (state S.Store conn.old) book.new.place
         (state S.Store conn.new) }
 {
+    let before = book.place;
     let it = match give(desk, conn, book, act, watch) {
         Ok(it) => it,
         Err(fault) => return Err(fault),
     };
-    let table = waited(desk, conn, book)?;
+    let table = waited(desk, conn, before)?;
     told(desk, act, customer, book.last, &it, table)
 }
 
-/// Does what was planned, and says what it came to.
-fn carry_out<S: Alter, K: Clock, V: Server, L: Shelf, W: Watch>(
+/// Carries out a plan, and says what it resulted in.
+fn carry_out<S: Alter, K: WallClock, V: Server, L: Shelf, W: Watch>(
     desk: &Desk<'_, K, V, L>,
     conn: &mut Connection<S>,
     book: &mut Book,
@@ -224,28 +266,38 @@ fn carry_out<S: Alter, K: Clock, V: Server, L: Shelf, W: Watch>(
     requires { conn.old.in_transaction ≡ false }
     ensures ended { conn.new.in_transaction ≡ false }
     ensures clean { HasCleanDisk (state S.Store conn.new) → HasCleanDisk (state S.Store conn.old) }
+    ensures done { HasCleanDisk (state S.Store conn.new)
+        → OnOk result (IsCarriedOut (IsTold (V.opens desk.now.server.now) V.Reader.remaining V.Writer.contents)
+        (K.shows desk.now.clock.now) desk.now.settings.now.mark desk.now.settings.now.token
+        (giver_of desk.now.settings.now.staff desk.now.staff) plan book.old.place
+        (state S.Store conn.old) book.new.place (state S.Store conn.new)) }
     ensures keeps { HasCleanDisk (state S.Store conn.new) → IsBookKept result → IsSome desk.now.settings.now.staff
         → IsPlannedFor desk.now.settings.now.staff plan
-        → GoesOn desk.now.settings.now.mark book.old.place (state S.Store conn.old) book.new.place
+        → GoesOn (IsTold (V.opens desk.now.server.now) V.Reader.remaining V.Writer.contents)
+        desk.now.settings.now.mark book.old.place (state S.Store conn.old) book.new.place
         (state S.Store conn.new) }
     ensures grows { HasCleanDisk (state S.Store conn.new) → IsBookKept result → desk.now.settings.now.staff ≡ None
         → IsPlannedFor desk.now.settings.now.staff plan
-        → Grows book.old.place (state S.Store conn.old) book.new.place (state S.Store conn.new) }
+        → Grows (IsTold (V.opens desk.now.server.now) V.Reader.remaining V.Writer.contents) book.old.place (state
+        S.Store conn.old) book.new.place (state S.Store conn.new) }
 {
     match plan {
         Plan::Say(said) => Ok(said),
         Plan::Office(words) => give_office(desk, conn, book, words.as_slice(), watch),
-        Plan::Send => send(desk, conn, book, watch),
+        Plan::Send => send(desk, conn, &mut book.place, watch),
         Plan::Give(act, customer) => give_and_tell(desk, conn, book, &act, customer, watch),
     }
 }
 
-/// Does what a word asks for at an open book, and says what it came to. A word that makes a book, a prompt, or a
-/// stock file that is still to be read is none of these, and is answered as a usage. A branch's book goes on as one,
-/// unless it failed, and what stood in it stays, in head office's book too. A branch's command or look at head office's
-/// book, whoever gives it, and head office's words at a branch's are refused, and nothing is entered: `IsOffice`,
-/// `IsBranch`. So is a word that enters or sends, where another till's settings are beside the book: `OtherBook`.
-pub fn do_word<S: Alter, K: Clock, V: Server, L: Shelf, W: Watch>(
+/// Does a word at an open book, and says what it resulted in. An act that was typed is given once. A copy that comes
+/// back is the return of the register's rental. After `send` each entry has its reply.
+///
+/// A branch's book stays one unless it failed, and what is in it stays, in head office's book too. A branch's command
+/// or look at head office's book, whoever gives it, and head office's words at a branch's are refused, and nothing is
+/// entered: `IsOffice`, `IsBranch`. If another till's settings are beside the book, a word that enters or sends is
+/// refused: `OtherBook`. A word that makes a book, a prompt, or a stock file that is still to be read is answered as a
+/// usage.
+pub fn do_word<S: Alter, K: WallClock, V: Server, L: Shelf, W: Watch>(
     desk: &Desk<'_, K, V, L>,
     conn: &mut Connection<S>,
     act: TillAct,
@@ -253,10 +305,17 @@ pub fn do_word<S: Alter, K: Clock, V: Server, L: Shelf, W: Watch>(
 ) -> Result<Said, TillFault>
     requires { conn.old.in_transaction ≡ false }
     ensures ended { conn.new.in_transaction ≡ false }
+    ensures clean { HasCleanDisk (state S.Store conn.new) → HasCleanDisk (state S.Store conn.old) }
+    ensures done { HasCleanDisk (state S.Store conn.new)
+        → OnOk result (DoesWord (IsTold (V.opens desk.now.server.now) V.Reader.remaining V.Writer.contents)
+        (K.shows desk.now.clock.now) desk.now.settings.now.mark desk.now.settings.now.token
+        (giver_of desk.now.settings.now.staff desk.now.staff) act (state S.Store conn.old) (state S.Store conn.new)) }
     ensures keeps { HasCleanDisk (state S.Store conn.new) → IsBookKept result → IsSome desk.now.settings.now.staff
-        → KeepsATillsBook desk.now.settings.now.mark (state S.Store conn.old) (state S.Store conn.new) }
+        → KeepsATillsBook (IsTold (V.opens desk.now.server.now) V.Reader.remaining V.Writer.contents)
+        desk.now.settings.now.mark (state S.Store conn.old) (state S.Store conn.new) }
     ensures office { HasCleanDisk (state S.Store conn.new) → IsBookKept result → desk.now.settings.now.staff ≡ None
-        → KeepsABook (state S.Store conn.old) (state S.Store conn.new) }
+        → KeepsABook (IsTold (V.opens desk.now.server.now) V.Reader.remaining V.Writer.contents) (state S.Store
+        conn.old) (state S.Store conn.new) }
     ensures own { OnOk result (IsFor desk.now.settings.now.staff act) }
     ensures others { ¬ IsFor desk.now.settings.now.staff act → IfErr result (λ fault. IsReading fault
         ⊎ (fault ≡ others_fault desk.now.settings.now.staff)) }
@@ -264,6 +323,6 @@ pub fn do_word<S: Alter, K: Clock, V: Server, L: Shelf, W: Watch>(
         → Stays (state S.Store conn.old) (state S.Store conn.new) }
 {
     let mut book = Book::read(desk.alloc, desk.routes, conn)?;
-    let plan = plan_of(desk, &book, act)?;
+    let plan = plan_of(desk, conn, &book, act)?;
     carry_out(desk, conn, &mut book, plan, watch)
 }

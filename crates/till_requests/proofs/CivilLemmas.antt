@@ -1,6 +1,6 @@
 -- A date of jiff's calendar from 1970 on, with a second of its day, is a moment, and has those seconds.
-use Rattle.shop_types.proofs.Common.{◌≡◌, ◌∙◌, refl, sym, ap, subst, arith, ℕ, ℤ, pos, negsuc, ◌+◌, ◌*◌, ◌/◌, ◌%◌, ◌<◌, ◌≤◌, ◌<ℤ◌, ◌≤ℤ◌, unsigned_abs, List, Option, Some, by_lt_z, Moment, IsMoment, moment_text, days_in_month, days_from_civil-day_of, IsTextOf}
-use Rattle.jiff_core.specs.Calendar.{days_from_civil, day_count, days_in_month as jiff_days, IsCivilDate, IsYear}
+use Rattle.shop_types.proofs.Common.{◌≡◌, ◌∙◌, refl, sym, ap, subst, arith, ℕ, ℤ, pos, negsuc, ◌+◌, ◌*◌, ◌<◌, ◌≤◌, ◌≤ℤ◌, unsigned_abs, List, Option, Some, by_lt_z, Moment, IsMoment, moment_text, days_in_month, days_from_civil-day_of, IsTextOf}
+use Rattle.jiff_core.specs.Calendar.{days_from_civil, day_count, days_in_month as jiff_days, IsCivilDate}
 use Rattle.jiff_core.specs.Date.{epoch_day}
 use Rattle.jiff_core.specs.declared.civil.date.Date.{Date}
 use Rattle.jiff_core.proofs.SignedLemmas.{signed_arith}
@@ -10,7 +10,7 @@ use Rattle.counter_routes.proofs.MomentLemmas.{read_is}
 use Rattle.till_requests.specs.Moments.{civil_of}
 use borrow.Author.Differences.{up, down}
 
--- a day number from 0 on is of a year from 1970 on
+-- a day with a number from 0 on is in a year from 1970 on
 late : (y : ℤ) (m d n : ℕ) → IsCivilDate y m d → days_from_civil y m d ≡ pos n → pos 1970 ≤ℤ y
 late y m d n civil is =
     by_lt_z y (pos 1970)

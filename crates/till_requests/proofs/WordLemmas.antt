@@ -6,17 +6,17 @@ use Rattle.serde_json.specs.Read.{read, max_depth}
 use Rattle.serde_json.specs.View.{items_of}
 use Rattle.counter_routes.specs.Words.{texts_in, texts_of}
 
--- the texts of a list are those that it was made of
+-- the texts of a list are the texts from which it was made
 pub texts_are : (texts : List Text) → texts_in (items_of (map string texts)) ≡ Some texts
 texts_are [] = refl
 texts_are (text ∷ texts) = rw (texts_are texts) refl
 
--- and none of them has anything in it
+-- no item of such a list is a list or an object
 pub flat : (texts : List Text) → items_depth (items_of (map string texts)) ≡ 0
 flat [] = refl
 flat (text ∷ texts) = rw (flat texts) refl
 
--- what is read back of such a list's text are those texts
+-- the texts are read back from the text of such a list
 pub texts_told : (body : List ℕ) (vs : List Data) (texts : List Text) → vs ≡ map string texts → IsUtf8 body
     → (depth (array (items_of vs)) ≤ max_depth → read body ≡ Some (array (items_of vs))) → texts_of body ≡ Some texts
 texts_told body vs texts same utf8 back =

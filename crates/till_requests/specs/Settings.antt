@@ -5,7 +5,7 @@ use Rattle.till_requests.specs.declared.settings.Settings.{Settings}
 abbrev pub line_end : List ℕ
 line_end = 10 ∷ []
 
--- the member of staff, or head office
+-- the line of the member of staff, or of head office
 abbrev pub staff_line : Option ℕ → List ℕ
 staff_line (Some staff) = codes "staff " ++ decimal staff
 staff_line None = codes "office"

@@ -1,10 +1,11 @@
-//! The target and the body of each command's request. What they say isn't promised here: it is read back.
+//! Builds the target and the body of each command's request. No contract here says what they mean: the request is read
+//! back later.
 
 use serde_json::{Map, Value, put};
 use shop_types::{Act, LotName, Moment, Person, RentalNo, RowNumber, StaffNo};
 use std::alloc::{AllocError, Global};
 
-/// Who gives a command and when, under which key.
+/// Who gives a command, when, and under which key.
 #[derive(Drop)]
 pub(crate) struct Giver {
     pub key: String,
@@ -12,7 +13,7 @@ pub(crate) struct Giver {
     pub at: Moment,
 }
 
-/// The path to which an import is sent.
+/// Returns the path to which an import is sent.
 fn import_target(alloc: Global, giver: &Giver, lot: &LotName) -> Result<String, AllocError> {
     let key = giver.key.as_str();
     let staff = giver.staff.get();
@@ -21,7 +22,7 @@ fn import_target(alloc: Global, giver: &Giver, lot: &LotName) -> Result<String, 
     format!(in alloc; "/import/{key}/{staff}/{at}/{lot}")
 }
 
-/// The path to which a command is sent.
+/// Returns the path to which a command is sent.
 pub(crate) fn target_of(alloc: Global, giver: &Giver, act: &Act) -> Result<String, AllocError> {
     let path = match act {
         Act::Customer(_) => "/customer",
@@ -81,7 +82,7 @@ fn put_person(alloc: Global, members: &mut Members, person: &Person) -> Result<(
     put_number(alloc, members, "city", person.city.get())
 }
 
-/// The rental that a payment is of, or null for none.
+/// Puts the rental that a payment is for, or null if it is for none.
 fn put_rental(
     alloc: Global,
     members: &mut Members,
@@ -93,7 +94,7 @@ fn put_rental(
     }
 }
 
-/// The members that say what a command does; an import has none.
+/// Puts the members that say what a command does. An import has none.
 fn put_act(alloc: Global, members: &mut Members, act: &Act) -> Result<(), AllocError> {
     match act {
         Act::Customer(it) => put_person(alloc, members, &it.person),
@@ -140,7 +141,7 @@ fn put_giver(alloc: Global, members: &mut Members, giver: &Giver) -> Result<(), 
     put_text(alloc, members, "at", at.as_str())
 }
 
-/// The JSON object that says a command.
+/// Returns the JSON object that says a command.
 fn json_body(alloc: Global, giver: &Giver, act: &Act) -> Result<Vec<u8>, AllocError> {
     let mut members = Map::new(alloc);
     put_giver(alloc, &mut members, giver)?;
@@ -148,10 +149,17 @@ fn json_body(alloc: Global, giver: &Giver, act: &Act) -> Result<Vec<u8>, AllocEr
     Value::Object(members).to_vec(alloc)
 }
 
-/// The body of a command's request: a stock file as it is, and JSON else.
+/// Returns the body of a command's request: the stock file itself for an import, else JSON.
 pub(crate) fn body_of(alloc: Global, giver: &Giver, act: &Act) -> Result<Vec<u8>, AllocError> {
     match act {
         Act::Import { file, .. } => Vec::from_slice(alloc, file.as_slice()),
-        _ => json_body(alloc, giver, act),
+        Act::Customer(_)
+        | Act::Active { .. }
+        | Act::Rent { .. }
+        | Act::TakeBack(_)
+        | Act::Pay { .. }
+        | Act::Dispatch { .. }
+        | Act::Receive { .. }
+        | Act::Scrap(_) => json_body(alloc, giver, act),
     }
 }

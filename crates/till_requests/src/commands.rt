@@ -1,4 +1,4 @@
-//! A command's request.
+//! Builds a command's request.
 
 ghost use Rattle.std.specs.Prelude.{◌≡◌, true, IfOk, string_bytes};
 ghost use Rattle.shop_types.specs.Seen.{seen_act, seen_command};
@@ -17,10 +17,10 @@ use till_client::{NotSealed, Sealed, post_bytes, seal};
 /// Why a request wasn't made.
 #[derive(Clone, Copy, Debug, PartialEq, Eq)]
 pub enum NotBuilt {
-    /// The server would read something else in it. No value of the shop's types is known with which that is so, but
-    /// lists of numbers whose text is longer than a body may be.
+    /// The server would read something else in the request. Only lists of numbers whose text is longer than a body may
+    /// be are known to cause this.
     Other,
-    /// There was no memory.
+    /// Out of memory.
     Memory,
 }
 
@@ -30,7 +30,7 @@ impl From<AllocError> for NotBuilt {
     }
 }
 
-/// The key of the entry of that number: the till's mark, a hyphen and the number.
+/// Returns the key of the entry with that number: the till's mark, a hyphen and the number.
 pub fn key_text(alloc: Global, mark: &Mark, number: u32) -> Result<String, AllocError>
     ensures { IfOk result (λ key. string_bytes key ≡ key_of mark.now number) }
 {
@@ -41,7 +41,7 @@ pub fn key_text(alloc: Global, mark: &Mark, number: u32) -> Result<String, Alloc
     Ok(key)
 }
 
-/// Whether the command is the giver's, and does that.
+/// Returns true only if the command is the giver's and does that act.
 fn is_wanted(command: &Command, giver: &Giver, act: &Act) -> bool
     ensures { result ≡ true → seen_command command.now ≡ command_with giver.now (seen_act act.now) }
 {
@@ -51,7 +51,7 @@ fn is_wanted(command: &Command, giver: &Giver, act: &Act) -> bool
         && is_same_act(&command.act, act)
 }
 
-/// The bytes, where they say that command to the server.
+/// Returns the bytes if they say the giver's command to the server.
 fn checked(
     alloc: Global,
     routes: &Routes,
@@ -73,7 +73,7 @@ fn checked(
     Ok(bytes)
 }
 
-/// The request of a giver's command.
+/// Builds the request of a giver's command.
 fn built(
     alloc: Global,
     routes: &Routes,
@@ -94,10 +94,10 @@ fn built(
     checked(alloc, routes, token, giver, act, bytes)
 }
 
-/// The request of a till's command: its whole bytes, over a connection of its own. `number` is that of the entry that
-/// it is to be, `mark` the till's mark and `token` its token.
+/// Builds the request of a till's command: its whole bytes, for a connection of its own. `number` is the number that
+/// the command's entry will have, `mark` the till's mark and `token` its token.
 ///
-/// The bytes are read back by the server's own readers before they are given out: they say just that command.
+/// The bytes are read back by the server's own readers before they are returned: they say just that command.
 pub fn command_request(
     alloc: Global,
     routes: &Routes,

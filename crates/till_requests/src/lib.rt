@@ -1,5 +1,5 @@
-//! The requests of a till's program as bytes, each read back by the server's own readers; and what a program keeps
-//! beside its book: moments, its mark and its settings.
+//! Builds the requests of a till's program as bytes, each read back by the server's own readers. Also has what a
+//! program keeps beside its book: moments, its mark and its settings.
 #![tactic(auto)]
 
 mod bodies;

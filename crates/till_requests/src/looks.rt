@@ -1,4 +1,4 @@
-//! The requests of looks and views.
+//! Builds the requests of looks and views.
 
 ghost use Rattle.std.specs.Prelude.{◌≡◌, ◌++◌, true, None, IfOk};
 ghost use Rattle.shop_model.specs.Values.{OneView};
@@ -13,7 +13,7 @@ use counter_routes::{Reading, Routes};
 use shop_types::{Ask, BranchNo, Caller, Line, OfficeWords, Request, Token, Usage, View};
 use std::alloc::{AllocError, Global};
 
-/// Words that say nothing: a counter has none.
+/// A reader of head office's words that reads none: a counter has no such words.
 struct NoWords;
 
 impl OfficeWords for NoWords {
@@ -30,7 +30,7 @@ fn push(bytes: &mut Vec<u8>, text: &[u8]) -> Result<(), AllocError>
     bytes.extend_from_slice(text)
 }
 
-/// A look's request, over a connection of its own: the connection ends behind the reply.
+/// Returns a look's request for a connection of its own: the connection ends after the reply.
 pub fn get_bytes(alloc: Global, token: &[u8], target: &[u8]) -> Result<Vec<u8>, AllocError>
     ensures { IfOk result (λ bytes. bytes.items ≡ get_text token.now target.now) }
 {
@@ -42,7 +42,7 @@ pub fn get_bytes(alloc: Global, token: &[u8], target: &[u8]) -> Result<Vec<u8>, 
     Ok(bytes)
 }
 
-/// The path of a look. What it says isn't promised here: it is read back.
+/// Returns the path of a look. No contract here says what the path means: the request is read back later.
 fn target_of(alloc: Global, ask: &Ask) -> Result<String, AllocError> {
     match *ask {
         Ask::Customer(number) => {
@@ -84,7 +84,7 @@ fn target_of(alloc: Global, ask: &Ask) -> Result<String, AllocError> {
     }
 }
 
-/// The path of a view.
+/// Returns the path of a view.
 fn view_target(view: View) -> &'static str {
     match view {
         View::CustomerList => "/views/customer_list",
@@ -96,7 +96,7 @@ fn view_target(view: View) -> &'static str {
     }
 }
 
-/// What the bytes ask of a branch, where they are one message with that token, over a connection of its own.
+/// Returns what the bytes ask of a branch, if they are one message with that token for a connection of its own.
 fn asked_in(
     alloc: Global,
     routes: &Routes,
@@ -118,27 +118,29 @@ fn asked_in(
     }
 }
 
-/// Whether the request is that look.
+/// Returns true only if the request is that look.
 fn is_look(request: &Request, ask: &Ask) -> bool
     ensures { result ≡ true → seen_request request.now ≡ Look (seen_ask ask.now) }
 {
     match request {
         Request::Look(it) => is_same_ask(it, ask),
-        _ => false,
+        Request::Do(_) | Request::View(_) => false,
+        Request::Office(_) | Request::OfficeLook(_) => false,
     }
 }
 
-/// Whether the request is that view.
+/// Returns true only if the request is that view.
 fn is_view(request: &Request, view: View) -> bool
     ensures { result ≡ true → seen_request request.now ≡ Look (OneView (seen_view view)) }
 {
     match request {
         Request::View(it) => is_same_view(*it, view),
-        _ => false,
+        Request::Do(_) | Request::Look(_) => false,
+        Request::Office(_) | Request::OfficeLook(_) => false,
     }
 }
 
-/// Whether the bytes say that look.
+/// Returns true only if the bytes say that look.
 fn say_look(
     alloc: Global,
     routes: &Routes,
@@ -152,7 +154,7 @@ fn say_look(
     Ok(is_look(&request, ask))
 }
 
-/// Whether the bytes say that view.
+/// Returns true only if the bytes say that view.
 fn say_view(
     alloc: Global,
     routes: &Routes,
@@ -166,7 +168,7 @@ fn say_view(
     Ok(is_view(&request, view))
 }
 
-/// The request of a look: its whole bytes, over a connection of its own, read back by the server's own readers.
+/// Builds the request of a look: its whole bytes, for a connection of its own. The server's own readers read it back.
 pub fn look_request(
     alloc: Global,
     routes: &Routes,
@@ -187,7 +189,7 @@ pub fn look_request(
     Ok(bytes)
 }
 
-/// The request of a view: its whole bytes, over a connection of its own, read back by the server's own readers.
+/// Builds the request of a view: its whole bytes, for a connection of its own. The server's own readers read it back.
 pub fn view_request(
     alloc: Global,
     routes: &Routes,

@@ -1,4 +1,4 @@
-//! A till's mark, by which the keys of its commands are its own.
+//! A till's mark. It makes the keys of the till's commands its own.
 
 ghost use Rattle.std.specs.Prelude.{◌≡◌, true, Some, None, if◌then◌else◌};
 ghost use Rattle.std.specs.List.{list_all};
@@ -8,7 +8,7 @@ use std::io;
 use std::marker::Model;
 use std::random::RandomSource;
 
-/// A till's mark: `t` and ten letters from `a` to `p`. With a hyphen and an entry's number behind it, it is a key.
+/// A till's mark: `t` and ten letters from `a` to `p`. A key is the mark, a hyphen and an entry's number.
 #[derive(Clone, Copy, PartialEq, Eq)]
 pub struct Mark {
     letters: [u8; 11],
@@ -40,7 +40,7 @@ fn all_of_mark(bytes: &[u8]) -> bool
 }
 
 impl Mark {
-    /// The mark that the bytes are.
+    /// Reads a mark from the bytes.
     pub fn read(bytes: &[u8]) -> Option<Mark>
         ensures { result ≡ (if is_mark bytes.now then Some bytes.now else None) }
     {
@@ -71,7 +71,7 @@ impl Mark {
     }
 }
 
-/// A mark that is drawn anew: one of 2^40, by the randomness of the system.
+/// Draws a new mark, one of 2^40, by the randomness of the system.
 pub fn new_mark<R: RandomSource>(rt: &R) -> io::Result<Mark> {
     let mut letters = [0u8; 11];
     rt.fill_bytes(&mut letters)?;

@@ -1,4 +1,4 @@
-//! Moments by their seconds.
+//! Builds moments from seconds.
 
 ghost use Rattle.std.specs.Prelude.{◌≡◌, ◌<◌, IfSome, IfNone};
 ghost use Rattle.shop_model.specs.Calendar.{seconds_of, moment_text, digit};
@@ -7,14 +7,14 @@ ghost use Rattle.till_requests.specs.Moments.{civil_of, last_second, next_second
 use jiff_core::civil::Date;
 use shop_types::Moment;
 
-/// The last decimal digit of a number, as a byte.
+/// Returns the last decimal digit of a number, as a byte.
 fn digit_of(number: u64) -> u8
     ensures { result ≡ digit number }
 {
     48 + (number % 10) as u8
 }
 
-/// The text of a date from the year 0 on and a time of day.
+/// Returns the text of a date, from the year 0 on, with a time of day.
 fn text_of(date: Date, second_of_day: u64) -> [u8; 19]
     ensures { result ≡ moment_text (civil_of date second_of_day) }
 {
@@ -51,7 +51,8 @@ fn text_of(date: Date, second_of_day: u64) -> [u8; 19]
     ]
 }
 
-/// The moment that is so many seconds after 1970-01-01T00:00:00, in no time zone; none is beyond the year 9999.
+/// Returns the moment that is so many seconds after 1970-01-01T00:00:00, in no time zone. Returns none if the moment is
+/// after the year 9999.
 pub fn moment_at(seconds: u64) -> Option<Moment>
     ensures some { IfSome result (λ m. seconds_of m ≡ seconds) }
     ensures none { IfNone result (last_second < seconds) }
@@ -71,8 +72,8 @@ pub fn moment_at(seconds: u64) -> Option<Moment>
     }
 }
 
-/// The moment for a new entry: `ahead` seconds after `now`, or a second after the last entry's, whichever is later.
-/// None is beyond the year 9999.
+/// Returns the moment for a new entry: `ahead` seconds after `now`, or a second after the last entry's, whichever is
+/// later. Returns none if the moment is after the year 9999.
 pub fn next_moment(now: Moment, last: Option<Moment>, ahead: u64) -> Option<Moment>
     ensures some { IfSome result (λ m. seconds_of m ≡ next_second now last ahead) }
     ensures none { IfNone result (last_second < next_second now last ahead) }

@@ -1,4 +1,4 @@
-//! Head office's words as requests to a running server.
+//! Builds requests to a running server from head office's words.
 
 ghost use Rattle.std.specs.Prelude.{◌≡◌, IfOk, IfSome, List, Some, map, string_bytes};
 ghost use Rattle.shop_model.specs.Values.{Text};
@@ -12,20 +12,20 @@ use crate::commands::key_text;
 use crate::marks::Mark;
 use crate::sole::sole_message;
 use counter_routes::{Reading, Routes};
-use office_words::{ClapWords, read_words};
+use office_words::{ClapWords, is_reading, read_words};
 use serde_json::Value;
 use shop_types::{Caller, OfficeAsk, OfficeCommand, Request, Token, Usage};
 use std::alloc::{AllocError, Global};
 use till_client::post_bytes;
 
-/// Why words weren't made a request.
+/// Why no request was made from the words.
 #[derive(Drop)]
 pub enum NotSaid {
-    /// They are no command or reading of head office: a text tells how they are to be given.
+    /// The words are no command or reading of head office. The text says how to give the words.
     Usage(String),
-    /// The server would read something else in the request, or what only the program itself can do.
+    /// The server would read something else in the request, or the words ask for what only the program itself can do.
     Other,
-    /// There was no memory.
+    /// Out of memory.
     Memory,
 }
 
@@ -49,20 +49,17 @@ pub struct OfficeLookSealed {
     pub ask: OfficeAsk,
 }
 
-/// Whether the words ask for a reading, which has no key.
+/// Returns whether the words ask for a reading. A reading has no key.
 pub fn is_office_look(words: &[String]) -> bool
     ensures { result ≡ is_reading (map string_bytes words.now) }
 {
     match words {
-        [first, ..] => {
-            let word = first.as_str();
-            word == "sales" || word == "transit" || word == "audit" || word == "custody"
-        }
+        [first, ..] => is_reading(first.as_str()),
         [] => false,
     }
 }
 
-/// The words as a JSON list.
+/// Returns the words as a JSON list.
 fn list_text(alloc: Global, words: &[String]) -> Result<Vec<u8>, AllocError>
     ensures { IfOk result (λ body. texts_of body.items ≡ Some (map string_bytes words.now)) }
 {
@@ -73,7 +70,7 @@ fn list_text(alloc: Global, words: &[String]) -> Result<Vec<u8>, AllocError>
     Value::Array(list).to_vec(alloc)
 }
 
-/// The words again.
+/// Copies the words.
 fn copied(alloc: Global, words: &[String]) -> Result<Vec<String>, AllocError>
     ensures { IfOk result (λ all. map string_bytes all.items ≡ map string_bytes words.now) }
 {
@@ -84,7 +81,7 @@ fn copied(alloc: Global, words: &[String]) -> Result<Vec<String>, AllocError>
     Ok(all)
 }
 
-/// The words with a key behind them.
+/// Returns the words followed by `--key` and the key.
 fn keyed(alloc: Global, words: &[String], key: &str) -> Result<Vec<String>, AllocError>
     ensures { IfOk result (λ all. map string_bytes all.items ≡ with_key key.now (map string_bytes words.now)) }
 {
@@ -96,7 +93,7 @@ fn keyed(alloc: Global, words: &[String], key: &str) -> Result<Vec<String>, Allo
     Ok(all)
 }
 
-/// What is wrong with the words, where `clap` takes them for none.
+/// Fails with the text about what is wrong with the words, if `clap` refuses them.
 fn usage_of(alloc: Global, words: &[String]) -> Result<(), NotSaid> {
     match read_words(alloc, words) {
         Ok(_) => Ok(()),
@@ -105,8 +102,8 @@ fn usage_of(alloc: Global, words: &[String]) -> Result<(), NotSaid> {
     }
 }
 
-/// What the bytes ask of head office, where they are one message with that token and that body, over a connection of
-/// its own.
+/// Returns what the bytes ask of head office, if they are one message with that token and that body, for a connection
+/// of its own.
 fn asked_in(
     alloc: Global,
     routes: &Routes,
@@ -137,7 +134,7 @@ struct Posted {
     body: Vec<u8>,
 }
 
-/// The bytes of a request with these words, where they are a line.
+/// Returns the bytes of a request with these words, if the words are a line.
 fn words_posted(alloc: Global, token: &Token, words: &[String]) -> Result<Posted, NotSaid>
     ensures { IfOk result (λ it. texts_of it.body.items ≡ Some (map string_bytes words.now)) }
 {
@@ -148,7 +145,7 @@ fn words_posted(alloc: Global, token: &Token, words: &[String]) -> Result<Posted
     Ok(Posted { bytes, body })
 }
 
-/// The command, where the request is one of head office.
+/// Returns the command, if the request is a command of head office.
 fn command_of(request: Request) -> Option<OfficeCommand>
     ensures { IfSome result (λ command. seen_request request ≡ Office (seen_office command)) }
 {
@@ -159,7 +156,7 @@ fn command_of(request: Request) -> Option<OfficeCommand>
     }
 }
 
-/// The reading, where the request is one of head office.
+/// Returns the reading, if the request is a reading of head office.
 fn look_of(request: Request) -> Option<OfficeAsk>
     ensures { IfSome result (λ ask. seen_request request ≡ OfficeLook (seen_office_ask ask)) }
 {
@@ -170,7 +167,7 @@ fn look_of(request: Request) -> Option<OfficeAsk>
     }
 }
 
-/// The command with that key that the request says.
+/// Returns the command that the request says, if the command has that key.
 fn command_said(
     alloc: Global,
     routes: &Routes,
@@ -193,7 +190,7 @@ fn command_said(
     Ok(command)
 }
 
-/// The reading that the request says.
+/// Returns the reading that the request says.
 fn look_said(
     alloc: Global,
     routes: &Routes,
@@ -211,8 +208,8 @@ fn look_said(
     Ok(ask)
 }
 
-/// The request of a command of head office: its whole bytes, over a connection of its own, and the command that they
-/// say. To the words the key is added of the entry of that number. The bytes are read back by the server's own readers.
+/// Builds the request of a command of head office: its whole bytes, for a connection of its own, and the command that
+/// they say. The key of the entry with that number is added to the words. The server's own readers read the bytes back.
 pub fn office_request(
     alloc: Global,
     routes: &Routes,
@@ -235,8 +232,8 @@ pub fn office_request(
     })
 }
 
-/// The request of a reading of head office: its whole bytes, over a connection of its own, read back by the server's
-/// own readers.
+/// Builds the request of a reading of head office: its whole bytes, for a connection of its own. The server's own
+/// readers read it back.
 pub fn office_look_request(
     alloc: Global,
     routes: &Routes,

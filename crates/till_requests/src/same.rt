@@ -1,4 +1,4 @@
-//! Whether two of the shop's values are the same.
+//! Compares two of the shop's values.
 
 ghost use Rattle.std.specs.Prelude.{◌≡◌, true};
 ghost use Rattle.shop_types.specs.Seen.{seen_act, seen_ask, seen_person, seen_view};
@@ -22,7 +22,7 @@ fn is_same_list<const KIND: u8>(one: &Numbers<KIND>, two: &Numbers<KIND>) -> boo
     one.as_slice() == two.as_slice()
 }
 
-/// Whether both do the same.
+/// Returns true only if both acts do the same.
 pub(crate) fn is_same_act(one: &Act, two: &Act) -> bool
     ensures { result ≡ true → seen_act one.now ≡ seen_act two.now }
 {
@@ -82,11 +82,19 @@ pub(crate) fn is_same_act(one: &Act, two: &Act) -> bool
             },
         ) => from == other && number == second && is_same_list(missing, lines),
         (Act::Scrap(one), Act::Scrap(two)) => one == two,
-        _ => false,
+        (Act::Customer(_), _)
+        | (Act::Active { .. }, _)
+        | (Act::Rent { .. }, _)
+        | (Act::TakeBack(_), _)
+        | (Act::Pay { .. }, _)
+        | (Act::Import { .. }, _)
+        | (Act::Dispatch { .. }, _)
+        | (Act::Receive { .. }, _)
+        | (Act::Scrap(_), _) => false,
     }
 }
 
-/// Whether both look at the same.
+/// Returns true only if both ask for the same look.
 pub(crate) fn is_same_ask(one: &Ask, two: &Ask) -> bool
     ensures { result ≡ true → seen_ask one.now ≡ seen_ask two.now }
 {
@@ -119,11 +127,21 @@ pub(crate) fn is_same_ask(one: &Ask, two: &Ask) -> bool
         ) => at == moment && purchases == count && cents == sum,
         (Ask::Arrivals, Ask::Arrivals) => true,
         (Ask::Sent, Ask::Sent) => true,
-        _ => false,
+        (Ask::Customer(_), _)
+        | (Ask::Film(_), _)
+        | (Ask::InStock(_), _)
+        | (Ask::HeldBy(_), _)
+        | (Ask::FilmInStock(_), _)
+        | (Ask::FilmNotInStock(_), _)
+        | (Ask::Balance { .. }, _)
+        | (Ask::Overdue(_), _)
+        | (Ask::Rewards { .. }, _)
+        | (Ask::Arrivals, _)
+        | (Ask::Sent, _) => false,
     }
 }
 
-/// Whether both are the same view.
+/// Returns true only if both are the same view.
 pub(crate) fn is_same_view(one: View, two: View) -> bool
     ensures { result ≡ true → seen_view one ≡ seen_view two }
 {
@@ -134,6 +152,11 @@ pub(crate) fn is_same_view(one: View, two: View) -> bool
         (View::ActorInfo, View::ActorInfo) => true,
         (View::SalesByStore, View::SalesByStore) => true,
         (View::SalesByFilmCategory, View::SalesByFilmCategory) => true,
-        _ => false,
+        (View::CustomerList, _)
+        | (View::StaffList, _)
+        | (View::FilmList, _)
+        | (View::ActorInfo, _)
+        | (View::SalesByStore, _)
+        | (View::SalesByFilmCategory, _) => false,
     }
 }

@@ -1,4 +1,4 @@
-//! What a till's program is told once: where the server is, its token, who works at it, and its mark.
+//! The settings of a till's program: the address of the server, the till's token, who works at it, and its mark.
 
 ghost use Rattle.std.specs.Prelude.{◌≡◌, ◌++◌, IfOk};
 ghost use Rattle.till_requests.specs.Settings.{settings_lines, staff_line};
@@ -13,17 +13,17 @@ pub struct Settings {
     /// `HOST:PORT`, without blanks.
     pub address: T128,
     pub token: Token,
-    /// The member of staff whose till it is; none is head office.
+    /// The member of staff whose till it is. None means head office.
     pub staff: Option<StaffNo>,
     pub mark: Mark,
 }
 
-/// Why bytes are no settings.
+/// Why no settings were read from the bytes.
 #[derive(Clone, Copy, Debug, PartialEq, Eq)]
 pub enum NoSettings {
-    /// They aren't the four lines.
+    /// The bytes aren't the four lines.
     Form,
-    /// There was no memory.
+    /// Out of memory.
     Memory,
 }
 
@@ -39,7 +39,7 @@ fn push(text: &mut Vec<u8>, more: &[u8]) -> Result<(), AllocError>
     text.extend_from_slice(more)
 }
 
-/// The line of the member of staff, or of head office.
+/// Adds the line of the member of staff, or of head office.
 fn push_staff(text: &mut Vec<u8>, staff: Option<StaffNo>) -> Result<(), AllocError>
     ensures { IfOk result (λ _. text.new.items ≡ text.old.items ++ staff_line staff) }
 {
@@ -53,7 +53,7 @@ fn push_staff(text: &mut Vec<u8>, staff: Option<StaffNo>) -> Result<(), AllocErr
     }
 }
 
-/// The text of settings, which `read_settings` reads: four lines, each ended by a line feed.
+/// Returns the text of settings, which `read_settings` reads: four lines, each ended by a line feed.
 pub fn settings_text(alloc: Global, settings: &Settings) -> Result<Vec<u8>, AllocError>
     ensures { IfOk result (λ text. text.items ≡ settings_lines settings.now) }
 {
@@ -69,7 +69,7 @@ pub fn settings_text(alloc: Global, settings: &Settings) -> Result<Vec<u8>, Allo
     Ok(text)
 }
 
-/// The staff of a line: `staff N`, or `office`.
+/// Reads the line `staff N` or `office`.
 fn staff_of(line: &str) -> Option<Option<StaffNo>> {
     if line == "office" {
         return Some(None);
@@ -78,7 +78,7 @@ fn staff_of(line: &str) -> Option<Option<StaffNo>> {
     Some(Some(number))
 }
 
-/// The settings that four lines may be. Whether they are is seen by writing them again.
+/// Reads settings from four lines. The caller checks the result by writing the settings again.
 fn parsed(alloc: Global, text: &str) -> Result<Settings, NoSettings> {
     let mut lines = text.split('\n');
     let address = lines.next().and_then(|line| line.strip_prefix("address "));
@@ -102,7 +102,7 @@ fn parsed(alloc: Global, text: &str) -> Result<Settings, NoSettings> {
     })
 }
 
-/// The settings of a text: just the four lines that `settings_text` writes of them.
+/// Reads settings from a text. The text has to be exactly the four lines that `settings_text` writes of them.
 pub fn read_settings(alloc: Global, text: &[u8]) -> Result<Settings, NoSettings>
     ensures { IfOk result (λ settings. settings_lines settings ≡ text.now) }
 {

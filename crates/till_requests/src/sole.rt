@@ -1,4 +1,4 @@
-//! Bytes that are one message of a connection of its own.
+//! Reads bytes that are one message for a connection of its own.
 
 ghost use Rattle.std.specs.Prelude.{IfSome};
 ghost use Rattle.http_messages.specs.Shown.{message_of};
@@ -6,7 +6,8 @@ ghost use Rattle.till_client.specs.Sealing.{IsSole};
 
 use http_messages::{Reading, Request, read_request};
 
-/// The message that the bytes are, whole, where it has that token and the connection ends behind its reply.
+/// Returns the message if the bytes are exactly one whole message, it has that token, and the connection ends after the
+/// reply.
 pub(crate) fn sole_message<'b>(token: &[u8], bytes: &'b [u8]) -> Option<Request<'b>>
     ensures { IfSome result (λ it. IsSole bytes.now token.now (message_of it)) }
 {

@@ -1,9 +1,9 @@
-//! What a line says of a request: its bytes, and the status that is wanted.
+//! Reads a line about a request: the request's bytes, and the wanted status.
 use crate::fault::Fault;
 use std::alloc::Global;
 use std::io::Write;
 
-/// The number that the text is, or 0 where there is none.
+/// Reads the text as a number. An empty text is 0.
 pub fn status_in(text: &str) -> Result<u16, Fault> {
     if text.is_empty() {
         return Ok(0);
@@ -14,7 +14,7 @@ pub fn status_in(text: &str) -> Result<u16, Fault> {
     }
 }
 
-/// Puts a request of whose token all digits are this one.
+/// Puts a request with a token of 32 times the digit `who`.
 fn put_request(
     bytes: &mut Vec<u8>,
     who: &str,
@@ -31,7 +31,7 @@ fn put_request(
     Ok(())
 }
 
-/// The bytes of a request: `WHO METHOD PATH BODY`, where WHO is the digit of a token.
+/// Returns the bytes of a request for the line `WHO METHOD PATH BODY`. WHO is the digit of a token.
 pub fn request_of(alloc: Global, line: &str) -> Result<Vec<u8>, Fault> {
     let mut parts = line.splitn(4, ' ');
     let (Some(who), Some(method), Some(path)) = (parts.next(), parts.next(), parts.next()) else {

@@ -1,4 +1,4 @@
-//! A till's book in files in memory, where words are typed.
+//! Types words at a till's book in files in memory.
 use crate::disks::{Calls, Image, InMemory, NEVER, closed, crashed, disks, image_of};
 use crate::fault::Fault;
 use crate::kit::Kit;
@@ -15,7 +15,7 @@ use till_files::{close_book, create_book, open_book, restart_book};
 
 pub const NO_BOOK: Fault = Fault::Line("no book is opened");
 
-/// What the files of a new book hold.
+/// Returns what the files of a new book hold.
 pub fn new_book<D: InMemory>(alloc: Global) -> Result<Image, Fault> {
     match create_book::<D>(alloc, disks(alloc, &Image::new(alloc), NEVER)?) {
         Ok(conn) => closed(alloc, conn),
@@ -26,7 +26,7 @@ pub fn new_book<D: InMemory>(alloc: Global) -> Result<Image, Fault> {
     }
 }
 
-/// The book that the files hold, where there is one, and how often their disks crashed.
+/// Opens the book that the files hold, if there is one. Returns also how often the files' disks crashed.
 fn opened<D: InMemory>(alloc: Global, files: Files<D>) -> (Option<Connection<FileStore<D>>>, u32) {
     match open_book(alloc, files) {
         Ok(conn) => (Some(conn), 0),
@@ -34,7 +34,7 @@ fn opened<D: InMemory>(alloc: Global, files: Files<D>) -> (Option<Connection<Fil
     }
 }
 
-/// The book that the image has, where it has one.
+/// Opens the book that the image has, if it has one.
 fn book_of<D: InMemory>(alloc: Global, image: &Image) -> Option<Connection<FileStore<D>>> {
     match disks(alloc, image, NEVER) {
         Ok(files) => open_book(alloc, files).ok(),
@@ -42,7 +42,7 @@ fn book_of<D: InMemory>(alloc: Global, image: &Image) -> Option<Connection<FileS
     }
 }
 
-/// What the files of a book hold once it is closed, also what wasn't synced.
+/// Closes the book. Returns what its files hold then, also what wasn't synced.
 fn left<D: InMemory>(alloc: Global, conn: Connection<FileStore<D>>) -> Result<Image, AllocError> {
     let files = close_book(conn);
     let image = image_of(alloc, &files);
@@ -50,7 +50,7 @@ fn left<D: InMemory>(alloc: Global, conn: Connection<FileStore<D>>) -> Result<Im
     image
 }
 
-/// The book behind a stop, which loses what wasn't synced where it is to.
+/// Stops the book and opens it again. If `loses`, the book loses what wasn't synced.
 fn stopped<D: InMemory>(
     alloc: Global,
     conn: Connection<FileStore<D>>,
@@ -65,7 +65,7 @@ fn stopped<D: InMemory>(
     }
 }
 
-/// How many rows those are.
+/// Counts the rows.
 fn count_of(rows: &BookRows) -> usize {
     let sent = rows.replies.as_slice().len();
     let settled = rows.settled.as_slice().len();
@@ -73,7 +73,7 @@ fn count_of(rows: &BookRows) -> usize {
     entered.saturating_add(sent).saturating_add(settled)
 }
 
-/// How many rows the book has, where it can be read.
+/// Counts the rows of the book, if the book can be read.
 fn count_in<S: Alter>(alloc: Global, conn: &mut Connection<S>) -> Option<usize> {
     if !conn.is_autocommit() {
         return None;
@@ -104,7 +104,7 @@ fn put_entries(text: &mut Vec<u8>, rows: &BookRows) -> Result<(), AllocError> {
     Ok(())
 }
 
-/// Puts all rows, those with what entries were told when they were sent once more last, with their numbers.
+/// Puts all rows. Settlements come last, with their entries' numbers.
 fn put_rows(text: &mut Vec<u8>, rows: &BookRows) -> Result<(), AllocError> {
     put_entries(text, rows)?;
     for it in rows.settled.as_slice() {
@@ -114,7 +114,7 @@ fn put_rows(text: &mut Vec<u8>, rows: &BookRows) -> Result<(), AllocError> {
     Ok(())
 }
 
-/// Puts all that stands in the book.
+/// Puts all rows of the book.
 fn put_book<S: Alter>(
     alloc: Global,
     conn: &mut Connection<S>,
@@ -133,22 +133,22 @@ fn put_book<S: Alter>(
     }
 }
 
-/// A till's book, open where it could be opened.
+/// A till's book, open if it could be opened.
 #[derive(Drop)]
 pub struct Book<D: InMemory> {
     alloc: Global,
     conn: Option<Connection<FileStore<D>>>,
     /// Whether a stop loses what wasn't synced.
     loses: bool,
-    /// How many rows the book had behind the last word.
+    /// How many rows the book had after the last word.
     rows: usize,
-    /// The copy of the book that was made.
+    /// The last copy of the book's files.
     copy: Image,
-    /// How often its disk has failed.
+    /// How often the book's disk has failed.
     stops: u32,
 }
 
-/// As of an image.
+/// The model is trivial, as for `Image`.
 impl<D: InMemory> Model for Book<D> {
     ghost use Rattle.std.specs.Prelude.{⊤};
 
@@ -158,7 +158,7 @@ impl<D: InMemory> Model for Book<D> {
 }
 
 impl<D: InMemory> Book<D> {
-    /// The book that the image has, on disks that fail behind so many calls.
+    /// Opens the image's book, on disks that fail after so many calls.
     pub fn new(alloc: Global, image: &Image, calls: Calls, loses: bool) -> Result<Book<D>, Fault> {
         let (conn, stops) = opened(alloc, disks(alloc, image, calls)?);
         Ok(Book {
@@ -171,12 +171,12 @@ impl<D: InMemory> Book<D> {
         })
     }
 
-    /// How often its disk has failed.
+    /// Returns how often the book's disk has failed.
     pub fn stops(&self) -> u32 {
         self.stops
     }
 
-    /// How many rows the book has, where it can be read.
+    /// Counts the rows of the book, if the book can be read.
     fn count(&mut self) -> Option<usize> {
         let alloc = self.alloc;
         match &mut self.conn {
@@ -185,7 +185,7 @@ impl<D: InMemory> Book<D> {
         }
     }
 
-    /// Types the line at the open book. Whether its disk hasn't failed.
+    /// Types the line at the open book. Returns false if the book's disk has failed.
     fn does<C: Counter>(
         &mut self,
         world: &World,
@@ -200,7 +200,7 @@ impl<D: InMemory> Book<D> {
         }
     }
 
-    /// The book stops, and is opened anew.
+    /// Stops the book, and opens it anew.
     fn restart(&mut self) -> Result<(), Fault> {
         self.stops = self.stops.saturating_add(1);
         let (alloc, loses) = (self.alloc, self.loses);
@@ -212,7 +212,7 @@ impl<D: InMemory> Book<D> {
         Ok(())
     }
 
-    /// Types the line. Whether the book's disk stands behind it.
+    /// Types the line. Returns whether the book's disk still works after it.
     fn tries<C: Counter>(
         &mut self,
         world: &World,
@@ -230,8 +230,8 @@ impl<D: InMemory> Book<D> {
         }
     }
 
-    /// The book's disk has failed at the line, and the book is opened anew: has it nothing of the line, that is typed
-    /// again, and else `send` is, by which what it came to isn't heard.
+    /// Opens the book anew after its disk failed at the line. If the book has no new row, types the line again. If it
+    /// has one, types `send`, and the outcome of the line isn't heard. Returns whether the outcome was heard.
     fn tries_again<C: Counter>(
         &mut self,
         world: &World,
@@ -250,7 +250,8 @@ impl<D: InMemory> Book<D> {
         }
     }
 
-    /// Types the line, also where the book's disk fails, and has told what is printed. Whether that was heard.
+    /// Types the line, also if the book's disk fails, and puts what is printed into `told`. Returns whether the outcome
+    /// was heard.
     pub fn types<C: Counter>(
         &mut self,
         world: &World,
@@ -264,7 +265,7 @@ impl<D: InMemory> Book<D> {
         }
     }
 
-    /// Puts all that stands in the book.
+    /// Puts all rows of the book.
     pub fn put_text(&mut self, text: &mut Vec<u8>) -> Result<(), Fault> {
         let alloc = self.alloc;
         match &mut self.conn {
@@ -273,7 +274,7 @@ impl<D: InMemory> Book<D> {
         }
     }
 
-    /// Copies the book's files, and goes on.
+    /// Copies the book's files, and opens the book again.
     pub fn copies(&mut self) -> Result<(), Fault> {
         let alloc = self.alloc;
         let Some(conn) = self.conn.take() else {
@@ -283,7 +284,7 @@ impl<D: InMemory> Book<D> {
         self.puts_back()
     }
 
-    /// Puts the copy in the place of the book.
+    /// Replaces the book by the copy.
     pub fn puts_back(&mut self) -> Result<(), Fault> {
         let conn = book_of(self.alloc, &self.copy);
         drop(mem::replace(&mut self.conn, conn));

@@ -1,4 +1,4 @@
-//! A file that is played from its first line to its last, disturbed or not.
+//! Plays a file from its first line to its last, disturbed or not.
 ghost use Rattle.std.specs.Prelude.{◌≡◌, OnOk};
 
 use crate::disks::{Calls, InMemory, NEVER, Ram};
@@ -12,22 +12,22 @@ use crate::world::World;
 use std::alloc::Global;
 use std::marker::Model;
 
-/// What a day is disturbed by.
+/// The disturbances of a day.
 #[derive(Clone, Copy)]
 pub struct Trouble {
-    /// Behind how many calls the disks of the book fail.
+    /// After how many calls the disks of the book fail.
     pub book: Calls,
-    /// Whether the book then loses what wasn't synced.
+    /// Whether the book loses what wasn't synced when its disks fail.
     pub loses: bool,
-    /// The same of the server's.
+    /// After how many calls the disks of the server fail.
     pub server: Calls,
     /// Where the first connection of each word breaks.
     pub cut: Cut,
-    /// Whether each message comes once more behind each later word.
+    /// Whether each message comes once more after each later word.
     pub repeats: bool,
 }
 
-/// Nothing happens.
+/// No disturbance.
 pub const QUIET: Trouble = Trouble {
     book: NEVER,
     loses: true,
@@ -36,33 +36,34 @@ pub const QUIET: Trouble = Trouble {
     repeats: false,
 };
 
-/// What a day came to.
+/// The outcome of a day.
 #[derive(Clone, Copy)]
 pub struct Day {
     /// How many words and requests there were.
     pub count: u32,
-    /// How often something was stopped or cut.
+    /// How often something was stopped, cut or sent once more.
     pub stops: u32,
 }
 
-/// Where and why a day isn't as it should be. Behind the last line it is 0.
+/// The line at which a day went wrong, and the reason. The line is 0 if no line is at fault, as when the book is
+/// another one.
 #[derive(Clone, Copy)]
 pub struct Wrong {
     pub line: usize,
     pub fault: Fault,
 }
 
-/// What the last day left.
+/// What is left of the last day.
 #[derive(Drop)]
 pub struct Left {
     alloc: Global,
-    /// What was told last.
+    /// The last text that was printed or replied.
     told: Texts,
-    /// All that stands in the book.
+    /// All rows of the book.
     book: Vec<u8>,
 }
 
-/// The book alone.
+/// The model is the book alone.
 impl Model for Left {
     ghost use Rattle.std.specs.Prelude.{ℕ, List};
 
@@ -94,7 +95,7 @@ impl Left {
         self.book.as_slice()
     }
 
-    /// Puts what was told last, and all that stands in the book, where nothing is wrong yet.
+    /// Puts the last text, and all rows of the book if nothing is wrong yet.
     fn puts<D: InMemory, C: Counter>(
         &mut self,
         play: &mut Play<'_, D, C>,
@@ -108,7 +109,7 @@ impl Left {
         }
     }
 
-    /// Whether the book is that one: all bytes of it.
+    /// Fails unless the book is that one, in all bytes.
     fn settle(&self, book: &[u8]) -> Result<(), Fault>
         ensures { OnOk result (self.now ≡ book.now) }
     {
@@ -119,7 +120,7 @@ impl Left {
     }
 }
 
-/// Plays the lines, up to the first that is wrong.
+/// Plays the lines up to the first wrong one.
 fn lines<D: InMemory, C: Counter>(play: &mut Play<'_, D, C>, script: &str) -> Result<(), Fault> {
     for line in script.lines() {
         play.plays(line)?;
@@ -149,7 +150,7 @@ fn on_line<D: InMemory, C: Counter>(
     }
 }
 
-/// Plays the file with a server of its own, over such disks.
+/// Plays the file with a server of its own, on disks of type `D`.
 fn on_disks<D: InMemory>(
     world: &World,
     script: &str,
@@ -178,7 +179,7 @@ pub fn play_day(
     on_disks::<Ram>(world, script, trouble, left)
 }
 
-/// Plays a disturbed day, whose book has to be that one. How often it was disturbed.
+/// Plays a disturbed day, and fails unless its book is that one. Returns how often the day was disturbed.
 pub fn disturbed(
     world: &World,
     script: &str,

@@ -1,18 +1,18 @@
-//! Files on disks in memory, each of which fails behind so many calls.
+//! Files on disks in memory. Each disk fails after so many calls.
 use crate::fault::Fault;
 use sqlite::{Connection, FileStore, Files};
 use sqlite_disk::{Crash, Disk, Fuse, Memory};
 use std::alloc::{AllocError, Global};
 use std::marker::Model;
 
-/// What the files of a book or of a chain hold.
+/// The contents of the files of a book or of a chain.
 #[derive(Drop)]
 pub struct Image {
     log: Vec<u8>,
     db: Vec<u8>,
 }
 
-/// Nothing is said of it: so those who hold one aren't checked over its parts.
+/// The model is trivial, so code that holds an image isn't checked over the image's parts.
 impl Model for Image {
     ghost use Rattle.std.specs.Prelude.{⊤};
 
@@ -22,7 +22,7 @@ impl Model for Image {
 }
 
 impl Image {
-    /// Files with nothing in them.
+    /// Makes empty files.
     pub fn new(alloc: Global) -> Image {
         Image {
             log: Vec::new(alloc),
@@ -30,7 +30,7 @@ impl Image {
         }
     }
 
-    /// Files with these bytes.
+    /// Makes files with these bytes.
     fn of(alloc: Global, log: &[u8], db: &[u8]) -> Result<Image, AllocError> {
         Ok(Image {
             log: Vec::from_slice(alloc, log)?,
@@ -39,7 +39,7 @@ impl Image {
     }
 }
 
-/// Behind how many calls of each file's disk that disk fails.
+/// After how many calls each file's disk fails.
 #[derive(Clone, Copy)]
 pub struct Calls {
     pub log: u64,
@@ -54,10 +54,10 @@ pub const NEVER: Calls = Calls {
 
 /// A disk in memory.
 pub trait InMemory: Crash + Drop {
-    /// One that holds these bytes, and fails behind so many calls.
+    /// Makes a disk that holds these bytes, and fails after so many calls.
     fn holding(alloc: Global, bytes: &[u8], calls: u64) -> Result<Self, Fault>;
 
-    /// What it holds.
+    /// Returns the bytes that the disk holds.
     fn held(&self) -> &[u8];
 }
 
@@ -78,7 +78,7 @@ impl InMemory for Fuse<Memory> {
 /// The disks of all rows.
 pub type Ram = Fuse<Memory>;
 
-/// Disks that hold what the image does, and fail behind so many calls.
+/// Makes disks that hold the image's bytes, and fail after so many calls.
 pub fn disks<D: InMemory>(alloc: Global, image: &Image, calls: Calls) -> Result<Files<D>, Fault> {
     Ok(Files {
         log: D::holding(alloc, image.log.as_slice(), calls.log)?,
@@ -86,12 +86,12 @@ pub fn disks<D: InMemory>(alloc: Global, image: &Image, calls: Calls) -> Result<
     })
 }
 
-/// What the disks hold.
+/// Returns what the disks hold.
 pub fn image_of<D: InMemory>(alloc: Global, disks: &Files<D>) -> Result<Image, AllocError> {
     Image::of(alloc, disks.log.held(), disks.db.held())
 }
 
-/// What the files hold behind the connection's closing, all of it in the database's own file.
+/// Closes the connection. Returns what the files hold then, all of it in the database's own file.
 pub fn closed<D: InMemory>(alloc: Global, conn: Connection<FileStore<D>>) -> Result<Image, Fault> {
     match conn.close_files() {
         Ok(files) => {
@@ -106,7 +106,7 @@ pub fn closed<D: InMemory>(alloc: Global, conn: Connection<FileStore<D>>) -> Res
     }
 }
 
-/// The disks behind a crash: they have lost what wasn't synced, and fail no more.
+/// Returns the disks after a crash: they have lost what wasn't synced, and fail no more.
 pub fn crashed<D: InMemory>(disks: Files<D>) -> Files<D> {
     let Files { mut log, mut db } = disks;
     log.crash();

@@ -1,4 +1,4 @@
-//! What is wrong with a line.
+//! Faults of a line.
 use std::alloc::AllocError;
 use std::io;
 
@@ -7,7 +7,7 @@ use std::io;
 pub enum Fault {
     /// The line can't be played.
     Line(&'static str),
-    /// Something else was told than is wanted.
+    /// The text that was printed or replied isn't the wanted one.
     Told,
 }
 

@@ -1,4 +1,4 @@
-//! What a till has beside its book.
+//! The things that a till has beside its book.
 use crate::asking::request_of;
 use crate::fault::Fault;
 use crate::line::{Counter, Cut, Wire};
@@ -20,7 +20,7 @@ pub struct Kit<C: Counter> {
     wire: RefCell<Wire<C>>,
 }
 
-/// As of an image.
+/// The model is trivial, as for `Image`.
 impl<C: Counter> Model for Kit<C> {
     ghost use Rattle.std.specs.Prelude.{⊤};
 
@@ -29,7 +29,7 @@ impl<C: Counter> Model for Kit<C> {
     ghost view = { λ _. tt };
 }
 
-/// Has a reply told.
+/// Puts the reply's status and body into `told`.
 fn tell(reply: &[u8], told: &mut Texts) -> Result<(), Fault> {
     match read_reply(reply) {
         ReplyReading::Whole(reply) => {
@@ -40,7 +40,7 @@ fn tell(reply: &[u8], told: &mut Texts) -> Result<(), Fault> {
     }
 }
 
-/// What happens to the line.
+/// Does what happens to the line.
 fn happen<C: Counter>(wire: &mut Wire<C>, what: &str) -> Result<(), Fault> {
     match what {
         "down" => wire.goes_down(true),
@@ -55,7 +55,7 @@ fn happen<C: Counter>(wire: &mut Wire<C>, what: &str) -> Result<(), Fault> {
 }
 
 impl<C: Counter> Kit<C> {
-    /// A line to that counter. Each message comes once more behind each later word where it is to.
+    /// Makes a kit with a line to that server. If `repeats`, each message comes once more after each later word.
     pub fn new(alloc: Global, counter: C, repeats: bool) -> Kit<C> {
         Kit {
             clock: Hands::new(),
@@ -87,7 +87,8 @@ impl<C: Counter> Kit<C> {
         }
     }
 
-    /// A word begins, whose first connection breaks there. How many messages have come that will come once more.
+    /// Begins a word. Its first connection breaks at the cut. Returns how many messages have come that will come once
+    /// more.
     pub fn begins(&self, cut: Cut) -> Result<usize, Fault> {
         match self.wire.try_borrow_mut() {
             Ok(mut wire) => Ok(wire.cuts_next(cut)),
@@ -95,14 +96,14 @@ impl<C: Counter> Kit<C> {
         }
     }
 
-    /// So many of the first messages come once more.
+    /// Sends so many of the first messages once more.
     pub fn repeats(&self, count: usize) {
         if let Ok(mut wire) = self.wire.try_borrow_mut() {
             wire.come_again(count);
         }
     }
 
-    /// What happens to the line.
+    /// Does what happens to the line.
     pub fn happens(&self, what: &str) -> Result<(), Fault> {
         match self.wire.try_borrow_mut() {
             Ok(mut wire) => happen(&mut wire, what),
@@ -110,7 +111,7 @@ impl<C: Counter> Kit<C> {
         }
     }
 
-    /// Somebody else sends the request of that line, and is told.
+    /// Sends somebody else's request, which the line says, and puts the reply into `told`.
     pub fn asks(&self, alloc: Global, line: &str, told: &mut Texts) -> Result<(), Fault> {
         let request = request_of(alloc, line)?;
         match self.wire.try_borrow_mut() {
@@ -119,7 +120,7 @@ impl<C: Counter> Kit<C> {
         }
     }
 
-    /// How often a connection was cut, a message came once more, or the server was stopped.
+    /// Returns how often a connection was cut, a message came once more, or the server was stopped.
     pub fn stops(&self) -> u32 {
         match self.wire.try_borrow_mut() {
             Ok(wire) => wire.stops(),

@@ -1,5 +1,5 @@
-//! Plays files of rows at a till, each word and what it prints, over a line of the row's own to a server on disks in
-//! memory.
+//! Plays files of rows at a till: each word, and what the till prints. Each row has its own line to a server on disks
+//! in memory.
 #![tactic(auto)]
 
 mod asking;

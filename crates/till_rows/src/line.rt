@@ -1,5 +1,5 @@
-//! The line between a till and the server: over each connection goes one message, whole, cut, late, or not at all.
-ghost use Rattle.std.specs.Prelude.{IfOk};
+//! The line between a till and the server. Each connection has one message, which comes whole, cut, late, or never.
+ghost use Rattle.std.specs.Prelude.{⊤, IfOk};
 ghost use Rattle.std.specs.Counts.{IsPrefixLen};
 
 use std::alloc::{AllocError, Global};
@@ -7,25 +7,25 @@ use std::cell::RefCell;
 use std::io::{self, ErrorKind, Read, Write};
 use std::marker::Model;
 use std::mem;
-use till_desk::Server;
+use till_work::Server;
 
-/// What stands behind the line.
+/// The server at the other end of the line.
 pub trait Counter: Drop {
-    /// Puts what is sent back to these bytes, which come over a connection of their own.
+    /// Puts the reply to these bytes, which come over a connection of their own, into `told`.
     fn answer(&mut self, sent: &[u8], told: &mut Vec<u8>);
 
-    /// How often it was stopped.
+    /// Returns how often the server was stopped.
     fn stops(&self) -> u32;
 }
 
-/// Behind how many bytes a connection breaks.
+/// After how many bytes a connection breaks.
 #[derive(Clone, Copy)]
 pub enum Cut {
-    /// It doesn't.
+    /// The connection doesn't break.
     Never,
-    /// Of what the till sends.
+    /// After so many bytes that the till sends.
     Sent(u64),
-    /// Of what it is told.
+    /// After so many bytes of the reply.
     Told(u64),
 }
 
@@ -33,7 +33,7 @@ pub enum Cut {
 const NOBODY: &[u8] = b"HTTP/1.1 403 Forbidden\r\ncontent-type: application/json\r\n\
     content-length: 24\r\n\r\n{\"refused\":\"no_counter\"}";
 
-/// Cuts the bytes behind so many, where there are more. How many cuts that are.
+/// Cuts the bytes after so many, if there are more. Returns the number of cuts.
 fn cut_off(bytes: &mut Vec<u8>, most: u64) -> u32 {
     match usize::try_from(most) {
         Ok(most) if most < bytes.len() => {
@@ -44,7 +44,7 @@ fn cut_off(bytes: &mut Vec<u8>, most: u64) -> u32 {
     }
 }
 
-/// Gives those bytes behind so many that there is room for. How many.
+/// Copies the bytes after the first `read`, as many as have room in `buf`. Returns how many.
 fn given(bytes: &[u8], read: usize, buf: &mut [u8]) -> usize
     ensures { IsPrefixLen result buf.new }
 {
@@ -54,7 +54,7 @@ fn given(bytes: &[u8], read: usize, buf: &mut [u8]) -> usize
     n
 }
 
-/// Has the message answered over a connection that breaks there. How many cuts that are.
+/// Sends the message to the server over a connection that breaks at the cut. Returns the number of cuts.
 fn ask_cut<C: Counter>(
     counter: &mut C,
     message: &mut Vec<u8>,
@@ -72,7 +72,7 @@ fn ask_cut<C: Counter>(
     }
 }
 
-/// Has the message answered over a connection that doesn't break, once more where the server is stopped at it.
+/// Sends the message to the server over a connection that doesn't break. Sends it once more if the server is stopped.
 fn ask_whole<C: Counter>(counter: &mut C, message: &[u8], told: &mut Vec<u8>) {
     for _ in 0..2 {
         told.clear();
@@ -83,39 +83,39 @@ fn ask_whole<C: Counter>(counter: &mut C, message: &[u8], told: &mut Vec<u8>) {
     }
 }
 
-/// Has each of the messages answered, when nobody waits for what is told.
+/// Sends each of the messages to the server. Nobody waits for the replies.
 fn ask_all<C: Counter>(counter: &mut C, messages: &[Vec<u8>], told: &mut Vec<u8>) {
     for message in messages {
         ask_whole(counter, message.as_slice(), told);
     }
 }
 
-/// A line, over which one connection goes at a time.
+/// A line that has one connection at a time.
 #[derive(Drop)]
 pub struct Wire<C: Counter> {
     alloc: Global,
     counter: C,
-    /// Whether nobody is there.
+    /// Whether no server is there.
     is_down: bool,
-    /// Whether the server that is there has another file.
+    /// Whether the server has another file.
     is_other: bool,
-    /// Whether the next message is kept under way, and its connection breaks.
+    /// Whether the next message is held back, and its connection breaks.
     keeps: bool,
-    /// Where the next connection breaks whose message isn't kept.
+    /// Where the next connection breaks whose message isn't held back.
     cut: Cut,
-    /// How many connections were cut, and messages came once more.
+    /// How many connections were cut, and how many messages came once more.
     breaks: u32,
-    /// Whether each message comes once more behind each later word.
+    /// Whether each message comes once more after each later word.
     repeats: bool,
     sent: Vec<u8>,
     told: Vec<u8>,
-    /// How many of the bytes that were told are read, once the message has come.
+    /// How many bytes of the reply the till has read. None until the message has come.
     read: Option<usize>,
     kept: Vec<Vec<u8>>,
     come: Vec<Vec<u8>>,
 }
 
-/// As of an image.
+/// The model is trivial, as for `Image`.
 impl<C: Counter> Model for Wire<C> {
     ghost use Rattle.std.specs.Prelude.{⊤};
 
@@ -143,28 +143,28 @@ impl<C: Counter> Wire<C> {
         }
     }
 
-    /// How often a connection was cut, a message came once more, or the server was stopped.
+    /// Returns how often a connection was cut, a message came once more, or the server was stopped.
     pub fn stops(&self) -> u32 {
         self.breaks.saturating_add(self.counter.stops())
     }
 
-    /// From now on nobody is there, or somebody is.
+    /// Sets whether no server is there from now on.
     pub fn goes_down(&mut self, is_down: bool) {
         self.is_down = is_down;
     }
 
-    /// From now on the server that is there has another file, or its own.
+    /// Sets whether the server has another file from now on.
     pub fn has_other_file(&mut self, is_other: bool) {
         self.is_other = is_other;
     }
 
-    /// The next message is kept under way.
+    /// Holds the next message back.
     pub fn keeps_next(&mut self) {
         self.keeps = true;
     }
 
-    /// The next connection whose message isn't kept breaks there. How many messages have come that will come once
-    /// more.
+    /// Sets where the next connection breaks whose message isn't held back. Returns how many messages have come that
+    /// will come once more.
     pub fn cuts_next(&mut self, cut: Cut) -> usize {
         self.cut = cut;
         self.come.len()
@@ -177,17 +177,17 @@ impl<C: Counter> Wire<C> {
         !self.is_down
     }
 
-    /// So many bytes are sent.
+    /// Takes bytes that the till sends.
     fn takes(&mut self, bytes: &[u8]) -> Result<(), AllocError> {
         self.sent.extend_from_slice(bytes)
     }
 
-    /// The message that was sent, which isn't needed any more.
+    /// Returns the message that was sent, and forgets it.
     fn taken(&mut self) -> Vec<u8> {
         mem::replace(&mut self.sent, Vec::new(self.alloc))
     }
 
-    /// The message comes, and is kept where it will come once more.
+    /// Sends the message to the server, and keeps the message if it will come once more.
     fn is_answered(&mut self) -> io::Result<()> {
         let cut = mem::replace(&mut self.cut, Cut::Never);
         let cuts = ask_cut(&mut self.counter, &mut self.sent, &mut self.told, cut);
@@ -199,7 +199,7 @@ impl<C: Counter> Wire<C> {
         Ok(())
     }
 
-    /// The message comes, or is kept.
+    /// Sends the message to the server, or holds it back.
     fn comes(&mut self) -> io::Result<()> {
         self.read = Some(0);
         if self.is_other {
@@ -214,7 +214,7 @@ impl<C: Counter> Wire<C> {
         self.is_answered()
     }
 
-    /// Gives some bytes of what is told, none only at the end.
+    /// Reads some bytes of the reply. Reads none only at the end, or if `buf` is empty.
     fn tell(&mut self, buf: &mut [u8]) -> io::Result<usize>
         ensures { IfOk result (λ n. IsPrefixLen n buf.new) }
     {
@@ -227,19 +227,19 @@ impl<C: Counter> Wire<C> {
         Ok(n)
     }
 
-    /// What somebody else is told to a message.
+    /// Sends somebody else's message, and returns the reply.
     pub fn ask(&mut self, message: &[u8]) -> &[u8] {
         ask_whole(&mut self.counter, message, &mut self.told);
         self.told.as_slice()
     }
 
-    /// The messages that were kept come now.
+    /// Sends the messages that were held back.
     pub fn come_late(&mut self) {
         ask_all(&mut self.counter, self.kept.as_slice(), &mut self.told);
         self.kept.clear();
     }
 
-    /// So many of the first messages come once more.
+    /// Sends so many of the first messages once more.
     pub fn come_again(&mut self, count: usize) {
         let count = count.min(self.come.len());
         let more = u32::try_from(count).unwrap_or(u32::MAX);
@@ -263,6 +263,11 @@ impl<'x, C: Counter> Server for Line<'x, C> {
     type Reader = Line<'x, C>;
 
     type Writer = Line<'x, C>;
+
+    // no clause can say what a cell holds
+    ghost opens = { λ _ _ _. ⊤ };
+
+    ghost refuses = { λ _. ⊤ };
 
     fn connect(&self) -> io::Result<(Line<'x, C>, Line<'x, C>)> {
         let is_there = match self.wire.try_borrow_mut() {

@@ -1,4 +1,4 @@
-//! The lines of a file: what is typed, what happens, and what has to be told.
+//! Plays the lines of a file: what is typed, what happens, and what has to be printed or replied.
 use crate::asking::status_in;
 use crate::book::Book;
 use crate::day::Trouble;
@@ -22,16 +22,16 @@ pub struct Play<'x, D: InMemory, C: Counter> {
     cut: Cut,
     told: Texts,
     wanted: Texts,
-    /// Whether what the last word came to was heard.
+    /// Whether the outcome of the last word or request was heard.
     is_heard: bool,
-    /// How many words were typed, and requests sent by others.
+    /// How many words were typed, and how many requests others sent.
     count: u32,
     /// How many lines were played.
     line: usize,
 }
 
 impl<'x, D: InMemory, C: Counter> Play<'x, D, C> {
-    /// Nothing is played yet.
+    /// Begins a file, with no line played yet.
     pub fn new(
         alloc: Global,
         world: &'x World,
@@ -53,7 +53,7 @@ impl<'x, D: InMemory, C: Counter> Play<'x, D, C> {
         })
     }
 
-    /// What was told last, as far as it was compared.
+    /// Swaps the last text that was printed or replied with `told`.
     pub fn swap_told(&mut self, told: &mut Texts) {
         mem::swap(&mut self.told, told);
     }
@@ -66,12 +66,12 @@ impl<'x, D: InMemory, C: Counter> Play<'x, D, C> {
         self.line
     }
 
-    /// How often something was stopped or cut.
+    /// Returns how often something was stopped, cut or sent once more.
     pub fn stops(&self) -> u32 {
         self.kit.stops().saturating_add(self.book.stops())
     }
 
-    /// Compares what was told last.
+    /// Compares the last text that was printed or replied, if it was heard.
     fn settles(&mut self) -> Result<(), Fault> {
         if mem::replace(&mut self.is_heard, false) {
             return settle(&self.told, &self.wanted);
@@ -79,7 +79,7 @@ impl<'x, D: InMemory, C: Counter> Play<'x, D, C> {
         Ok(())
     }
 
-    /// The file ends. Where the till was never stopped, all that was made sure of was told.
+    /// Ends the file. If the till was never stopped, compares all lines about settled entries.
     pub fn ends(&mut self) -> Result<(), Fault> {
         self.settles()?;
         if self.book.stops() > 0 {
@@ -92,12 +92,12 @@ impl<'x, D: InMemory, C: Counter> Play<'x, D, C> {
         settled
     }
 
-    /// Puts all that stands in the book.
+    /// Puts all rows of the book.
     pub fn put_book(&mut self, text: &mut Vec<u8>) -> Result<(), Fault> {
         self.book.put_text(text)
     }
 
-    /// Another word or request, which is to come to this status.
+    /// Begins another word or request, with the wanted status.
     fn begins(&mut self, status: &str) -> Result<(), Fault> {
         self.settles()?;
         self.count = self.count.saturating_add(1);
@@ -114,13 +114,13 @@ impl<'x, D: InMemory, C: Counter> Play<'x, D, C> {
         Ok(())
     }
 
-    /// Somebody else sends a request.
+    /// Sends a request of somebody else.
     fn asks(&mut self, line: &str) -> Result<(), Fault> {
         self.is_heard = true;
         self.kit.asks(self.alloc, line, &mut self.told)
     }
 
-    /// What happens to the clock, the book or the line.
+    /// Does what happens to the clock, the book or the line.
     fn happens(&mut self, what: &str) -> Result<(), Fault> {
         match what.strip_prefix("at ") {
             Some(at) => self.kit.sets(at),
@@ -132,7 +132,7 @@ impl<'x, D: InMemory, C: Counter> Play<'x, D, C> {
         }
     }
 
-    /// A line that begins a word or a request.
+    /// Plays a line that begins a word or a request.
     fn speaks(&mut self, status: &str, words: &str) -> Result<(), Fault> {
         match status.strip_prefix("till") {
             Some(status) => {
@@ -147,7 +147,7 @@ impl<'x, D: InMemory, C: Counter> Play<'x, D, C> {
     }
 
     /// Plays the next line: `till> WORDS` or `till STATUS> WORDS`, `STATUS> WHO METHOD PATH BODY`, `: at MOMENT`,
-    /// `: WHAT`, or one more line of what is to be told.
+    /// `: WHAT`, or one more line of the wanted text.
     pub fn plays(&mut self, line: &str) -> Result<(), Fault> {
         self.line = self.line.saturating_add(1);
         if line.is_empty() || line.starts_with("#") {

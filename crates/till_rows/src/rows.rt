@@ -1,4 +1,4 @@
-//! The rows: each file as it stands, and the first one disturbed in all ways.
+//! Plays the rows: each file as it is, and the first one disturbed in all ways.
 use crate::day::{Left, QUIET, Trouble, Wrong, disturbed, play_day};
 use crate::disks::{Calls, NEVER};
 use crate::fault::Fault;
@@ -6,11 +6,14 @@ use crate::line::Cut;
 use crate::world::World;
 use std::fs;
 
-/// More disturbed days than there are.
+/// More disturbed days than any part has.
 const MOST_DAYS: u64 = 4000;
 
-/// From this byte of a message on only each fifth one is the last.
+/// From this byte of a message on, a connection breaks only at each fifth byte.
 const EACH_BYTE: u64 = 100;
+
+/// A day is disturbed at more places than that, in each part. How many they are depends on how the book is kept.
+const FEWEST: u32 = 100;
 
 /// The stock file that is imported, in the folder of the first file.
 const STOCK: &str = "stock.csv";
@@ -18,17 +21,17 @@ const STOCK: &str = "stock.csv";
 /// What is disturbed.
 #[derive(Clone, Copy)]
 enum Part {
-    /// The log of the book and its other file, each in turn; what wasn't synced is lost.
+    /// The disk of the book's log and the disk of its other file, each in turn. What wasn't synced is lost.
     Till,
-    /// The same, and nothing that was written is lost.
+    /// The same disks, but nothing that was written is lost.
     Killed,
-    /// The server's.
+    /// The disks of the server, each in turn.
     Server,
-    /// What the till sends, and what it is told.
+    /// The bytes that the till sends, and the bytes of the replies.
     Line,
 }
 
-/// Behind so many calls of a disk it fails, and the other one never.
+/// Returns the calls after which disks fail: so many for one disk, and never for the other.
 fn behind(is_log: bool, count: u64) -> Calls {
     if is_log {
         Calls {
@@ -40,7 +43,7 @@ fn behind(is_log: bool, count: u64) -> Calls {
     }
 }
 
-/// Where the first connections of a day's words break.
+/// Returns where the first connections of a day's words break.
 fn cut_at(is_sent: bool, number: u64) -> Cut {
     let more = number.saturating_sub(EACH_BYTE).saturating_mul(4);
     let bytes = number.saturating_add(more);
@@ -51,7 +54,7 @@ fn cut_at(is_sent: bool, number: u64) -> Cut {
     }
 }
 
-/// What the day of that number is disturbed by.
+/// Returns the disturbances of the day with that number.
 fn trouble_at(part: Part, is_first: bool, number: u64) -> Trouble {
     let mut trouble = QUIET;
     match part {
@@ -66,7 +69,7 @@ fn trouble_at(part: Part, is_first: bool, number: u64) -> Trouble {
     trouble
 }
 
-/// Disturbs the part of the day at each place in turn, from the first to the last. How often it was disturbed.
+/// Disturbs the part of the day at each place in turn, from the first to the last. Returns how often it was disturbed.
 fn sweep(
     world: &World,
     script: &str,
@@ -90,7 +93,7 @@ fn sweep(
     })
 }
 
-/// The same of both halves of the part.
+/// Disturbs both halves of the part at each place.
 fn sweeps(
     world: &World,
     script: &str,
@@ -103,7 +106,7 @@ fn sweeps(
     Ok(first.saturating_add(second))
 }
 
-/// Says where and why a row is wrong.
+/// Prints where and why a row is wrong.
 fn complain(rt: &HostRuntime, name: &str, path: &str, wrong: Wrong, told: &[u8]) {
     let line = wrong.line;
     let told = str::from_utf8(told).unwrap_or("no text");
@@ -113,7 +116,7 @@ fn complain(rt: &HostRuntime, name: &str, path: &str, wrong: Wrong, told: &[u8])
     };
 }
 
-/// Tells what came of a row. Whether it agrees.
+/// Prints the outcome of a row. Returns whether the row agrees.
 fn tell(rt: &HostRuntime, name: &str, path: &str, played: Result<u32, Wrong>, left: &Left) -> bool {
     match played {
         Ok(count) => println!(rt; "{name}: {count}").is_ok(),
@@ -124,7 +127,32 @@ fn tell(rt: &HostRuntime, name: &str, path: &str, played: Result<u32, Wrong>, le
     }
 }
 
-/// The file's name in its folder.
+/// Prints the outcome of a part that was disturbed. Returns whether each disturbed day agreed, and the places were more
+/// than the fewest.
+fn tell_swept(
+    rt: &HostRuntime,
+    name: &str,
+    path: &str,
+    stops: Result<u32, Wrong>,
+    left: &Left,
+) -> bool {
+    match stops {
+        Ok(count) if count > FEWEST => {
+            let fewest = FEWEST;
+            println!(rt; "{name}: more than {fewest}").is_ok()
+        }
+        Ok(count) => {
+            let _ = println!(rt; "{name}: {path}:0: only {count} places");
+            false
+        }
+        Err(wrong) => {
+            complain(rt, name, path, wrong, left.told());
+            false
+        }
+    }
+}
+
+/// Returns the file's name in its folder.
 fn file_name(path: &str) -> &str {
     match path.rsplit_once('/') {
         Some((_, name)) => name,
@@ -132,7 +160,7 @@ fn file_name(path: &str) -> &str {
     }
 }
 
-/// Plays the file as it stands. Whether it agrees, or is wrong where its name says so.
+/// Plays the file as it is. Returns whether the file agrees, or, if its name begins with `wrong`, whether it disagrees.
 fn plain(rt: &HostRuntime, world: &World, path: &str, script: &str, left: &mut Left) -> bool {
     let file = file_name(path);
     let name = file.strip_suffix(".till").unwrap_or(file);
@@ -143,7 +171,7 @@ fn plain(rt: &HostRuntime, world: &World, path: &str, script: &str, left: &mut L
     tell(rt, name, path, count, left) != name.starts_with("wrong")
 }
 
-/// Plays the day disturbed in all ways, whose book has to be that one each time.
+/// Plays the day disturbed in all ways. Its book has to be that one each time.
 fn swept(
     rt: &HostRuntime,
     world: &World,
@@ -160,15 +188,15 @@ fn swept(
         ("cut_at_each_byte", Part::Line),
     ] {
         let stops = sweeps(world, script, book, part, left);
-        is_well = tell(rt, name, path, stops, left) && is_well;
+        is_well = tell_swept(rt, name, path, stops, left) && is_well;
     }
     let mut late = QUIET;
     late.repeats = true;
     let stops = disturbed(world, script, book, &late, left);
-    tell(rt, "late_messages", path, stops, left) && is_well
+    tell_swept(rt, "late_messages", path, stops, left) && is_well
 }
 
-/// Plays the day that was played last once more, disturbed in all ways.
+/// Plays the last day once more, disturbed in all ways.
 fn all_disturbed(
     rt: &HostRuntime,
     world: &World,
@@ -182,7 +210,7 @@ fn all_disturbed(
     }
 }
 
-/// Plays a file, if it is read: as it stands, and the first one disturbed too.
+/// Plays a file, if it can be read. The first file is also played disturbed.
 fn play_file(rt: &HostRuntime, world: &World, path: &str, is_first: bool, left: &mut Left) -> bool {
     let Ok(script) = fs::read_to_string(rt, path) else {
         let _ = println!(rt; "{path}:0: the file isn't read");
@@ -195,7 +223,7 @@ fn play_file(rt: &HostRuntime, world: &World, path: &str, is_first: bool, left: 
     is_well
 }
 
-/// What all days begin with. The stock file stands beside that file.
+/// Makes what all days begin with. The stock file is in the folder of that file.
 fn beginning(rt: &HostRuntime, path: &str) -> Result<World, Fault> {
     let folder = path.strip_suffix(file_name(path)).unwrap_or("");
     let stock = format!(in rt.alloc(); "{folder}{STOCK}")?;
@@ -215,9 +243,9 @@ fn play_files(rt: &HostRuntime, world: &World, paths: &[String]) -> bool {
     is_well
 }
 
-/// Plays the files in this order, the first one disturbed too, and tells what came of each row. Whether all agree but
-/// those whose names begin with `wrong`, and none of these. What the days import is `stock.csv` in the folder of the
-/// first file.
+/// Plays the files in this order, the first one disturbed too, and prints the outcome of each row. The days import
+/// `stock.csv` from the folder of the first file. Returns true if every row agrees, except that a file whose name
+/// begins with `wrong` has to disagree.
 pub fn play_days(rt: &HostRuntime, paths: &[String]) -> bool {
     let Some(first) = paths.first() else {
         return true;

@@ -1,18 +1,20 @@
 //! A till's clock and its shelf for lists, both of the row's own.
+ghost use Rattle.std.specs.Prelude.{⊤};
+
 use std::alloc::Global;
 use std::cell::{Cell, RefCell};
 use std::io;
 use std::marker::Model;
 use std::time::{Clock, Duration};
-use till_program::Shelf;
+use till_program::{Shelf, WallClock};
 
-/// A clock that stands until a line sets it.
+/// A clock that stands still until a line sets it.
 #[derive(Drop)]
 pub struct Hands {
     seconds: Cell<u64>,
 }
 
-/// As of an image.
+/// The model is trivial, as for `Image`.
 impl Model for Hands {
     ghost use Rattle.std.specs.Prelude.{⊤};
 
@@ -22,7 +24,7 @@ impl Model for Hands {
 }
 
 impl Hands {
-    /// A clock that stands at the first second of 1970.
+    /// Makes a clock that stands at the first second of 1970.
     pub fn new() -> Hands {
         Hands {
             seconds: Cell::new(0),
@@ -45,6 +47,15 @@ impl Clock for Hands {
     }
 }
 
+impl WallClock for Hands {
+    // nothing is known of what it shows
+    ghost shows = { λ _ _. ⊤ };
+
+    fn seconds(&self) -> io::Result<u64> {
+        Ok(self.seconds.get())
+    }
+}
+
 /// A list, and in which second it was put on the shelf.
 #[derive(Drop)]
 struct List {
@@ -53,13 +64,13 @@ struct List {
     bytes: Vec<u8>,
 }
 
-/// A shelf in memory, of which the last list that was put there under a name stands.
+/// A shelf in memory. For each name it has the last list that was put there.
 #[derive(Drop)]
 pub struct Board {
     lists: RefCell<Vec<List>>,
 }
 
-/// As of an image.
+/// The model is trivial, as for `Image`.
 impl Model for Board {
     ghost use Rattle.std.specs.Prelude.{⊤};
 
@@ -69,7 +80,7 @@ impl Model for Board {
 }
 
 impl Board {
-    /// A shelf with nothing on it.
+    /// Makes an empty shelf.
     pub fn new(alloc: Global) -> Board {
         Board {
             lists: RefCell::new(Vec::new(alloc)),
@@ -77,7 +88,7 @@ impl Board {
     }
 }
 
-/// The place of the last list of that name.
+/// Returns the place of the last list of that name.
 fn place_of(lists: &[List], name: &str) -> Option<usize> {
     let mut found = None;
     for (at, list) in lists.iter().enumerate() {
@@ -88,7 +99,7 @@ fn place_of(lists: &[List], name: &str) -> Option<usize> {
     found
 }
 
-/// A copy of the list, with its second.
+/// Returns a copy of the list, with its second.
 fn copied(alloc: Global, list: &List) -> Option<(u64, Vec<u8>)> {
     match Vec::from_slice(alloc, list.bytes.as_slice()) {
         Ok(bytes) => Some((list.second, bytes)),

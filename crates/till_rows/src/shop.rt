@@ -1,4 +1,4 @@
-//! The server: a chain in files in memory, which is opened anew where its disks crash.
+//! The server: a chain in files in memory. The chain is opened anew if its disks crash.
 use crate::disks::{Calls, Image, InMemory, NEVER, closed, crashed, disks};
 use crate::fault::Fault;
 use crate::line::Counter;
@@ -17,7 +17,7 @@ fn fill<S: Alter>(conn: &mut Connection<S>) -> bool {
     conn.is_autocommit() && create(conn, &FirstRows::OfOpening).is_ok()
 }
 
-/// What the files of a chain hold that has the opening rows.
+/// Returns what the files of a chain with the opening rows hold.
 pub fn new_chain<D: InMemory>(alloc: Global) -> Result<Image, Fault> {
     match connect::<D>(alloc, disks(alloc, &Image::new(alloc), NEVER)?) {
         Ok(mut conn) => {
@@ -31,7 +31,7 @@ pub fn new_chain<D: InMemory>(alloc: Global) -> Result<Image, Fault> {
     Err(Fault::Line("no chain is made"))
 }
 
-/// The chain that the files hold, where there is one, and how often their disks crashed.
+/// Opens the chain that the files hold, if there is one. Returns also how often the files' disks crashed.
 fn opened<D: InMemory>(alloc: Global, files: Files<D>) -> (Option<Chain<FileStore<D>>>, u32) {
     let limits = Limits::default();
     match Chain::open_files(alloc, files, limits) {
@@ -40,7 +40,7 @@ fn opened<D: InMemory>(alloc: Global, files: Files<D>) -> (Option<Chain<FileStor
     }
 }
 
-/// Serves one request. Whether the chain has failed.
+/// Serves one request. Returns whether the chain has failed.
 fn fails_at<S: Alter>(
     alloc: Global,
     chain: &mut Chain<S>,
@@ -52,7 +52,7 @@ fn fails_at<S: Alter>(
     chain.is_failed()
 }
 
-/// A server. Without a chain it says nothing.
+/// A server. Without a chain it sends no reply.
 #[derive(Drop)]
 pub struct Shop<D: InMemory> {
     alloc: Global,
@@ -60,7 +60,7 @@ pub struct Shop<D: InMemory> {
     stops: u32,
 }
 
-/// As of an image.
+/// The model is trivial, as for `Image`.
 impl<D: InMemory> Model for Shop<D> {
     ghost use Rattle.std.specs.Prelude.{⊤};
 
@@ -70,7 +70,7 @@ impl<D: InMemory> Model for Shop<D> {
 }
 
 impl<D: InMemory> Shop<D> {
-    /// A server of the chain that the image has, on disks that fail behind so many calls.
+    /// Makes a server of the image's chain, on disks that fail after so many calls.
     pub fn new(alloc: Global, image: &Image, calls: Calls) -> Result<Shop<D>, Fault> {
         let (chain, stops) = opened(alloc, disks(alloc, image, calls)?);
         Ok(Shop {
@@ -80,7 +80,7 @@ impl<D: InMemory> Shop<D> {
         })
     }
 
-    /// Its disks crash, and the chain that they hold is opened.
+    /// Crashes the server's disks, and opens the chain that they hold.
     fn restart(&mut self) {
         self.stops = self.stops.saturating_add(1);
         let alloc = self.alloc;

@@ -1,4 +1,4 @@
-//! What is told at a till, and what is wanted of it.
+//! Texts that a till prints or that are replied, and the wanted texts.
 ghost use Rattle.std.specs.Prelude.{◌≡◌, OnOk};
 
 use crate::fault::Fault;
@@ -7,18 +7,18 @@ use std::io::Write;
 use std::marker::Model;
 use std::mem;
 
-/// The first word of a line by which the till says that a refused entry was done.
+/// The first word of a line in which the till says that a refused entry was done.
 const SURE: &str = "Entry ";
 
-/// What is told, or wanted: of one word or request, and of the whole day what was made sure of, which may be told
-/// behind a later word.
+/// A text that was printed or replied, or a wanted one. `text` is of one word or request. `sure` has the whole day's
+/// lines about settled entries, since such a line may be printed after a later word.
 #[derive(Drop)]
 pub struct Texts {
     text: Vec<u8>,
     sure: Vec<u8>,
 }
 
-/// Its bytes: so those who hold one aren't checked over its parts.
+/// The model is the bytes, so code that holds a `Texts` isn't checked over its parts.
 impl Model for Texts {
     ghost use Rattle.std.specs.Prelude.{ℕ, List};
 
@@ -27,7 +27,7 @@ impl Model for Texts {
     ghost view = { λ it. (it.text.items, it.sure.items) };
 }
 
-/// Puts the line, and its end.
+/// Puts the line and its end.
 fn put_line(text: &mut Vec<u8>, line: &str) -> Result<(), AllocError> {
     text.extend_from_slice(line.as_bytes())?;
     text.extend_from_slice(b"\n")
@@ -61,14 +61,14 @@ impl Texts {
         }
     }
 
-    /// The status stands alone: nothing is told yet.
+    /// Puts the status alone, with no line yet.
     fn put_status(&mut self, status: u16) -> Result<(), Fault> {
         self.text.clear();
         write!(&mut self.text, "{status}\n")?;
         Ok(())
     }
 
-    /// The status, and the lines behind it.
+    /// Puts the status, and then the lines.
     pub fn begin(&mut self, status: u16, lines: &str) -> Result<(), Fault> {
         self.put_status(status)?;
         for line in lines.lines() {
@@ -77,13 +77,13 @@ impl Texts {
         Ok(())
     }
 
-    /// What was made sure of stands in the place of the text.
+    /// Swaps the text with the lines about settled entries.
     pub fn turn(&mut self) {
         mem::swap(&mut self.text, &mut self.sure);
     }
 }
 
-/// Whether the text that was told is the one that is wanted: all bytes of it.
+/// Fails unless the text is the wanted one, in all bytes.
 pub fn settle(told: &Texts, wanted: &Texts) -> Result<(), Fault>
     ensures { OnOk result (told.now.0 ≡ wanted.now.0) }
 {
@@ -93,7 +93,7 @@ pub fn settle(told: &Texts, wanted: &Texts) -> Result<(), Fault>
     Ok(())
 }
 
-/// The same of what was made sure of in the whole day.
+/// Fails unless the whole day's lines about settled entries are the wanted ones, in all bytes.
 pub fn settle_sure(told: &Texts, wanted: &Texts) -> Result<(), Fault>
     ensures { OnOk result (told.now.1 ≡ wanted.now.1) }
 {

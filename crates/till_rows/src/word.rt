@@ -1,4 +1,4 @@
-//! A word that is typed at an open book, and what is printed of it.
+//! Types a word at an open book, and takes what is printed.
 ghost use Rattle.std.specs.Prelude.{◌≡◌, false};
 
 use crate::book::NO_BOOK;
@@ -14,7 +14,7 @@ use std::alloc::Global;
 use till_program::{Desk, Quiet, Said, TillFault, do_word, make_sure};
 use till_words::{TillAct, TillLine, read_till_words, split_line};
 
-/// The import of the stock file as a lot of that name.
+/// Returns the import of the stock file as a lot of that name.
 fn import(alloc: Global, stock: &[u8], lot: LotName) -> Result<TillAct, Fault> {
     match StockFile::new(Vec::from_slice(alloc, stock)?) {
         Some(file) => Ok(TillAct::Do(Act::Import { lot, file })),
@@ -22,7 +22,7 @@ fn import(alloc: Global, stock: &[u8], lot: LotName) -> Result<TillAct, Fault> {
     }
 }
 
-/// What is asked for, with the stock file in the place of its name.
+/// Replaces the name of the stock file by the file, if the act is an import.
 fn with_stock(alloc: Global, act: TillAct, stock: &[u8]) -> Result<TillAct, Fault> {
     match act {
         TillAct::Import { file, lot } => {
@@ -33,7 +33,7 @@ fn with_stock(alloc: Global, act: TillAct, stock: &[u8]) -> Result<TillAct, Faul
     }
 }
 
-/// The words that are typed in a line.
+/// Splits a line into the words that are typed.
 fn words_in(alloc: Global, line: &str) -> Result<Vec<String>, Fault> {
     match split_line(alloc, line) {
         Ok(words) => Ok(words),
@@ -41,7 +41,7 @@ fn words_in(alloc: Global, line: &str) -> Result<Vec<String>, Fault> {
     }
 }
 
-/// What the words ask for, with the stock file in the place of its name.
+/// Reads what the words ask for, with the stock file instead of its name.
 fn act_of(alloc: Global, stock: &[u8], line: &str) -> Result<TillAct, Fault> {
     let words = words_in(alloc, line)?;
     let read = read_till_words(alloc, words.as_slice());
@@ -58,7 +58,7 @@ fn act_of(alloc: Global, stock: &[u8], line: &str) -> Result<TillAct, Fault> {
     }
 }
 
-/// Does a word at an open book, and makes sure of refused entries behind it, as the program does.
+/// Does a word at an open book, and then settles refused entries with `make_sure`, as the program does.
 fn done<S: Alter, C: Counter>(
     desk: &Desk<'_, Hands, Line<'_, C>, Board>,
     conn: &mut Connection<S>,
@@ -75,13 +75,13 @@ fn done<S: Alter, C: Counter>(
     Ok(said)
 }
 
-/// Has the fault of a word told, as it is printed.
+/// Puts the fault of a word into `told`, as it is printed.
 fn tell_fault(alloc: Global, fault: TillFault, told: &mut Texts) -> Result<(), Fault> {
     let text = format!(in alloc; "{fault}\n")?;
     told.begin(u16::from(fault.status()), text.as_str())
 }
 
-/// Has what is printed of a word told. Whether the book's disk hasn't failed.
+/// Puts what a word prints into `told`. Returns false if the book's disk has failed.
 fn tell(alloc: Global, said: Result<Said, TillFault>, told: &mut Texts) -> Result<bool, Fault> {
     let is_told = match said {
         Ok(said) => told.begin(u16::from(said.status), said.text.as_str()),
@@ -94,7 +94,7 @@ fn tell(alloc: Global, said: Result<Said, TillFault>, told: &mut Texts) -> Resul
     }
 }
 
-/// Types the line at a till's book, and has told what is printed. Whether the book's disk hasn't failed.
+/// Types the line at a till's book, and puts what is printed into `told`. Returns false if the book's disk has failed.
 pub fn type_at<'x, S: Alter, C: Counter>(
     alloc: Global,
     world: &'x World,

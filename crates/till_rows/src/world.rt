@@ -1,4 +1,4 @@
-//! What all days begin with.
+//! The things that all days begin with.
 use crate::book::new_book;
 use crate::disks::{Image, Ram};
 use crate::fault::Fault;
@@ -8,7 +8,7 @@ use std::alloc::Global;
 use std::marker::Model;
 use till_requests::{Settings, read_settings};
 
-/// The till's settings: it is branch 1's, and IDA LUND works there.
+/// The till's settings: the till is branch 1's, and IDA LUND works at it.
 const SETTINGS: &[u8] =
     b"address row:1\ntoken 11111111111111111111111111111111\nstaff 1\nmark tabcdefghij\n";
 
@@ -22,7 +22,7 @@ pub struct World {
     chain: Image,
 }
 
-/// As of an image.
+/// The model is trivial, as for `Image`.
 impl Model for World {
     ghost use Rattle.std.specs.Prelude.{⊤};
 
@@ -31,7 +31,7 @@ impl Model for World {
     ghost view = { λ _. tt };
 }
 
-/// The till's settings.
+/// Returns the till's settings.
 fn own_settings(alloc: Global) -> Result<Settings, Fault> {
     match read_settings(alloc, SETTINGS) {
         Ok(settings) => Ok(settings),
@@ -40,7 +40,7 @@ fn own_settings(alloc: Global) -> Result<Settings, Fault> {
 }
 
 impl World {
-    /// What all days begin with, and that stock file, which is imported whatever name is typed.
+    /// Makes what all days begin with. The stock file is imported whatever name is typed.
     pub fn new(alloc: Global, stock: Vec<u8>) -> Result<World, Fault> {
         let book = new_book::<Ram>(alloc)?;
         let chain = new_chain::<Ram>(alloc)?;
@@ -57,7 +57,7 @@ impl World {
         }
     }
 
-    /// The server's own reader of requests.
+    /// Returns the server's own reader of requests.
     pub fn routes(&self) -> &Routes {
         &self.routes
     }
@@ -66,17 +66,17 @@ impl World {
         &self.settings
     }
 
-    /// The stock file that is imported.
+    /// Returns the stock file that is imported.
     pub fn stock(&self) -> &[u8] {
         self.stock.as_slice()
     }
 
-    /// What the files of the till's book hold.
+    /// Returns what the files of the till's book hold.
     pub fn book(&self) -> &Image {
         &self.book
     }
 
-    /// What the files of the chain hold.
+    /// Returns what the files of the chain hold.
     pub fn chain(&self) -> &Image {
         &self.chain
     }

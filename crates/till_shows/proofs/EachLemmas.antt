@@ -1,4 +1,4 @@
--- What each has a value of, from front to back: what was made of those before, and what is still to come.
+-- `each` from front to back: the values of the elements before, and the values still to come.
 use Rattle.shop_types.proofs.Common.{◌≡◌, ◌∙◌, ◌≤◌, ◌<◌, ◌+◌, ℕ, List, [], ◌∷◌, ◌++◌, map, length, get_or, drop, refl, sym, ap, append-nil, append_assoc, Option, Some, None, drop_all, drop_more, option_map}
 use Rattle.till_shows.specs.Bodies.{each}
 
@@ -39,7 +39,7 @@ stop {A} f done xs i x h is value =
 pub whole : {A B : Type 0} (f : A → Option B) (done : List B) (xs : List A) (i : ℕ) → length xs ≤ i → behind done (each f (drop i xs)) ≡ Some done
 whole {A} f done xs i h = ap (λ (them : List A). behind done (each f them)) (drop_all i xs h) ∙ behind_last done
 
--- the same of what each is seen as
+-- `each` over a mapped list
 pub each-map : {A B C : Type 0} (g : A → B) (f : B → Option C) (xs : List A) → each f (map g xs) ≡ each (λ a. f (g a)) xs
 each-map g f [] = refl
 each-map g f (x ∷ xs) = rw (each-map g f xs) refl

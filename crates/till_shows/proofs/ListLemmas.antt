@@ -1,4 +1,4 @@
--- Tables of what is listed, object by object, and what is found in them.
+-- Tables of listed objects, object by object, and what is found in them.
 use Rattle.shop_types.proofs.Common.{◌≡◌, ◌∙◌, ◌≤◌, ◌<◌, ◌+◌, ℕ, List, [], ◌∷◌, map, filter, length, get_or, drop, refl, sym, ap, append-nil, append_assoc, Option, Some, None, Bool, true, false, inl, inr, cases_Bool, drop_all, drop_more, option_map, option_and_then, Text}
 use Rattle.std.specs.Prelude.{◌||◌, ◌==◌}
 use Rattle.serde_json.specs.Data.{Data}
@@ -39,7 +39,7 @@ without_row table new rest h =
     let is : more_rows table [] ≡ new = cc in
     ap (λ (t : Table). option_map (more_rows t) rest) (sym (nothing_more table) ∙ is)
 
--- an object more
+-- one more object
 pub found_more : (fields : List Field) (part : Text) (table new : Table) (d : Data) (ds : List Data) → option_map (more_rows table) (found_rows fields part (d ∷ [])) ≡ Some new
     → option_map (more_rows table) (found_rows fields part (d ∷ ds)) ≡ option_map (more_rows new) (found_rows fields part ds)
 found_more fields part table new d ds h = elim (cases_Bool (is_found part fields d)) [

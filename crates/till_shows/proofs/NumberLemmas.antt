@@ -54,7 +54,7 @@ pub none_read : (ds : List ℕ) → None ≡ row_number_of ds → ds ≢ 48 ∷ 
 none_read ds none other zero small is = other (is ∙ zero_text)
 none_read ds none other (suc n) small is = let no : ◌≡◌ {A = Option ℕ} None (Some (suc n)) = none ∙ ap row_number_of is ∙ reads_decimal (suc n) (omega arith) small in cc
 
--- ---- what stands between a start and an end
+-- ---- the text between a start and an end
 
 pub between_ends : (body start rest end : List ℕ) (r : Option (Bor (List ℕ))) → body ≡ start ++ rest → MatchOption r ((front : List ℕ) → rest ≢ front ++ end) (λ x. rest ≡ x.now ++ end)
     → IfSome r (λ x. body ≡ start ++ (x.now ++ end))

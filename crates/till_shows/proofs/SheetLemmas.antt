@@ -1,9 +1,9 @@
--- Lines, one behind another.
+-- Lines, one after another.
 use Rattle.shop_types.proofs.Common.{◌≡◌, ◌∙◌, ◌≤◌, ◌<◌, ◌+◌, ℕ, List, ◌∷◌, ◌++◌, length, get_or, drop, refl, sym, ap, append-nil, append_assoc, Option, Some, None, drop_all, drop_more, option_map, Text}
 use Rattle.std.specs.Prelude.{flat_map}
 use Rattle.till_shows.specs.Bodies.{each}
 
--- the lines behind a text
+-- the lines after a text
 abbrev pub lines_behind : Text → Option (List Text) → Option Text
 lines_behind done lines = option_map (λ (them : List Text). done ++ flat_map (λ (line : Text). line) them) lines
 

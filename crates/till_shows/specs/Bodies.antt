@@ -1,4 +1,4 @@
--- What the body of a reply tells: a JSON value, and what stands in it.
+-- The body of a reply: a JSON value, and what is in it.
 use Rattle.std.specs.Prelude.{ℕ, ℤ, ◌==◌, Bool, false, List, [], ◌∷◌, Option, Some, None, option_map, option_and_then, unwrap_or, if◌then◌else◌}
 use Rattle.std.specs.Str.{is_utf8}
 use Rattle.serde_json.specs.Data.{Data, Items, no_items, item}
@@ -6,11 +6,11 @@ use Rattle.serde_json.specs.Find.{get, as_bool, as_str, as_number, as_u64, as_i6
 use Rattle.serde_json.specs.Read.{read}
 use Rattle.shop_model.specs.Values.{Text}
 
--- the value that a body is
+-- the value that a body is, if the body is JSON in UTF-8
 abbrev pub body_of : Text → Option Data
 body_of body = if is_utf8 body then read body else None
 
--- each one's value, in their order, where each has one
+-- the values of `f` for all elements, in their order, if each element has one
 abbrev pub each : {A B : Type 0} → (A → Option B) → List A → Option (List B)
 each f [] = Some []
 each f (a ∷ rest) = option_and_then (λ b. option_map (λ more. b ∷ more) (each f rest)) (f a)
@@ -21,7 +21,7 @@ each f (a ∷ rest) = option_and_then (λ b. option_map (λ more. b ∷ more) (e
 abbrev pub whole_number : Data → Option ℕ
 whole_number d = option_and_then as_u64 (as_number d)
 
--- so many cents, which may be below zero
+-- a number of cents, which may be below zero
 abbrev pub cents_in : Data → Option ℤ
 cents_in d = option_and_then as_i64 (as_number d)
 
@@ -54,6 +54,6 @@ flag_at name d = option_and_then as_bool (get name d)
 abbrev pub numbers_at : Text → Data → Option (List ℕ)
 numbers_at name d = option_and_then numbers_in (get name d)
 
--- the object says that number under the name
+-- the object's member of this name is this number
 abbrev pub has_number : Text → ℕ → Data → Bool
 has_number name n d = unwrap_or (option_map (λ m. m == n) (number_at name d)) false

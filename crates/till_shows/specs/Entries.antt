@@ -16,7 +16,7 @@ payment_text customer (Some rental) amount = codes "pay: customer " ++ (decimal 
 abbrev pub dispatch_text : ℕ → List ℕ → Text
 dispatch_text to copies = codes "dispatch: branch " ++ (decimal to ++ (codes ", copies " ++ commas copies))
 
--- the lines that are missing, where some are
+-- the missing lines are added if there are any
 abbrev pub receipt_text : ℕ → ℕ → List ℕ → Text
 receipt_text source number missing =
     if length missing == 0 then codes "receive: branch " ++ (decimal source ++ (codes ", consignment " ++ decimal number))
@@ -33,6 +33,6 @@ act_text (Dispatch to copies) = dispatch_text to copies
 act_text (Receive source number missing) = receipt_text source number missing
 act_text (Scrap copy) = codes "scrap: copy " ++ decimal copy
 
--- with the command's moment
+-- the command's moment is added
 abbrev pub command_text : Command → Text
 command_text command = act_text command.act ++ (codes " (" ++ (moment_text command.moment ++ codes ")"))

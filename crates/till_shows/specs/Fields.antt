@@ -1,4 +1,4 @@
--- The members of objects that are shown, each by a text.
+-- The members of objects that are shown, and the text of each.
 use Rattle.std.specs.Prelude.{Bool, true, false, List, [], option_map, option_and_then, Option, Some, None, codes, decimal}
 use Rattle.serde_json.specs.Data.{Data, null, boolean, number, string, array, object}
 use Rattle.serde_json.specs.Find.{get, as_u64}
@@ -11,7 +11,7 @@ use Rattle.till_shows.specs.declared.parts.Form.TheVariants.{Plain, Money}
 use Rattle.till_shows.specs.declared.tables.Side.{Side}
 use Rattle.till_shows.specs.declared.tables.Side.TheVariants.{Left, Right}
 
--- a member's name, the heading above its texts, how it is shown, and whether a part of its text is looked for
+-- a member's name, the heading above its texts, how it is shown, and whether a search looks for a part in its text
 pub record Field : Type 0 where
   pub name : Text
   pub heading : Text
@@ -37,7 +37,7 @@ abbrev pub yes_text : Bool → Text
 yes_text true = codes "yes"
 yes_text false = codes "no"
 
--- a text or a number as it is, a list of numbers with commas, yes or no, and nothing for null
+-- a text or a number as it is, a list of numbers with commas, yes or no, and an empty text for null
 abbrev pub plain_text : Data → Option Text
 plain_text null = Some []
 plain_text (boolean b) = Some (yes_text b)

@@ -1,14 +1,14 @@
--- Tables of texts, and the lines that are written of them.
+-- Tables of texts, and the lines that show them.
 use Rattle.std.specs.Prelude.{List}
 use Rattle.shop_model.specs.Values.{Text}
 use Rattle.till_shows.specs.declared.tables.Side.{Side}
 
--- what is written of a line, and the blanks that stand behind it where something else comes
+-- what is written of a line so far, and the blanks to write before the next text, if one comes
 pub record Line : Type 0 where
   pub text : Text
   pub gap : Text
 
--- where the texts of each column stand, and the rows, of which the first has the headings
+-- how the texts of each column are aligned, and the rows; the first row has the headings
 pub record Table : Type 0 where
   pub sides : List Side
   pub rows : List (List Text)

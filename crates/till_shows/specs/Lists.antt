@@ -1,4 +1,4 @@
--- The tables of what bodies list, and what a list says of one number.
+-- The tables of the lists in bodies, and the look-up of one number in a list.
 use Rattle.std.specs.Prelude.{ℕ, ◌==◌, ◌&&◌, ◌||◌, nat_le, Bool, false, List, [], ◌∷◌, ◌++◌, map, filter, take, length, Option, Some, None, option_map, option_and_then, unwrap_or, codes, if◌then◌else◌}
 use Rattle.std.specs.Str.{str_eq_ignore_ascii_case}
 use Rattle.serde_json.specs.Data.{Data}
@@ -9,11 +9,11 @@ use Rattle.till_shows.specs.Lines.{Table}
 
 -- ---- what is looked for
 
--- in any case of ASCII letters
+-- the text begins with the part, in any case of ASCII letters
 abbrev pub begins_with : Text → Text → Bool
 begins_with part text = nat_le (length part) (length text) && str_eq_ignore_ascii_case (take (length part) text) part
 
--- the part stands somewhere in the text; an empty one stands in each
+-- the text contains the part; each text contains an empty part
 abbrev pub stands_in : Text → Text → Bool
 stands_in part [] = length part == 0
 stands_in part (x ∷ text) = begins_with part (x ∷ text) || stands_in part text
@@ -21,33 +21,33 @@ stands_in part (x ∷ text) = begins_with part (x ∷ text) || stands_in part te
 abbrev pub stands_at : Text → Text → Data → Bool
 stands_at name part d = unwrap_or (option_map (stands_in part) (text_at name d)) false
 
--- the field is searched, and the part stands in the object's text of it
+-- the field is searched, and the object's text of this field contains the part
 abbrev pub has_field : Text → Data → Field → Bool
 has_field part d field = field.is_searched && stands_at field.name part d
 
--- the part stands in one of the object's texts that are searched
+-- one of the object's searched texts contains the part
 abbrev pub is_found : Text → List Field → Data → Bool
 is_found part [] d = length part == 0
 is_found part (field ∷ fields) d = has_field part d field || is_found part fields d
 
 -- ---- tables
 
--- the headings alone
+-- the table with its headings and no row
 abbrev pub headed : List Field → Table
 headed fields = record { sides = map (λ (field : Field). field.side) fields; rows = map (λ (field : Field). field.heading) fields ∷ [] }
 
 abbrev pub more_rows : Table → List (List Text) → Table
 more_rows table rows = record { sides = table.sides; rows = table.rows ++ rows }
 
--- a row for each object in which the part is found, in their order, and none for another
+-- a row for each object in which the part is found, in their order, and no other row
 abbrev pub found_rows : List Field → Text → List Data → Option (List (List Text))
 found_rows fields part ds = each (row_of fields) (filter (is_found part fields) ds)
 
--- the rows of what the body lists, below their headings
+-- the rows of the body's objects in which the part is found, below their headings
 abbrev pub table_in : List Field → Text → Text → Option Table
 table_in fields part body = option_map (more_rows (headed fields)) (option_and_then (found_rows fields part) (option_and_then rows_in (body_of body)))
 
--- the same of all that the body lists
+-- the rows of all objects of the body, below their headings
 abbrev pub whole_table : List Field → Text → Option Table
 whole_table fields body = option_map (more_rows (headed fields)) (option_and_then (each (row_of fields)) (option_and_then rows_in (body_of body)))
 
@@ -104,7 +104,7 @@ category_fields = plain_field (codes "category") (codes "category") ∷ money_fi
 
 -- ---- one number
 
--- the text of the first object that says the number; none where no object does
+-- the text `name` of the first object whose number `by` is `n`, or none if there is no such object
 abbrev pub first_named : Text → ℕ → Text → List Data → Option (Option Text)
 first_named by n name [] = Some None
 first_named by n name (d ∷ ds) = if has_number by n d then option_map Some (text_at name d) else first_named by n name ds

@@ -1,4 +1,4 @@
--- What looks and accepted commands say, as lines, by the bodies of their replies.
+-- The lines for looks and accepted commands, from the bodies of their replies.
 use Rattle.std.specs.Prelude.{ℕ, zero, suc, ℤ, pos, negsuc, ◌==◌, Bool, true, false, List, [], ◌∷◌, ◌++◌, Option, Some, None, is_some, option_map, option_and_then, codes, decimal, if◌then◌else◌}
 use Rattle.std.specs.Option.{option_or}
 use Rattle.serde_json.specs.Data.{Data}
@@ -17,22 +17,22 @@ abbrev pub who_text : Bool → Text
 who_text true = codes "no"
 who_text false = codes "a"
 
--- it says nothing of a copy that was sent or scrapped: no customer has that one
+-- the line doesn't say whether the copy was sent or scrapped: no customer has such a copy
 abbrev pub stock_text : ℕ → Bool → Text
 stock_text copy is_in = who_text is_in ++ (codes " customer has copy " ++ decimal copy)
 
 abbrev pub in_stock_in : ℕ → Text → Option Text
 in_stock_in copy body = option_map (stock_text copy) (option_and_then (flag_at (codes "in_stock")) (body_of body))
 
--- the number of a row, where a number is one
+-- the number as a row's number, if it can be one
 abbrev pub row_number : ℕ → Option ℕ
 row_number n = if is_row_number n then Some n else None
 
--- a customer's number, or nobody, as null says
+-- a customer's number, or nobody for null
 abbrev pub customer_or_none : Data → Option (Option ℕ)
 customer_or_none d = if is_some (as_null d) then Some None else option_map (λ n. Some n) (option_and_then row_number (whole_number d))
 
--- who has a copy, or that nobody has it
+-- who has the copy, or nobody
 abbrev pub holder_in : Text → Option (Option ℕ)
 holder_in body = option_and_then customer_or_none (option_and_then (get (codes "customer")) (body_of body))
 
@@ -40,7 +40,7 @@ abbrev pub holder_text : ℕ → Option ℕ → Text
 holder_text copy None = codes "nobody has copy " ++ decimal copy
 holder_text copy (Some customer) = codes "customer " ++ (decimal customer ++ (codes " has copy " ++ decimal copy))
 
--- the numbers, behind what they are; another text where there are none
+-- the text `what` and the numbers, or the text `none` if there are no numbers
 abbrev pub counted_or : Text → Text → List ℕ → Text
 counted_or none what [] = none
 counted_or none what (n ∷ ns) = what ++ commas (n ∷ ns)
@@ -86,17 +86,17 @@ abbrev pub arrived_text : ℕ → ℕ → Text
 arrived_text count first = if count == 1 then codes "1 copy, number " ++ decimal first
     else decimal count ++ (codes " copies, the first of them " ++ decimal first)
 
--- the copies that came in: by their numbers where they are listed, by how many and the first where they are counted
+-- the copies that came in: their numbers if the body lists them, or how many and the first number if the body counts them
 abbrev pub copies_in : Data → Data → Option Text
 copies_in d them =
     if is_some (as_array them) then option_map (counted_or (codes "no copies") (codes "copies ")) (numbers_in them)
     else option_and_then (λ count. option_map (arrived_text count) (number_at (codes "first") d)) (whole_number them)
 
--- the number under a name, between two texts
+-- the number in the member of this name, between two texts
 abbrev pub number_line : Text → Text → Text → Data → Option Text
 number_line name front behind d = option_map (λ n. front ++ (decimal n ++ behind)) (number_at name d)
 
--- one number: that of a rental, of a rental that was returned, of a payment, of a copy that was scrapped, or of a customer
+-- the number of a rental, of a returned rental, of a payment, of a scrapped copy, or of a customer
 abbrev pub numbered_in : Data → Option Text
 numbered_in d =
     option_or (number_line (codes "rental") (codes "rental ") [] d)

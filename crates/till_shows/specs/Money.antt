@@ -6,12 +6,12 @@ abbrev pub sign_text : ℤ → Text
 sign_text (pos n) = []
 sign_text (negsuc n) = codes "-"
 
--- how many cents, whoever owes them
+-- how many cents, without the sign
 abbrev pub amount_of : ℤ → ℕ
 amount_of (pos n) = n
 amount_of (negsuc n) = suc n
 
--- so many cents: dollars, and two digits of cents
+-- the cents as dollars and two digits of cents
 abbrev pub amount_text : ℕ → Text
 amount_text n = codes "$" ++ (decimal (n / 100) ++ (codes "." ++ (decimal (n / 10 % 10) ++ decimal (n % 10))))
 

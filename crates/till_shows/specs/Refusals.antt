@@ -4,7 +4,7 @@ use Rattle.shop_model.specs.Values.{Text}
 use Rattle.shop_types.specs.declared.refusal.Refusal.{Refusal}
 use Rattle.shop_types.specs.declared.refusal.Refusal.TheVariants as refusal
 
--- what is so
+-- what happened
 abbrev pub fact_text : Refusal → Text
 fact_text refusal.BadHead = codes "The server didn't understand this till."
 fact_text refusal.TooLong = codes "What was entered is too long."
@@ -80,7 +80,7 @@ advice_text refusal.Memory = codes "Wait a little; the till tries again by itsel
 advice_text refusal.Size = codes "Stop, and call whoever keeps the program."
 advice_text refusal.StoreFailed = codes "Call whoever keeps the program; the till tries again by itself."
 
--- both sentences, with the line of a stock file that is at fault
+-- both sentences; for a stock file at fault, the text names the line
 abbrev pub told_text : Refusal → Text
 told_text (refusal.BadCsv fault) = codes "The stock file is at fault in line " ++ (decimal fault.line ++ (codes ". " ++ advice_text (refusal.BadCsv fault)))
 told_text it = fact_text it ++ (codes " " ++ advice_text it)

@@ -1,4 +1,4 @@
--- One object as a sheet, a line for each of its members that is shown.
+-- One object as a sheet, with a line for each member that is shown.
 use Rattle.std.specs.Prelude.{◌≡◌, List, [], ◌∷◌, ◌++◌, flat_map, Option, Some, option_map, option_and_then, codes}
 use Rattle.serde_json.specs.Data.{Data}
 use Rattle.shop_model.specs.Calendar.{Moment, moment_text}
@@ -7,7 +7,7 @@ use Rattle.till_shows.specs.Bodies.{body_of, each, text_at}
 use Rattle.till_shows.specs.Fields.{Field, plain_field, money_field, field_text}
 use Rattle.till_shows.specs.Times as times
 
--- a heading and a text
+-- a line with a heading and a text
 abbrev pub sheet_line : Text → Text → Text
 sheet_line heading text = heading ++ (codes ": " ++ (text ++ codes "\n"))
 
@@ -43,11 +43,11 @@ customer_sheet_fields =
     ∷ plain_field (codes "active") (codes "may rent")
     ∷ []
 
--- the sheet is that of the film that the body tells
+-- the sheet of the film that the body describes
 abbrev pub film_sheet_in : Text → Option Text
 film_sheet_in body = option_and_then (sheet_of film_sheet_fields) (body_of body)
 
--- the sheet is that of the customer whom the body tells, with the moment in words since when there is one
+-- the sheet of the customer whom the body describes, with the moment in words at which the customer joined
 pub record IsCustomerSheet (body sheet : Text) : Type 0 where
   pub value : Data
   pub is_body : body_of body ≡ Some value

@@ -9,7 +9,7 @@ use Rattle.till_shows.specs.declared.tables.Side.TheVariants.{Left, Right}
 use Rattle.till_shows.specs.declared.tables.Column.{Column}
 use Rattle.till_shows.specs.declared.tables.Place.{Place}
 
--- the text in that column, empty where there is none
+-- the text in this column, or an empty text if there is none
 abbrev pub cell_at : ℕ → List Text → Text
 cell_at k row = unwrap_or (slice_get row k) []
 
@@ -20,7 +20,7 @@ width_of text = str_width false (chars text)
 abbrev pub blanks : ℕ → Text
 blanks n = repeat n (codes " ")
 
--- what stands between two columns
+-- the text between two columns
 abbrev pub between : Text
 between = codes "  "
 
@@ -40,7 +40,7 @@ places k (side ∷ sides) rows = record { side = side; width = column_width k ro
 
 -- ---- lines
 
--- how many blanks stand before a text, and behind it, where a place has so many more columns
+-- how many blanks come before a text, and after it, if its place has so many more columns
 abbrev pub before : Side → ℕ → ℕ
 before Left rest = 0
 before Right rest = rest
@@ -49,7 +49,7 @@ abbrev pub behind : Side → ℕ → ℕ
 behind Left rest = rest
 behind Right rest = 0
 
--- the line with a cell more
+-- the line with one more cell
 abbrev pub with_cell : Place → Text → Line → Line
 with_cell place [] line = record { text = line.text; gap = line.gap ++ (blanks place.width ++ between) }
 with_cell place (x ∷ xs) line =
@@ -61,7 +61,7 @@ abbrev pub with_cells : ℕ → List Place → List Text → Line → Line
 with_cells k [] row line = line
 with_cells k (place ∷ places) row line = with_cells (suc k) places row (with_cell place (cell_at k row) line)
 
--- the cells at their places, two blanks between them, and none behind the last
+-- the cells at their places, with two blanks between them and none after the last
 abbrev pub line_text : List Place → List Text → Text
 line_text places row = (with_cells 0 places row (record { text = []; gap = [] })).text
 
@@ -73,7 +73,7 @@ seen_sides columns = map (λ column. column.side) columns
 abbrev pub seen_headings : List Column → List Text
 seen_headings columns = map (λ column. column.heading.now) columns
 
--- how many rows stand below the headings
+-- how many rows there are below the headings
 abbrev pub row_count : Table → ℕ
 row_count table = length table.rows - 1
 

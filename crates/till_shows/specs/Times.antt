@@ -20,7 +20,7 @@ month_name month =
 abbrev pub day_text : Moment → Text
 day_text m = decimal m.day ++ (codes " " ++ (month_name m.month ++ (codes " " ++ decimal m.year)))
 
--- two digits each
+-- the hour and the minute, with two digits each
 abbrev pub clock_text : Moment → Text
 clock_text m = decimal (m.hour / 10) ++ (decimal (m.hour % 10) ++ (codes ":" ++ (decimal (m.minute / 10) ++ decimal (m.minute % 10))))
 
@@ -35,7 +35,7 @@ plural_text n = if n == 1 then [] else codes "s"
 abbrev pub counted_text : ℕ → Text → Text
 counted_text n word = decimal n ++ (codes " " ++ (word ++ plural_text n))
 
--- in the largest unit of which there is one at least
+-- the span in the largest unit that fits at least once
 abbrev pub age_text : ℕ → Text
 age_text seconds =
     if nat_lt seconds 60 then counted_text seconds (codes "second")

@@ -1,4 +1,4 @@
--- Which refusal a reply tells.
+-- Which refusal is in a reply.
 use Rattle.std.specs.Prelude.{◌≡◌, ◌==◌, ◌^◌, nat_lt, if◌then◌else◌, ℕ, Bool, true, ◌++◌, Option, Some, None, codes, decimal}
 use Rattle.shop_model.specs.Answers.{problem_answer}
 use Rattle.shop_model.specs.Values.{Text}
@@ -6,16 +6,16 @@ use Rattle.shop_types.specs.Seen.{seen_refusal}
 use Rattle.shop_types.specs.declared.refusal.Refusal.{Refusal}
 use Rattle.shop_types.specs.declared.refusal.Refusal.TheVariants as refusal
 
--- the status and the body are those of the refusal's reply
+-- the refusal's reply has this status and this body
 abbrev pub Tells : ℕ → Text → Refusal → Type 0
 Tells status body it = record { status = status; body = body } ≡ problem_answer (seen_refusal it)
 
--- a stock file's line has a number of 32 bits
+-- the refusal names no line, or a line whose number fits in 32 bits
 abbrev pub has_short_line : Refusal → Bool
 has_short_line (refusal.BadCsv fault) = nat_lt fault.line (2 ^ 32)
 has_short_line it = true
 
--- what stands before a line's number and behind it in the body of the reply to a stock file that is at fault
+-- the text before the line's number and the text after it, in the body of the reply to a stock file at fault
 abbrev pub line_start : Text
 line_start = codes "{\"line\":"
 
@@ -25,7 +25,7 @@ line_end = codes ",\"refused\":\"bad_csv\"}"
 abbrev pub line_body : ℕ → Text
 line_body line = line_start ++ (decimal line ++ line_end)
 
--- the refusal of that number, but for that of a stock file
+-- the refusal with this number; a stock file's refusal has no number here
 abbrev pub refusal_of : ℕ → Option Refusal
 refusal_of n =
     if n == 1 then Some refusal.BadHead

@@ -1,4 +1,4 @@
-//! What stands in the body of a reply, a JSON value (RFC 8259).
+//! Reads the body of a reply, a JSON value (RFC 8259).
 
 ghost use Rattle.std.specs.Prelude.{◌≡◌, Some, None, IfOk, IfErr, map, option_map, string_bytes};
 ghost use Rattle.serde_json.specs.View.{view};
@@ -35,7 +35,7 @@ impl From<NoMemoryLeft> for NotShown {
     }
 }
 
-/// The value that the body is.
+/// Returns the value that the body is.
 pub(crate) fn value_of(alloc: Global, body: &[u8]) -> Result<Value, NotShown>
     ensures shown { IfOk result (λ value. body_of body.now ≡ Some (view value)) }
     ensures other { IfErr result (λ fault. fault ≡ OtherForm → body_of body.now ≡ None) }
@@ -47,7 +47,7 @@ pub(crate) fn value_of(alloc: Global, body: &[u8]) -> Result<Value, NotShown>
     }
 }
 
-/// The values that the value lists.
+/// Returns the values of a list.
 pub(crate) fn rows_of(value: &Value) -> Option<&[Value]>
     ensures { option_map (λ rows. map view rows.now) result ≡ rows_in (view value.now) }
 {
@@ -87,7 +87,7 @@ pub(crate) fn flag_at(value: &Value, name: &str) -> Option<bool>
     value.get(name)?.as_bool()
 }
 
-/// Whether the object says that number under the name.
+/// Reports whether the object's member of this name is this number.
 pub(crate) fn has_number(value: &Value, name: &str, number: u64) -> bool
     ensures { result ≡ has_number name.now number (view value.now) }
 {
@@ -97,7 +97,7 @@ pub(crate) fn has_number(value: &Value, name: &str, number: u64) -> bool
     }
 }
 
-/// The text of that name.
+/// Returns a copy of the text in the object's member of this name.
 pub(crate) fn owned_text(alloc: Global, value: &Value, name: &str) -> Result<String, NotShown>
     ensures shown { IfOk result (λ text. text_at name.now (view value.now) ≡ Some (string_bytes text)) }
     ensures other { IfErr result (λ fault. fault ≡ OtherForm → text_at name.now (view value.now) ≡ None) }
@@ -108,7 +108,7 @@ pub(crate) fn owned_text(alloc: Global, value: &Value, name: &str) -> Result<Str
     }
 }
 
-/// The numbers that the values are.
+/// Returns the values as numbers.
 fn numbers_of(alloc: Global, items: &[Value]) -> Result<Vec<u64>, NotShown>
     ensures shown { IfOk result (λ numbers. each whole_number (map view items.now) ≡ Some numbers.items) }
     ensures other { IfErr result (λ fault. fault ≡ OtherForm → each whole_number (map view items.now) ≡ None) }
@@ -125,7 +125,7 @@ fn numbers_of(alloc: Global, items: &[Value]) -> Result<Vec<u64>, NotShown>
     Ok(numbers)
 }
 
-/// The numbers that the value lists.
+/// Returns the numbers of a list.
 pub(crate) fn numbers_in(alloc: Global, value: &Value) -> Result<Vec<u64>, NotShown>
     ensures shown { IfOk result (λ numbers. numbers_in (view value.now) ≡ Some numbers.items) }
     ensures other { IfErr result (λ fault. fault ≡ OtherForm → numbers_in (view value.now) ≡ None) }
@@ -136,7 +136,7 @@ pub(crate) fn numbers_in(alloc: Global, value: &Value) -> Result<Vec<u64>, NotSh
     }
 }
 
-/// The numbers that the member of that name lists.
+/// Returns the numbers of the list in the object's member of this name.
 pub(crate) fn numbers_at(alloc: Global, value: &Value, name: &str) -> Result<Vec<u64>, NotShown>
     ensures shown { IfOk result (λ numbers. numbers_at name.now (view value.now) ≡ Some numbers.items) }
     ensures other { IfErr result (λ fault. fault ≡ OtherForm → numbers_at name.now (view value.now) ≡ None) }

@@ -11,7 +11,7 @@ fn sign(cents: i64) -> &'static str
     if cents < 0 { "-" } else { "" }
 }
 
-/// So many cents in dollars, whoever owes them: `$4.99`.
+/// Returns the cents in dollars, without a sign: `$4.99`.
 pub(crate) fn amount(alloc: Global, cents: u64) -> Result<String, AllocError>
     ensures { IfOk result (λ s. string_bytes s ≡ amount_text cents) }
 {
@@ -19,7 +19,7 @@ pub(crate) fn amount(alloc: Global, cents: u64) -> Result<String, AllocError>
     format!(in alloc; "${dollars}.{tens}{ones}")
 }
 
-/// So many cents in dollars, with two decimals and no separators: `$4.99`, and `-$1.00` below zero.
+/// Returns the cents in dollars, with two decimals and no separators: `$4.99`, and `-$1.00` below zero.
 pub fn money(alloc: Global, cents: i64) -> Result<String, AllocError>
     ensures { IfOk result (λ s. string_bytes s ≡ money_text cents) }
 {

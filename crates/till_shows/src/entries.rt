@@ -88,7 +88,7 @@ fn act_line(alloc: Global, act: &Act) -> Result<String, AllocError>
     }
 }
 
-/// What a command asks for, and its moment: `rent: customer 17, copy 4 (1 March 2026, 10:05)`.
+/// Returns what a command asks for, and its moment: `rent: customer 17, copy 4 (1 March 2026, 10:05)`.
 pub fn asks_for(alloc: Global, command: &Command) -> Result<String, AllocError>
     ensures { IfOk result (λ s. string_bytes s ≡ command_text (seen_command command.now)) }
 {

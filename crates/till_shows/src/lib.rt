@@ -1,5 +1,5 @@
-//! The texts that the till's program prints for a cashier: money, moments, what a refusal means and what to do about
-//! it, tables, and what replies say.
+//! The texts that a cashier sees: money, moments, tables, what a refusal means and what to do about it, and what
+//! replies say.
 #![tactic(auto)]
 
 mod bodies;

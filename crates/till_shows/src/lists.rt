@@ -1,4 +1,4 @@
-//! The lists that looks and views show, as tables, and what a list says of one number.
+//! Shows the lists of looks and views as tables, and looks up one number in a list.
 
 ghost use Rattle.std.specs.Prelude.{◌≡◌, [], ◌∷◌, Some, None, IfOk, IfErr, OnOk, map, option_map, string_bytes, codes};
 ghost use Rattle.serde_json.specs.View.{view};
@@ -17,14 +17,14 @@ use serde_json::Value;
 use shop_types::{CustomerNo, FilmNo};
 use std::alloc::{AllocError, Global};
 
-/// Whether the text begins with the part, in any case of ASCII letters.
+/// Reports whether the text begins with the part, in any case of ASCII letters.
 fn begins_with(text: &[u8], part: &[u8]) -> bool
     ensures { result ≡ begins_with part.now text.now }
 {
     part.len() <= text.len() && text[..part.len()].eq_ignore_ascii_case(part)
 }
 
-/// Whether the part stands in the text, in any case of ASCII letters.
+/// Reports whether the text contains the part, in any case of ASCII letters.
 #[tactic(auto, using(crate::proofs::ListLemmas::stands_here, crate::proofs::ListLemmas::nothing_stands))]
 fn stands_in(text: &[u8], part: &[u8]) -> bool
     ensures { result ≡ stands_in part.now text.now }
@@ -37,7 +37,7 @@ fn stands_in(text: &[u8], part: &[u8]) -> bool
     part.is_empty()
 }
 
-/// Whether the part stands in the object's text of that name.
+/// Reports whether the object's text of this name contains the part.
 fn stands_at(value: &Value, name: &str, part: &str) -> bool
     ensures { result ≡ stands_at name.now part.now (view value.now) }
 {
@@ -47,14 +47,14 @@ fn stands_at(value: &Value, name: &str, part: &str) -> bool
     }
 }
 
-/// Whether the object's text that the field names is searched, and the part stands in it.
+/// Reports whether the field's text is searched, and contains the part.
 fn has_field(value: &Value, field: &Part, part: &str) -> bool
     ensures { result ≡ has_field part.now (view value.now) field.now }
 {
     field.is_searched && stands_at(value, field.name, part)
 }
 
-/// Whether the part stands in one of the object's texts that are searched.
+/// Reports whether one of the object's searched texts contains the part.
 fn is_found(value: &Value, parts: &[Part], part: &str) -> bool
     ensures { result ≡ is_found part.now parts.now (view value.now) }
 {
@@ -66,7 +66,7 @@ fn is_found(value: &Value, parts: &[Part], part: &str) -> bool
     part.is_empty()
 }
 
-/// The object's row more.
+/// Adds the object's row to the table.
 fn add_row(alloc: Global, value: &Value, parts: &[Part], table: &mut Table) -> Result<(), NotShown>
     ensures shown { OnOk result (option_map (more_rows table.old) (each (row_of parts.now) (view value.now ∷ []))
         ≡ Some table.new) }
@@ -78,7 +78,7 @@ fn add_row(alloc: Global, value: &Value, parts: &[Part], table: &mut Table) -> R
     Ok(())
 }
 
-/// The same, where the part is found in the object.
+/// Adds the object's row to the table, if the part is found in the object.
 fn add_found(
     alloc: Global,
     value: &Value,
@@ -97,7 +97,7 @@ fn add_found(
     Ok(())
 }
 
-/// A row more for each object in which the part is found, in their order.
+/// Adds a row for each object in which the part is found, in their order.
 fn add_rows(
     alloc: Global,
     rows: &[Value],
@@ -116,7 +116,7 @@ fn add_rows(
     Ok(())
 }
 
-/// The table with the headings of those parts alone.
+/// Returns a table with the headings of the parts, and no row.
 fn empty_table(alloc: Global, parts: &[Part]) -> Result<Table, AllocError>
     ensures { IfOk result (λ table. table ≡ headed parts.now) }
 {
@@ -124,7 +124,7 @@ fn empty_table(alloc: Global, parts: &[Part]) -> Result<Table, AllocError>
     Table::new(alloc, columns.as_slice())
 }
 
-/// The table of those of the objects in which the part is found, in their order, with those parts.
+/// Returns the table, with these parts, of the objects in which the part is found, in their order.
 fn table_of_rows(
     alloc: Global,
     rows: &[Value],
@@ -141,8 +141,7 @@ fn table_of_rows(
     Ok(table)
 }
 
-/// The table of the objects that the body lists, in its order, with those parts, and of those objects alone in which
-/// the part is found.
+/// Returns the table, with these parts, of the body's objects in which the part is found, in the body's order.
 fn table_of(alloc: Global, body: &[u8], parts: &[Part], part: &str) -> Result<Table, NotShown>
     ensures shown { IfOk result (λ table. table_in parts.now part.now body.now ≡ Some table) }
     ensures other { IfErr result (λ fault. fault ≡ OtherForm → table_in parts.now part.now body.now ≡ None) }
@@ -154,7 +153,7 @@ fn table_of(alloc: Global, body: &[u8], parts: &[Part], part: &str) -> Result<Ta
     }
 }
 
-/// The same of all objects that the body lists.
+/// Returns the table, with these parts, of all objects in the body's list.
 fn whole_table(alloc: Global, body: &[u8], parts: &[Part]) -> Result<Table, NotShown>
     ensures shown { IfOk result (λ table. whole_table parts.now body.now ≡ Some table) }
     ensures other { IfErr result (λ fault. fault ≡ OtherForm → whole_table parts.now body.now ≡ None) }
@@ -175,8 +174,9 @@ fn customer_parts() -> [Part; 6]
     ]
 }
 
-/// The customers of the body of `GET /views/customer_list` in whose name or telephone number the part stands, in any
-/// case of ASCII letters, in the order of the list. An empty part stands in each.
+/// Returns the table of the customers whose name or telephone number contains the part, from the body of
+/// `GET /views/customer_list`. Ignores the case of ASCII letters. Keeps the order of the list. Each text contains an
+/// empty part.
 pub fn customers_with(alloc: Global, body: &[u8], part: &str) -> Result<Table, NotShown>
     ensures shown { IfOk result (λ table. table_in customer_fields part.now body.now ≡ Some table) }
     ensures other { IfErr result (λ fault. fault ≡ OtherForm → table_in customer_fields part.now body.now ≡ None) }
@@ -196,8 +196,8 @@ fn film_parts() -> [Part; 5]
     ]
 }
 
-/// The films of the body of `GET /views/film_list` in whose title the part stands, in any case of ASCII letters, in
-/// the order of the list. An empty part stands in each.
+/// Returns the table of the films whose title contains the part, from the body of `GET /views/film_list`. Ignores the
+/// case of ASCII letters. Keeps the order of the list. Each text contains an empty part.
 pub fn films_with(alloc: Global, body: &[u8], part: &str) -> Result<Table, NotShown>
     ensures shown { IfOk result (λ table. table_in film_fields part.now body.now ≡ Some table) }
     ensures other { IfErr result (λ fault. fault ≡ OtherForm → table_in film_fields part.now body.now ≡ None) }
@@ -215,7 +215,7 @@ fn overdue_parts() -> [Part; 3]
     ]
 }
 
-/// The body of `GET /overdue/{at}`.
+/// Returns the table for the body of `GET /overdue/{at}`.
 pub fn overdue(alloc: Global, body: &[u8]) -> Result<Table, NotShown>
     ensures shown { IfOk result (λ table. whole_table overdue_fields body.now ≡ Some table) }
     ensures other { IfErr result (λ fault. fault ≡ OtherForm → whole_table overdue_fields body.now ≡ None) }
@@ -234,7 +234,7 @@ fn arrival_parts() -> [Part; 4]
     ]
 }
 
-/// The body of `GET /arrivals`.
+/// Returns the table for the body of `GET /arrivals`.
 pub fn arrivals(alloc: Global, body: &[u8]) -> Result<Table, NotShown>
     ensures shown { IfOk result (λ table. whole_table arrival_fields body.now ≡ Some table) }
     ensures other { IfErr result (λ fault. fault ≡ OtherForm → whole_table arrival_fields body.now ≡ None) }
@@ -252,7 +252,7 @@ fn sent_parts() -> [Part; 3]
     ]
 }
 
-/// The body of `GET /sent`.
+/// Returns the table for the body of `GET /sent`.
 pub fn sent(alloc: Global, body: &[u8]) -> Result<Table, NotShown>
     ensures shown { IfOk result (λ table. whole_table sent_fields body.now ≡ Some table) }
     ensures other { IfErr result (λ fault. fault ≡ OtherForm → whole_table sent_fields body.now ≡ None) }
@@ -270,7 +270,7 @@ fn store_parts() -> [Part; 3]
     ]
 }
 
-/// The body of `GET /views/sales_by_store`.
+/// Returns the table for the body of `GET /views/sales_by_store`.
 pub fn sales_by_store(alloc: Global, body: &[u8]) -> Result<Table, NotShown>
     ensures shown { IfOk result (λ table. whole_table store_fields body.now ≡ Some table) }
     ensures other { IfErr result (λ fault. fault ≡ OtherForm → whole_table store_fields body.now ≡ None) }
@@ -284,7 +284,7 @@ fn category_parts() -> [Part; 2]
     [plain("category", "category"), money_part("total", "total")]
 }
 
-/// The body of `GET /views/sales_by_film_category`.
+/// Returns the table for the body of `GET /views/sales_by_film_category`.
 pub fn sales_by_film_category(alloc: Global, body: &[u8]) -> Result<Table, NotShown>
     ensures shown { IfOk result (λ table. whole_table category_fields body.now ≡ Some table) }
     ensures other { IfErr result (λ fault. fault ≡ OtherForm → whole_table category_fields body.now ≡ None) }
@@ -292,7 +292,7 @@ pub fn sales_by_film_category(alloc: Global, body: &[u8]) -> Result<Table, NotSh
     whole_table(alloc, body, category_parts().as_slice())
 }
 
-/// The text of that name in the first object whose number is that one.
+/// Returns the text `name` of the first object whose number `by` is the given one.
 fn first_named(
     alloc: Global,
     rows: &[Value],
@@ -314,7 +314,7 @@ fn first_named(
     Ok(None)
 }
 
-/// The same of the objects that the body lists.
+/// Returns the text `name` of the first object in the body's list whose number `by` is the given one.
 fn named(
     alloc: Global,
     body: &[u8],
@@ -333,7 +333,7 @@ fn named(
     }
 }
 
-/// The name of that customer in the body of `GET /views/customer_list`, where the list has the customer.
+/// Returns the customer's name from the body of `GET /views/customer_list`, if the list has the customer.
 pub fn customer_named(
     alloc: Global,
     body: &[u8],
@@ -347,7 +347,7 @@ pub fn customer_named(
     named(alloc, body, "id", customer.get() as u64, "name")
 }
 
-/// The title of that film in the body of `GET /views/film_list`, where the list has the film.
+/// Returns the film's title from the body of `GET /views/film_list`, if the list has the film.
 pub fn film_named(alloc: Global, body: &[u8], film: FilmNo) -> Result<Option<String>, NotShown>
     ensures shown { IfOk result (λ title. named_in (codes "film") film (codes "title") body.now
         ≡ Some (option_map string_bytes title)) }

@@ -1,4 +1,4 @@
-//! What looks show, as lines.
+//! Shows the results of looks as lines.
 
 ghost use Rattle.std.specs.Prelude.{◌≡◌, ◌++◌, Some, None, IfOk, IfErr, option_and_then, string_bytes};
 ghost use Rattle.serde_json.specs.View.{view};
@@ -16,7 +16,7 @@ use serde_json::Value;
 use shop_types::{CopyNo, CustomerNo, FilmNo};
 use std::alloc::{AllocError, Global};
 
-/// What stands before a word that isn't so.
+/// Returns the text before a word: nothing if the word is true, else `not `.
 pub(crate) fn not(is: bool) -> &'static str
     ensures { result.now ≡ not_text is }
 {
@@ -49,7 +49,7 @@ pub fn in_stock_line(alloc: Global, copy: CopyNo, body: &[u8]) -> Result<String,
     }
 }
 
-/// The number of a row, where the number is one.
+/// Returns the number as a row's number, if it can be one.
 fn row_number(number: u64) -> Option<CustomerNo>
     ensures { result ≡ row_number number }
 {
@@ -59,7 +59,7 @@ fn row_number(number: u64) -> Option<CustomerNo>
     }
 }
 
-/// A customer's number, or nobody's where the value is null.
+/// Returns the value as a customer's number, or `Some(None)` for nobody if the value is null.
 fn customer_or_none(value: &Value) -> Option<Option<CustomerNo>>
     ensures { result ≡ customer_or_none (view value.now) }
 {
@@ -75,7 +75,7 @@ fn customer_or_none(value: &Value) -> Option<Option<CustomerNo>>
     }
 }
 
-/// Who has the copy, by the body of `GET /held-by/{copy}`; nobody where it is null.
+/// Returns who has the copy, from the body of `GET /held-by/{copy}`. `None` is nobody: the body says null.
 pub fn holder(alloc: Global, body: &[u8]) -> Result<Option<CustomerNo>, NotShown>
     ensures shown { IfOk result (λ who. holder_in body.now ≡ Some who) }
     ensures other { IfErr result (λ fault. fault ≡ OtherForm → holder_in body.now ≡ None) }
@@ -90,7 +90,7 @@ pub fn holder(alloc: Global, body: &[u8]) -> Result<Option<CustomerNo>, NotShown
     }
 }
 
-/// Who has the copy: `customer 17 has copy 4`, or `nobody has copy 4`.
+/// Returns the line on who has the copy: `customer 17 has copy 4`, or `nobody has copy 4`.
 pub fn holder_line(
     alloc: Global,
     copy: CopyNo,
@@ -106,7 +106,7 @@ pub fn holder_line(
     }
 }
 
-/// The numbers, with commas between, behind what they are; `none` where there are none.
+/// Returns `what` and the numbers, with commas between them, or `none` if there are no numbers.
 pub(crate) fn counted_or(
     alloc: Global,
     none: &str,
@@ -122,7 +122,7 @@ pub(crate) fn counted_or(
     format!(in alloc; "{what}{numbers}")
 }
 
-/// The numbers of the member of that name of the body.
+/// Returns the numbers of the list in the body's member of this name.
 fn listed(alloc: Global, body: &[u8], name: &str) -> Result<Vec<u64>, NotShown>
     ensures shown { IfOk result (λ numbers. option_and_then (numbers_at name.now) (body_of body.now)
         ≡ Some numbers.items) }
@@ -133,7 +133,7 @@ fn listed(alloc: Global, body: &[u8], name: &str) -> Result<Vec<u64>, NotShown>
     numbers_at(alloc, &value, name)
 }
 
-/// The copies of a film, behind what they are.
+/// Returns the line on a film's copies. `front` says what the copies are.
 fn film_line(
     alloc: Global,
     front: &str,
@@ -146,7 +146,8 @@ fn film_line(
     format!(in alloc; "{front}{}: {copies}", film.get())
 }
 
-/// The body of `GET /film-in-stock/{film}`: `in stock of film 1: copies 2, 3`, or `in stock of film 1: none`.
+/// Returns the line for the body of `GET /film-in-stock/{film}`: `in stock of film 1: copies 2, 3`, or
+/// `in stock of film 1: none`.
 pub fn film_in_stock_line(alloc: Global, film: FilmNo, body: &[u8]) -> Result<String, NotShown>
     ensures shown { IfOk result (λ line. film_in_stock_in film body.now ≡ Some (string_bytes line)) }
     ensures other { IfErr result (λ fault. fault ≡ OtherForm → film_in_stock_in film body.now ≡ None) }
@@ -155,7 +156,8 @@ pub fn film_in_stock_line(alloc: Global, film: FilmNo, body: &[u8]) -> Result<St
     Ok(film_line(alloc, "in stock of film ", film, numbers.as_slice())?)
 }
 
-/// The body of `GET /film-not-in-stock/{film}`: `out of film 1: copies 2, 3`, or `out of film 1: none`.
+/// Returns the line for the body of `GET /film-not-in-stock/{film}`: `out of film 1: copies 2, 3`, or
+/// `out of film 1: none`.
 pub fn film_not_in_stock_line(alloc: Global, film: FilmNo, body: &[u8]) -> Result<String, NotShown>
     ensures shown { IfOk result (λ line. film_not_in_stock_in film body.now ≡ Some (string_bytes line)) }
     ensures other { IfErr result (λ fault. fault ≡ OtherForm → film_not_in_stock_in film body.now ≡ None) }
@@ -164,7 +166,7 @@ pub fn film_not_in_stock_line(alloc: Global, film: FilmNo, body: &[u8]) -> Resul
     Ok(film_line(alloc, "out of film ", film, numbers.as_slice())?)
 }
 
-/// Who owes whom so many cents.
+/// Returns who owes whom so many cents.
 fn balance_text(alloc: Global, name: &str, cents: i64) -> Result<String, AllocError>
     ensures { IfOk result (λ s. string_bytes s ≡ balance_text name.now cents) }
 {
@@ -179,8 +181,8 @@ fn balance_text(alloc: Global, name: &str, cents: i64) -> Result<String, AllocEr
     }
 }
 
-/// The body of `GET /balance/{customer}/{at}`, of a customer of that name: `MARY SMITH owes $2.00`,
-/// `the branch owes MARY SMITH $1.00`, or `MARY SMITH owes nothing`.
+/// Returns the line for the body of `GET /balance/{customer}/{at}`, for a customer of this name:
+/// `MARY SMITH owes $2.00`, `the branch owes MARY SMITH $1.00`, or `MARY SMITH owes nothing`.
 pub fn balance_line(alloc: Global, name: &str, body: &[u8]) -> Result<String, NotShown>
     ensures shown { IfOk result (λ line. balance_in name.now body.now ≡ Some (string_bytes line)) }
     ensures other { IfErr result (λ fault. fault ≡ OtherForm → balance_in name.now body.now ≡ None) }
@@ -192,7 +194,7 @@ pub fn balance_line(alloc: Global, name: &str, body: &[u8]) -> Result<String, No
     }
 }
 
-/// The body of `GET /rewards/{at}/{purchases}/{cents}`: `customers 3, 17`, or `no customers`.
+/// Returns the line for the body of `GET /rewards/{at}/{purchases}/{cents}`: `customers 3, 17`, or `no customers`.
 pub fn rewards_line(alloc: Global, body: &[u8]) -> Result<String, NotShown>
     ensures shown { IfOk result (λ line. rewards_in body.now ≡ Some (string_bytes line)) }
     ensures other { IfErr result (λ fault. fault ≡ OtherForm → rewards_in body.now ≡ None) }

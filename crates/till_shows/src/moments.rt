@@ -27,7 +27,7 @@ fn month_name(month: u8) -> &'static str
     }
 }
 
-/// The number that the two digits from `at` on write.
+/// Returns the number that the two digits at `at` write.
 fn pair(text: &[u8], at: usize) -> u8
     requires { at + 1 < length text.now }
     ensures { (n : ℕ) → IsDigits n (slice_index text.now at) (slice_index text.now (at + 1)) → result ≡ n }
@@ -37,7 +37,7 @@ fn pair(text: &[u8], at: usize) -> u8
     tens.saturating_sub(48) % 10 * 10 + ones.saturating_sub(48) % 10
 }
 
-/// The moment's day in words: `1 March 2026`.
+/// Returns the moment's day in words: `1 March 2026`.
 pub fn day_words(alloc: Global, moment: Moment) -> Result<String, AllocError>
     ensures { IfOk result (λ s. string_bytes s ≡ day_text moment) }
 {
@@ -47,7 +47,7 @@ pub fn day_words(alloc: Global, moment: Moment) -> Result<String, AllocError>
     format!(in alloc; "{day} {month} {year}")
 }
 
-/// The moment's time of day to the minute: `10:05`.
+/// Returns the moment's time of day to the minute: `10:05`.
 fn clock(alloc: Global, moment: Moment) -> Result<String, AllocError>
     ensures { IfOk result (λ s. string_bytes s ≡ clock_text moment) }
 {
@@ -57,7 +57,7 @@ fn clock(alloc: Global, moment: Moment) -> Result<String, AllocError>
     format!(in alloc; "{}{}:{}{}", hour / 10, hour % 10, minute / 10, minute % 10)
 }
 
-/// The moment in words, to the minute: `1 March 2026, 10:05`.
+/// Returns the moment in words, to the minute: `1 March 2026, 10:05`.
 pub fn moment_words(alloc: Global, moment: Moment) -> Result<String, AllocError>
     ensures { IfOk result (λ s. string_bytes s ≡ moment_text moment) }
 {
@@ -66,14 +66,14 @@ pub fn moment_words(alloc: Global, moment: Moment) -> Result<String, AllocError>
     format!(in alloc; "{day}, {clock}")
 }
 
-/// What stands behind a word for more or fewer than one.
+/// Returns the ending of a word for this count: `s`, or nothing for 1.
 fn plural(count: u64) -> &'static str
     ensures { result.now ≡ plural_text count }
 {
     if count == 1 { "" } else { "s" }
 }
 
-/// So many of what the word names.
+/// Returns the count and the word, in the plural unless the count is 1.
 fn counted(alloc: Global, count: u64, word: &str) -> Result<String, AllocError>
     ensures { IfOk result (λ s. string_bytes s ≡ counted_text count word.now) }
 {
@@ -81,8 +81,8 @@ fn counted(alloc: Global, count: u64, word: &str) -> Result<String, AllocError>
     format!(in alloc; "{count} {word}{plural}")
 }
 
-/// So many seconds in words, in the largest unit of which they have one at least, the rest left out: `3 seconds`,
-/// `12 minutes`, `2 hours`, `5 days`.
+/// Returns a span of seconds in words: `3 seconds`, `12 minutes`, `2 hours`, `5 days`. Uses the largest unit that fits
+/// at least once, and leaves the rest out.
 pub fn age_words(alloc: Global, seconds: u64) -> Result<String, AllocError>
     ensures { IfOk result (λ s. string_bytes s ≡ age_text seconds) }
 {

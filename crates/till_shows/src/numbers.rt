@@ -6,7 +6,7 @@ ghost use Rattle.till_shows.specs.Numbers.{with_number, commas};
 use shop_types::Numbers;
 use std::alloc::{AllocError, Global};
 
-/// Puts a number behind the text, with a comma where something stands before.
+/// Adds a number to the end of the text, after a comma unless the text is empty.
 fn add_number(alloc: Global, text: &mut String, number: u64) -> Result<(), AllocError>
     ensures { OnOk result (string_bytes text.new ≡ with_number (string_bytes text.old) number) }
 {
@@ -18,7 +18,7 @@ fn add_number(alloc: Global, text: &mut String, number: u64) -> Result<(), Alloc
     text.push_str(piece.as_str())
 }
 
-/// The numbers, with commas between.
+/// Returns the numbers, with commas between.
 pub(crate) fn commas<const KIND: u8>(
     alloc: Global,
     numbers: &Numbers<KIND>,
@@ -32,7 +32,7 @@ pub(crate) fn commas<const KIND: u8>(
     Ok(text)
 }
 
-/// The same of plain numbers.
+/// Returns plain numbers, with commas between.
 pub(crate) fn plain_commas(alloc: Global, numbers: &[u64]) -> Result<String, AllocError>
     ensures { IfOk result (λ s. string_bytes s ≡ commas numbers.now) }
 {

@@ -1,4 +1,4 @@
-//! The cells and rows of what bodies tell, each value as a text.
+//! The cells and rows of bodies, each value as a text.
 
 ghost use Rattle.std.specs.Prelude.{◌≡◌, Some, None, IfOk, IfErr, map, option_map, string_bytes};
 ghost use Rattle.serde_json.specs.View.{view};
@@ -21,7 +21,7 @@ use std::marker::Model;
 /// How a member's value is shown.
 #[derive(Clone, Copy)]
 pub(crate) enum Form {
-    /// A text or a number as it is, a list with commas, true and false as yes and no, and null as nothing.
+    /// A text or a number as it is, a list with commas, true and false as yes and no, and null as an empty text.
     Plain,
     /// Cents as money.
     Money,
@@ -34,7 +34,7 @@ pub(crate) struct Part {
     pub(crate) heading: &'static str,
     form: Form,
     side: Side,
-    /// Whether a part of its text is looked for.
+    /// Whether a search looks for a part in its text.
     pub(crate) is_searched: bool,
 }
 
@@ -106,7 +106,7 @@ fn yes(flag: bool) -> &'static str
     if flag { "yes" } else { "no" }
 }
 
-/// The numbers that the value lists, with commas between.
+/// Returns the numbers of a list, with commas between.
 fn listed_text(alloc: Global, value: &Value) -> Result<String, NotShown>
     ensures shown { IfOk result (λ text. option_map commas (numbers_in (view value.now)) ≡ Some (string_bytes text)) }
     ensures other { IfErr result (λ fault. fault ≡ OtherForm → numbers_in (view value.now) ≡ None) }
@@ -145,7 +145,7 @@ fn money_text(alloc: Global, value: &Value) -> Result<String, NotShown>
     }
 }
 
-/// The value as a text of that form.
+/// Returns the value as a text of this form.
 fn value_text(alloc: Global, value: &Value, form: Form) -> Result<String, NotShown>
     ensures shown { IfOk result (λ text. value_text form (view value.now) ≡ Some (string_bytes text)) }
     ensures other { IfErr result (λ fault. fault ≡ OtherForm → value_text form (view value.now) ≡ None) }
@@ -156,7 +156,7 @@ fn value_text(alloc: Global, value: &Value, form: Form) -> Result<String, NotSho
     }
 }
 
-/// The text of the object's member that the part names.
+/// Returns the text of the object's member that the part names.
 pub(crate) fn part_text(alloc: Global, value: &Value, part: &Part) -> Result<String, NotShown>
     ensures shown { IfOk result (λ text. field_text (view value.now) part.now ≡ Some (string_bytes text)) }
     ensures other { IfErr result (λ fault. fault ≡ OtherForm → field_text (view value.now) part.now ≡ None) }
@@ -167,7 +167,7 @@ pub(crate) fn part_text(alloc: Global, value: &Value, part: &Part) -> Result<Str
     }
 }
 
-/// The object's row: the texts of those parts.
+/// Returns the object's row: the texts of the parts.
 pub(crate) fn row_text(alloc: Global, value: &Value, parts: &[Part]) -> Result<Row, NotShown>
     ensures shown { IfOk result (λ row. row_of parts.now (view value.now) ≡ Some row) }
     ensures other { IfErr result (λ fault. fault ≡ OtherForm → row_of parts.now (view value.now) ≡ None) }

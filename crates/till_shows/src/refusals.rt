@@ -9,7 +9,7 @@ use std::alloc::{AllocError, Global};
 /// Two plain sentences on a refusal.
 #[derive(Clone, Copy)]
 pub struct Sentences {
-    /// What is so.
+    /// What happened.
     pub fact: &'static str,
     /// What to do about it.
     pub advice: &'static str,
@@ -104,8 +104,8 @@ fn advice(refusal: Refusal) -> &'static str
     }
 }
 
-/// What a refusal says, and what somebody at the counter does about it. A stock file's line is told by `told_refusal`
-/// alone.
+/// Returns what a refusal says, and what somebody at the counter does about it. Only `told_refusal` names a stock
+/// file's line.
 pub fn sentences_on(refusal: Refusal) -> Sentences
     ensures fact { result.fact.now ≡ fact_text refusal }
     ensures advice { result.advice.now ≡ advice_text refusal }
@@ -116,7 +116,7 @@ pub fn sentences_on(refusal: Refusal) -> Sentences
     }
 }
 
-/// Both sentences, with the line of a stock file that is at fault.
+/// Returns both sentences. For a stock file at fault, the text names the line.
 pub fn told_refusal(alloc: Global, refusal: Refusal) -> Result<String, AllocError>
     ensures { IfOk result (λ s. string_bytes s ≡ told_text refusal) }
 {

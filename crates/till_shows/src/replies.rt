@@ -11,7 +11,7 @@ use crate::looks::{counted_or, not};
 use serde_json::Value;
 use std::alloc::{AllocError, Global};
 
-/// The line of a reply that says a number under that name alone.
+/// Returns the line for a reply that says one number.
 fn numbered(alloc: Global, value: &Value) -> Result<String, NotShown>
     ensures shown { IfOk result (λ line. numbered_in (view value.now) ≡ Some (string_bytes line)) }
     ensures other { IfErr result (λ fault. fault ≡ OtherForm → numbered_in (view value.now) ≡ None) }
@@ -45,7 +45,7 @@ fn arrived(alloc: Global, count: u64, first: u64) -> Result<String, AllocError>
     }
 }
 
-/// The line of a reply that says which copies came in.
+/// Returns the line for a reply that says which copies came in.
 fn copies(alloc: Global, value: &Value, copies: &Value) -> Result<String, NotShown>
     ensures shown { IfOk result (λ line. copies_in (view value.now) (view copies.now) ≡ Some (string_bytes line)) }
     ensures other { IfErr result (λ fault. fault ≡ OtherForm → copies_in (view value.now) (view copies.now) ≡ None) }
@@ -63,7 +63,7 @@ fn copies(alloc: Global, value: &Value, copies: &Value) -> Result<String, NotSho
     }
 }
 
-/// A customer's number, and whether the customer may rent.
+/// Returns whether the customer may rent, and the customer's number.
 fn may_rent(value: &Value) -> Option<(bool, u64)>
     ensures { option_map (λ it. may_rent_text it.0 it.1) result ≡ may_rent_in (view value.now) }
 {
@@ -76,7 +76,7 @@ fn may_rent(value: &Value) -> Option<(bool, u64)>
     }
 }
 
-/// A consignment's number, and the branch that it goes to.
+/// Returns a consignment's number, and the branch that it goes to.
 fn consignment(value: &Value) -> Option<(u64, u64)>
     ensures { option_map (λ it. consignment_text it.0 it.1) result ≡ consignment_in (view value.now) }
 {
@@ -106,7 +106,7 @@ fn line_of(alloc: Global, value: &Value) -> Result<String, NotShown>
     }
 }
 
-/// What the reply to an accepted command says, by its body: `customer 17`, `customer 17 may rent`,
+/// Returns the line for the body of the reply to an accepted command: `customer 17`, `customer 17 may rent`,
 /// `customer 17 may not rent`, `rental 12`, `rental 12 returned`, `payment 9`, `copy 4 scrapped`,
 /// `consignment 1 to branch 2`, `copies 3, 4`, `no copies`, `4 copies, the first of them 1`, `1 copy, number 5`.
 pub fn reply_line(alloc: Global, body: &[u8]) -> Result<String, NotShown>

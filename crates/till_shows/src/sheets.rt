@@ -1,4 +1,4 @@
-//! One row as a sheet, a line for each part.
+//! Shows one object as a sheet, with a line for each part.
 
 ghost use Rattle.std.specs.Prelude.{◌≡◌, ◌++◌, Some, None, IfOk, IfErr, OnOk, IfSome, codes, string_bytes};
 ghost use Rattle.serde_json.specs.View.{view};
@@ -16,7 +16,7 @@ use serde_json::Value;
 use shop_types::Moment;
 use std::alloc::{AllocError, Global};
 
-/// A heading and a text.
+/// Returns a line with a heading and a text.
 fn sheet_line(alloc: Global, heading: &str, text: &str) -> Result<String, AllocError>
     ensures { IfOk result (λ s. string_bytes s ≡ sheet_line heading.now text.now) }
 {
@@ -31,7 +31,7 @@ fn part_line(alloc: Global, value: &Value, part: &Part) -> Result<String, NotSho
     Ok(sheet_line(alloc, part.heading, text.as_str())?)
 }
 
-/// A line for each part: its heading and its text.
+/// Returns a line for each part: its heading and its text.
 fn sheet(alloc: Global, value: &Value, parts: &[Part]) -> Result<String, NotShown>
     ensures shown { IfOk result (λ sheet. sheet_of parts.now (view value.now) ≡ Some (string_bytes sheet)) }
     ensures other { IfErr result (λ fault. fault ≡ OtherForm → sheet_of parts.now (view value.now) ≡ None) }
@@ -59,14 +59,14 @@ fn customer_parts() -> [Part; 8]
     ]
 }
 
-/// What every customer's sheet begins with.
+/// Returns the lines that begin every customer's sheet.
 fn customer_front(alloc: Global, value: &Value) -> Result<String, NotShown>
     ensures { IfOk result (λ sheet. sheet_of customer_sheet_fields (view value.now) ≡ Some (string_bytes sheet)) }
 {
     sheet(alloc, value, customer_parts().as_slice())
 }
 
-/// The moment since when there is a customer.
+/// Returns the moment at which the customer was added.
 fn created(value: &Value) -> Option<Moment>
     ensures { IfSome result (λ at. text_at (codes "created") (view value.now) ≡ Some (moment_text at)) }
 {
@@ -76,7 +76,7 @@ fn created(value: &Value) -> Option<Moment>
     }
 }
 
-/// A line more, which says since when there is a customer.
+/// Adds a line that says when the customer joined.
 fn add_joined(alloc: Global, created: Moment, sheet: &mut String) -> Result<(), NotShown>
     ensures { OnOk result (string_bytes sheet.new
         ≡ string_bytes sheet.old ++ sheet_line (codes "joined") (moment_in_words created)) }
@@ -87,7 +87,7 @@ fn add_joined(alloc: Global, created: Moment, sheet: &mut String) -> Result<(), 
     Ok(())
 }
 
-/// The body of `GET /customer/{n}`, a line for each part, each ended by a line feed.
+/// Returns the sheet for the body of `GET /customer/{n}`: a line for each part, each ended by a line feed.
 pub fn customer_sheet(alloc: Global, body: &[u8]) -> Result<String, NotShown>
     ensures { IfOk result (λ sheet. IsCustomerSheet body.now (string_bytes sheet)) }
 {
@@ -124,7 +124,7 @@ fn film_lines(alloc: Global, value: &Value) -> Result<String, NotShown>
     sheet(alloc, value, film_parts().as_slice())
 }
 
-/// The body of `GET /film/{n}`, a line for each part, each ended by a line feed.
+/// Returns the sheet for the body of `GET /film/{n}`: a line for each part, each ended by a line feed.
 pub fn film_sheet(alloc: Global, body: &[u8]) -> Result<String, NotShown>
     ensures shown { IfOk result (λ sheet. film_sheet_in body.now ≡ Some (string_bytes sheet)) }
     ensures other { IfErr result (λ fault. fault ≡ OtherForm → film_sheet_in body.now ≡ None) }

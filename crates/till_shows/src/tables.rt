@@ -1,4 +1,4 @@
-//! Tables of texts, in columns that are as wide as their widest text.
+//! Tables of texts. Each column is as wide as its widest text.
 
 ghost use Rattle.std.specs.Prelude.{◌≡◌, ◌==◌, ◌∷◌, ◌++◌, [], ℕ, map, drop, take, IfOk, OnOk, OnErr, string_bytes};
 ghost use Rattle.till_shows.specs.Tables.{cell_at, width_of, blanks, between, column_width, places, with_cell};
@@ -8,14 +8,14 @@ use std::alloc::{AllocError, Global};
 use std::marker::Model;
 use unicode_width::UnicodeWidthStr;
 
-/// Where the texts of a column stand: at its left side, or at its right one, as numbers do.
+/// How the texts of a column are aligned: to the left, or to the right as numbers are.
 #[derive(Clone, Copy)]
 pub enum Side {
     Left,
     Right,
 }
 
-/// A column's heading, and where its texts stand.
+/// A column's heading, and how its texts are aligned.
 #[derive(Clone, Copy)]
 pub struct Column {
     pub heading: &'static str,
@@ -37,7 +37,7 @@ impl Model for Row {
 }
 
 impl Row {
-    /// The row with no text. It takes no memory.
+    /// Returns a row with no text. Takes no memory.
     pub fn new(alloc: Global) -> Row
         ensures { result ≡ [] }
     {
@@ -46,7 +46,7 @@ impl Row {
         }
     }
 
-    /// Puts the text into the next column. For want of memory the row stays as it was.
+    /// Puts the text into the next column. If there is no memory, the row stays as it was.
     pub fn push(&mut self, text: String) -> Result<(), AllocError>
         ensures pushed { OnOk result (self.new ≡ self.old ++ string_bytes text ∷ []) }
         ensures same { OnErr result (self.new ≡ self.old) }
@@ -55,7 +55,7 @@ impl Row {
         Ok(())
     }
 
-    /// The text in that column, the first of which is 0. It is empty where the row has none.
+    /// Returns the text in this column, counted from 0, or an empty text if the row has none there.
     fn cell(&self, at: usize) -> &str
         ensures { result.now ≡ cell_at at self.now }
     {
@@ -66,14 +66,14 @@ impl Row {
     }
 }
 
-/// How many columns of a terminal the text takes.
+/// Returns how many columns of a terminal the text takes.
 fn width_of(text: &str) -> usize
     ensures { result ≡ width_of text.now }
 {
     text.width()
 }
 
-/// So many blanks, behind the text.
+/// Adds so many blanks to the end of the text.
 fn push_blanks(text: &mut String, count: usize) -> Result<(), AllocError>
     ensures { OnOk result (string_bytes text.new ≡ string_bytes text.old ++ blanks count) }
 {
@@ -83,7 +83,7 @@ fn push_blanks(text: &mut String, count: usize) -> Result<(), AllocError>
     Ok(())
 }
 
-/// Where a cell goes: at a side of so many columns of a terminal.
+/// Where a cell goes: to a side of so many columns of a terminal.
 #[derive(Clone, Copy)]
 struct Place {
     side: Side,
@@ -94,7 +94,7 @@ struct Place {
 #[derive(Drop)]
 struct Line {
     text: String,
-    /// The blanks that stand behind it, where something else comes.
+    /// The blanks to write before the next text, if one comes.
     gap: String,
 }
 
@@ -117,7 +117,7 @@ impl Line {
         }
     }
 
-    /// Nothing but blanks.
+    /// Adds an empty cell of this width.
     fn add_nothing(&mut self, width: usize) -> Result<(), AllocError>
         ensures { OnOk result (self.new
             ≡ record { text = self.old.text; gap = self.old.gap ++ (blanks width ++ between) }) }
@@ -126,7 +126,7 @@ impl Line {
         self.gap.push_str("  ")
     }
 
-    /// A text with so many blanks before it and behind it.
+    /// Adds a text, with so many blanks before it and after it.
     fn add_text(&mut self, before: usize, text: &str, behind: usize) -> Result<(), AllocError>
         ensures { OnOk result (self.new
             ≡ record {
@@ -157,7 +157,7 @@ impl Line {
     }
 }
 
-/// The row's line, without the end of the line.
+/// Returns the row's line, without a line feed.
 fn row_line(alloc: Global, places: &[Place], row: &Row) -> Result<String, AllocError>
     ensures { IfOk result (λ s. string_bytes s ≡ line_text places.now row.now) }
 {
@@ -169,7 +169,7 @@ fn row_line(alloc: Global, places: &[Place], row: &Row) -> Result<String, AllocE
     Ok(text)
 }
 
-/// How wide the widest text of that column is.
+/// Returns the width of the column's widest text.
 fn column_width(rows: &[Row], at: usize) -> usize
     ensures { result ≡ column_width at rows.now }
 {
@@ -183,7 +183,7 @@ fn column_width(rows: &[Row], at: usize) -> usize
     most
 }
 
-/// The places of each row's cells.
+/// Returns the places of each row's cells.
 fn places(alloc: Global, sides: &[Side], rows: &[Row]) -> Result<Vec<Place>, AllocError>
     ensures { IfOk result (λ v. v.items ≡ places 0 sides.now rows.now) }
 {
@@ -195,11 +195,11 @@ fn places(alloc: Global, sides: &[Side], rows: &[Row]) -> Result<Vec<Place>, All
     Ok(places)
 }
 
-/// A table. Each line has a text for each column, or none.
+/// A table. A row may have no text in a column.
 #[derive(Drop)]
 pub struct Table {
     sides: Vec<Side>,
-    /// The first has the headings.
+    /// The first row has the headings.
     rows: Vec<Row>,
 }
 
@@ -232,7 +232,7 @@ fn headings_of(alloc: Global, columns: &[Column]) -> Result<Row, AllocError>
 }
 
 impl Table {
-    /// The table of these columns, with its headings alone.
+    /// Returns a table with the headings of the columns, and no row.
     pub fn new(alloc: Global, columns: &[Column]) -> Result<Table, AllocError>
         ensures { IfOk result (λ table. table
             ≡ record { sides = seen_sides columns.now; rows = seen_headings columns.now ∷ [] }) }
@@ -244,7 +244,7 @@ impl Table {
         Ok(Table { sides, rows })
     }
 
-    /// Puts the row last. For want of memory the table stays as it was.
+    /// Adds the row at the end. If there is no memory, the table stays as it was.
     pub fn add(&mut self, row: Row) -> Result<(), AllocError>
         ensures added { OnOk result (self.new ≡ record { sides = self.old.sides; rows = self.old.rows ++ row ∷ [] }) }
         ensures same { OnErr result (self.new ≡ self.old) }
@@ -253,23 +253,22 @@ impl Table {
         Ok(())
     }
 
-    /// How many rows it has, the headings not counted.
+    /// Returns how many rows the table has, without the headings.
     pub fn len(&self) -> usize
         ensures { result ≡ row_count self.now }
     {
         self.rows.len().saturating_sub(1)
     }
 
-    /// Whether it has no row but the headings.
+    /// Reports whether the table has only headings.
     pub fn is_empty(&self) -> bool
         ensures { result ≡ (row_count self.now == 0) }
     {
         self.len() == 0
     }
 
-    /// The table's lines, each ended by a line feed, that of the headings first: columns as wide as their widest
-    /// text, by the columns that it takes in a terminal, with two blanks between them, and no blank behind a line's
-    /// last text.
+    /// Returns the table's lines, the headings first. Each line ends with a line feed. A column is as wide as its
+    /// widest text takes in a terminal. There are two blanks between columns, and no blank after a line's last text.
     pub fn text(&self, alloc: Global) -> Result<String, AllocError>
         ensures { IfOk result (λ s. string_bytes s ≡ table_text self.now) }
     {

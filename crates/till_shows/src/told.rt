@@ -1,4 +1,4 @@
-//! Which refusal a reply tells.
+//! Reads the refusal in a reply.
 
 ghost use Rattle.std.specs.Prelude.{◌≡◌, ◌↔◌, ℕ, ◌<◌, ◌^◌, ◌++◌, List, true, IsTrue, IfSome, IfNone, decimal};
 ghost use Rattle.shop_types.specs.Replies.{has_fixed_body};
@@ -7,7 +7,7 @@ ghost use Rattle.till_shows.specs.Told.{refusal_of, Tells, line_start, line_end,
 
 use shop_types::{BadCsv, LineNo, Refusal, Reply};
 
-/// The refusal of that number, but for that of a stock file, which names a line.
+/// Returns the refusal with this number. A stock file's refusal, which names a line, has no number here.
 fn refusal_of(number: u8) -> Option<Refusal>
     ensures value { result ≡ refusal_of number }
     ensures fixed { IfSome result (λ it. has_fixed_body it ≡ true) }
@@ -60,7 +60,7 @@ fn tells(status: u16, body: &[u8], refusal: Refusal) -> bool
     status == reply.status && body == reply.body_bytes()
 }
 
-/// The refusal whose reply says no more than its name, where the reply is one of those.
+/// Returns the refusal in a reply that says no more than the refusal's name.
 fn named(status: u16, body: &[u8]) -> Option<Refusal>
     ensures some { IfSome result (λ it. Tells status body.now it) }
     ensures none { IfNone result ((it : Problem) → has_fixed_body it ≡ true → ¬ Tells status body.now it) }
@@ -75,7 +75,7 @@ fn named(status: u16, body: &[u8]) -> Option<Refusal>
     None
 }
 
-/// The number that the digits write, where they have no leading zero.
+/// Returns the number that the digits write, if they have no leading zero.
 fn number_in(digits: &[u8]) -> Option<u32>
     ensures some { IfSome result (λ n. digits.now ≡ decimal n) }
     ensures none { IfNone result ((n : ℕ) → n < 2 ^ 32 → ¬ (digits.now ≡ decimal n)) }
@@ -89,7 +89,7 @@ fn number_in(digits: &[u8]) -> Option<u32>
     }
 }
 
-/// What stands in the place of the line's number, where the body has one.
+/// Returns the body's text between the start and the end that the reply to a stock file at fault has.
 fn digits_in(body: &[u8]) -> Option<&[u8]>
     ensures some { IfSome result (λ digits. body.now ≡ line_start ++ (digits.now ++ line_end)) }
     ensures none { IfNone result ((digits : List ℕ) → ¬ (body.now ≡ line_start ++ (digits ++ line_end))) }
@@ -98,7 +98,7 @@ fn digits_in(body: &[u8]) -> Option<&[u8]>
     rest.strip_suffix(b",\"refused\":\"bad_csv\"}".as_slice())
 }
 
-/// The line that the body of the reply to a stock file at fault names, where the body is one.
+/// Returns the line that the body names, if it is the body of the reply to a stock file at fault.
 fn line_in(body: &[u8]) -> Option<u32>
     ensures some { IfSome result (λ line. body.now ≡ line_body line) }
     ensures none { IfNone result ((line : ℕ) → line < 2 ^ 32 → ¬ (body.now ≡ line_body line)) }
@@ -109,7 +109,8 @@ fn line_in(body: &[u8]) -> Option<u32>
     }
 }
 
-/// The refusal that a reply tells: one exactly where the status and the body are, byte for byte, those of a refusal.
+/// Returns the refusal in a reply. Finds one exactly if the status and the body are, byte for byte, what the server
+/// sends for that refusal. A stock file's line is found if it is below 2 ^ 32.
 pub fn refusal_in(status: u16, body: &[u8]) -> Option<Refusal>
     ensures some { IfSome result (λ it. Tells status body.now it) }
     ensures none { IfNone result ((it : Problem) → has_short_line it ≡ true → ¬ Tells status body.now it) }

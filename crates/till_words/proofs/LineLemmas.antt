@@ -1,4 +1,4 @@
--- The line of words that clap takes or refuses.
+-- The line of words that clap accepts or refuses.
 use Rattle.shop_types.proofs.Common.{◌≡◌, ℕ, suc, ◌==◌, false, refl, ap, arith, List, [], ◌∷◌, length, Option, Some, None, option_map, unwrap_or, if◌then◌else◌}
 use Rattle.clap.specs.Kinds.{Kinds, IsAmong}
 use Rattle.clap.specs.Walk.{is_empty}
@@ -15,7 +15,7 @@ pub faulty : {L : Type 0} (faults : Kinds) (k : ErrorKind) (line : Option L) →
 faulty [] k line h = absurd h
 faulty (f ∷ fs) k line h = rw (not_zero (length fs)) refl
 
--- and the others are the line of what clap finds
+-- words without a fault are the line of what clap finds in them
 pub taken : {L : Type 0} (line_from : List Row → Option (Text × List Row) → Option L) (faults : Kinds) (rows found : List Row) (sub inner : Option (Text × List Row))
     → faults ≡ [] → rows ≡ found → sub ≡ inner → (if is_empty faults then line_from found inner else None) ≡ line_from rows sub
 taken line_from faults rows found sub inner none same is = rw (none, ← same, ← is) refl
@@ -34,7 +34,7 @@ pub not_entered : {S : Type 0} (sub : Option S) (name_of : S → Text) (rows_of 
 not_entered None name_of rows_of e = refl
 not_entered (Some s) name_of rows_of e = absurd (cc e)
 
--- words whose values stand behind their names are the line of the words that they were
+-- words with each value after its option's name are the line of the words that were typed
 pub by_names : (words named : List Text) → named ≡ named_words words → read_of (office_words words) named ≡ till_line_of words
 unfolding till_line_of
 by_names words named e = ap (read_of (office_words words)) e

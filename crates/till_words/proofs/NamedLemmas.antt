@@ -1,9 +1,9 @@
--- Words that are named one after the other: a list that grows by what is taken off the rest.
+-- Words that get their names one after the other: a list that grows by what is taken off the rest.
 use Rattle.shop_types.proofs.Common.{◌≡◌, ◌∙◌, ◌||◌, refl, sym, ap, Bool, true, false, List, [], ◌∷◌, ◌++◌, drop, filter, map, append_assoc, list_any}
 use Rattle.clap.specs.Words.{Text}
 use Rattle.till_words.specs.Places.{named_from, placed, is_option, awaits_value}
 
--- what is moved from the rest to what is done leaves the two together as they are
+-- a piece that moves from the rest to the done part leaves both together as they are
 pub moved : {A : Type 0} (old new piece rest before all : List A) → new ≡ old ++ piece → before ≡ piece ++ rest → old ++ before ≡ all → new ++ rest ≡ all
 moved old new piece rest before all grown parts whole =
     ap (λ l. l ++ rest) grown ∙ append_assoc old piece rest ∙ ap (λ l. old ++ l) (sym parts) ∙ whole
@@ -32,7 +32,7 @@ fails p old rest before all x parts test whole =
     let same : filter p before ≡ filter p rest = rw (parts, test) refl in
     ap (λ l. old ++ l) (sym same) ∙ whole
 
--- a test of what is shown of the items
+-- a test of each item's text is a test of the mapped list
 pub any_of_map : {A B : Type 0} (show : A → B) (p : B → Bool) (xs : List A) → list_any (λ x. p (show x)) xs ≡ list_any p (map show xs)
 any_of_map show p [] = refl
 any_of_map show p (x ∷ xs) = ap (λ b. p (show x) || b) (any_of_map show p xs)

@@ -1,11 +1,11 @@
--- Values that are read one after the other: where one of them leads to nothing, nothing is made.
+-- Values that are read one after the other: if one of them is none, the result is none.
 use Rattle.shop_types.proofs.Common.{◌≡◌, ◌∙◌, Option, Some, None, Result, IfOk, IfErr, IsErrAnd}
 use Rattle.shop_types.specs.declared.line.Usage.{Usage}
 use Rattle.shop_types.specs.declared.line.Usage.TheVariants.{Memory}
 use Rattle.std.specs.Prelude.{Ok, Err}
 use Rattle.till_words.specs.Given.{Reads}
 
--- an error that is handed on
+-- an error that is passed on
 pub handed_on : {A : Type 0} (e : Usage) (r : Result A Usage) (found : Option A) → IsErrAnd r (λ x. x ≡ e) → (¬ (e ≡ Memory) → found ≡ None) → Reads r found
 handed_on e (Ok x) found is h = absurd is
 handed_on e (Err y) found is h = λ other. h (λ memory. other (is ∙ memory))

@@ -16,7 +16,7 @@ fits_five n i p q =
 pub digit_is : (c : ℕ) → digit_value c < 10 → digit_value c + 48 ≡ c
 digit_is c h = digit_value_digit c (digit_from_value c h)
 
--- the numbers that were read, and behind them those that are still to be read
+-- the numbers that were read, and after them the numbers still to be read
 abbrev pub with_rest : List ℕ → List Text → Option (List ℕ)
 with_rest numbers texts = with_value (all_numbers texts) (λ rest. Some (numbers ++ rest))
 

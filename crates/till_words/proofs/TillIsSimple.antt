@@ -1,4 +1,4 @@
--- The command line is one whose faults and values clap tells exactly.
+-- The command line is of a form for which clap reports faults and values exactly.
 use Rattle.std.proofs.Common.{◌≡◌, refl, true}
 use Rattle.clap.specs.Words.{is_simple, is_simple_and_free}
 use Rattle.clap.proofs.OnLiterals.{clap_on_literals}

@@ -23,7 +23,7 @@ pub rent_by_names : till_line_of (codes "rent" ∷ codes "--copy" ∷ codes "4" 
 unfolding clap_on_literals read_of till_line_of
 rent_by_names = refl
 
--- what is given by its name leaves its place to the next one
+-- an option that is given by its name leaves its place to the next option
 pub rent_by_both : till_line_of (codes "rent" ∷ codes "4" ∷ codes "--customer" ∷ codes "17" ∷ []) ≡ Some (line (till.Do (act.Rent 17 4)))
 unfolding clap_on_literals read_of till_line_of
 rent_by_both = refl
@@ -64,7 +64,7 @@ pub receive_all : till_line_of (codes "receive" ∷ codes "2" ∷ codes "7" ∷ 
 unfolding clap_on_literals read_of till_line_of
 receive_all = refl
 
--- ---- what is looked up
+-- ---- looks
 
 pub customer_by_number : till_line_of (codes "customer" ∷ codes "17" ∷ []) ≡ Some (line (till.Look (look.Customer 17)))
 unfolding clap_on_literals read_of till_line_of
@@ -74,7 +74,7 @@ pub customer_by_name : till_line_of (codes "customer" ∷ codes "MARY" ∷ []) �
 unfolding clap_on_literals read_of till_line_of
 customer_by_name = refl
 
--- ---- what stands before the word, and behind `office`
+-- ---- options before the word, and words after `office`
 
 pub no_words : till_line_of [] ≡ Some (line till.Prompt)
 unfolding clap_on_literals read_of till_line_of

@@ -1,4 +1,4 @@
--- What each word asks for, by the values of its options: none where one of them isn't of its kind.
+-- What each word asks for, from the values of its options. It is none if a value isn't of its kind.
 use Rattle.std.specs.Prelude.{ℕ, Bool, true, false, List, Option, Some, None, option_map, codes, if◌then◌else◌}
 use Rattle.std.specs.Str.{bytes_eq}
 use Rattle.clap.specs.Words.{Row, Text}
@@ -48,7 +48,7 @@ names_of rows =
     with_value (text_given 1 45 (codes "last") rows) (λ last.
     Some (record { first = first; last = last })))
 
--- where a customer is found
+-- a customer's address, postal code and phone number
 abbrev pub contact_of : List Row → Option Contact
 contact_of rows =
     with_value (text_given 1 128 (codes "address") rows) (λ address.
@@ -94,9 +94,9 @@ receive_of rows =
     with_value (any_numbers_given (codes "missing") rows) (λ missing.
     Some (act.Receive from number missing))))
 
--- ---- what is looked up
+-- ---- looks
 
--- a number is that of a row; any other text is looked for
+-- a number means the row with this number; any other text is searched for
 abbrev pub row_or_text : (ℕ → TillLook) → (Text → TillLook) → Option ℕ → List Row → Option TillLook
 row_or_text one many (Some number) rows = Some (one number)
 row_or_text one many None rows = option_map many (text_given 1 128 (codes "find") rows)
@@ -166,7 +166,7 @@ counter_act_of name rows = if bytes_eq name (codes "rent") then option_map till.
     else (if bytes_eq name (codes "unbar") then option_map till.Do (active_of true rows)
     else stock_act_of name rows)))))
 
--- what a word of this name asks for; head office's words stand behind theirs
+-- what a word of this name asks for; head office's words follow the word `office`
 abbrev pub act_of : List Text → Text → List Row → Option TillAct
 act_of office name rows = if bytes_eq name (codes "waiting") then Some till.Waiting
     else (if bytes_eq name (codes "send") then Some till.Send

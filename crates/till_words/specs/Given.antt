@@ -1,4 +1,4 @@
--- What the options of a word say, each as a value of its kind: none where it isn't there or isn't of its kind.
+-- The values of a word's options, each of its kind. A value is none if it is missing or isn't of its kind.
 use Rattle.std.specs.Prelude.{◌≡◌, ℕ, Bool, false, List, Option, Some, None, Result, Ok, Err, option_map, codes, if◌then◌else◌}
 use Rattle.std.specs.Option.{option_map_or}
 use Rattle.std.specs.Str.{bytes_eq}
@@ -15,7 +15,7 @@ use Rattle.till_words.specs.Texts.{with_value, amount_of, numbers_of, any_number
 abbrev pub values_of : ArgMatches → List Row
 values_of matches = rows_of (found_of matches)
 
--- a reading gives the value where there is one, and fails where there is none; it may also fail for want of memory
+-- a reading returns the value if there is one, and fails if there is none; it may also fail because there is no memory
 abbrev pub Reads : {A : Type 0} → Result A Usage → Option A → Type 0
 Reads (Ok value) found = found ≡ Some value
 Reads (Err e) found = ¬ (e ≡ usage.Memory) → found ≡ None
@@ -42,7 +42,7 @@ lot_given rows = with_value (first_of (codes "lot") rows) (λ text. if is_key te
 abbrev pub token_given : List Row → Option Text
 token_given rows = with_value (first_of (codes "token") rows) (λ text. if is_token text then Some text else None)
 
--- whether the option is there
+-- whether the option is given
 abbrev pub flag_given : Text → List Row → Bool
 flag_given id rows = option_map_or (λ text. bytes_eq text (codes "true")) (first_of id rows) false
 
@@ -60,7 +60,7 @@ optional_row_from (Some text) = option_map Some (row_number_of text)
 abbrev pub optional_row_given : Text → List Row → Option (Option ℕ)
 optional_row_given id rows = optional_row_from (first_of id rows)
 
--- in cents
+-- the amount in cents
 abbrev pub amount_given : List Row → Option ℕ
 amount_given rows = with_value (first_of (codes "amount") rows) amount_of
 

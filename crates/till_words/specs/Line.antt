@@ -1,4 +1,4 @@
--- The line that words typed at a till are.
+-- The line that the words typed at a till mean.
 use Rattle.std.specs.Prelude.{List, Option, Some, None, codes, if◌then◌else◌}
 use Rattle.clap.specs.Words.{Row, Text, matches_of, subcommand_of, fault_of}
 use Rattle.clap.specs.Walk.{is_empty}
@@ -11,12 +11,12 @@ use Rattle.till_words.specs.Given.{optional_text_given, flag_given, optional_row
 use Rattle.till_words.specs.Acts.{act_of}
 use Rattle.till_words.specs.Places.{named_words, office_words}
 
--- with no word, lines are read one after another
+-- without a word, the till prompts for lines, one after another
 abbrev pub entered_act : List Text → Option (Text × List Row) → Option TillAct
 entered_act office None = Some till.Prompt
 entered_act office (Some entered) = act_of office entered.0 entered.1
 
--- the values before the word, its name and its values
+-- the line from the values before the word, the word's name, and its values
 abbrev pub line_from : List Text → List Row → Option (Text × List Row) → Option TillLine
 line_from office rows entered =
     with_value (optional_row_given (codes "staff") rows) (λ staff.
@@ -24,11 +24,11 @@ line_from office rows entered =
     with_value (entered_act office entered) (λ act.
     Some (record { book = book; is_json = flag_given (codes "json") rows; staff = staff; act = act }))))
 
--- the same, where clap finds no fault with the words
+-- the line, if clap finds no fault with the words
 unfoldable pub read_of : List Text → List Text → Option TillLine
 read_of office words = if is_empty (fault_of till_app words)
     then line_from office (matches_of till_app words) (subcommand_of till_app words) else None
 
--- a line, where clap takes the words, each value behind its option's name, and each value is of its kind
+-- The line of the words. It is none unless clap accepts the words, with each value after its option's name, and each value is of its kind.
 unfoldable pub till_line_of : List Text → Option TillLine
 till_line_of words = read_of (office_words words) (named_words words)

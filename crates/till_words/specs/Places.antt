@@ -1,4 +1,4 @@
--- Values in their places: each is put behind the name of the option that it is of.
+-- Values in their places: the name of its option is put before each value.
 use Rattle.std.specs.Prelude.{ℕ, suc, ◌==◌, ◌&&◌, ◌||◌, Bool, false, not, List, [], ◌∷◌, ◌++◌, length, take, drop, filter, codes, if◌then◌else◌}
 use Rattle.std.specs.List.{list_any, starts_with, before_first}
 use Rattle.std.specs.Str.{bytes_eq}
@@ -10,11 +10,11 @@ use Rattle.clap.specs.Words.{Text}
 abbrev pub is_option : Text → Bool
 is_option word = starts_with ◌==◌ word (codes "--")
 
--- an option's name with its hyphens: what stands before the first `=`
+-- an option's name with its hyphens: the text before the first `=`
 abbrev pub option_name : Text → Text
 option_name word = before_first (λ b. b == 61) word
 
--- the options with nothing behind them
+-- the options without a value
 abbrev pub is_flag : Text → Bool
 is_flag word = bytes_eq word (codes "--json") || bytes_eq word (codes "--office")
 
@@ -55,7 +55,7 @@ stock_places word = if bytes_eq word (codes "import") then codes "--file" ∷ co
     else (if bytes_eq word (codes "scrap") then copy_place
     else found_places word)))
 
--- the names of the options whose values may stand in their order
+-- the names of the options whose values may be given without names, in their order
 abbrev pub places_of : Text → List Text
 places_of word = if bytes_eq word (codes "rent") then codes "--customer" ∷ codes "--copy" ∷ []
     else (if bytes_eq word (codes "return") then copy_place
@@ -70,24 +70,24 @@ places_of word = if bytes_eq word (codes "rent") then codes "--customer" ∷ cod
 abbrev pub is_given : List Text → Text → Bool
 is_given words name = list_any (λ word. bytes_eq (option_name word) name) words
 
--- the places of what isn't given by its name
+-- the places of the options that aren't given by their names
 abbrev pub free_places : List Text → List Text → List Text
 free_places words names = filter (λ name. not (is_given words name)) names
 
 -- ---- naming
 
--- a value behind the name of the first place, where there is one
+-- a value after the name of the first place, or without a name if no place is left
 abbrev pub placed : List Text → Text → List Text
 placed [] word = word ∷ []
 placed (name ∷ names) word = name ∷ word ∷ []
 
--- the words behind the subcommand, from where a value is awaited or not
+-- the words after the subcommand; `awaits` says whether the first of them is the value of an option before
 abbrev pub named_from : Bool → List Text → List Text → List Text
 named_from awaits names [] = []
 named_from awaits names (word ∷ words) = if awaits || is_option word then word ∷ named_from (awaits_value word) names words
     else placed names word ++ named_from false (drop 1 names) words
 
--- how many words stand before the first one that is neither an option nor the value of one
+-- how many words come before the first word that is neither an option nor an option's value
 abbrev pub place_from : Bool → List Text → ℕ
 place_from awaits [] = 0
 place_from awaits (word ∷ words) = if awaits || is_option word then suc (place_from (awaits_value word) words) else 0
@@ -95,16 +95,16 @@ place_from awaits (word ∷ words) = if awaits || is_option word then suc (place
 abbrev pub word_place : List Text → ℕ
 word_place = place_from false
 
--- from the subcommand on; what stands behind `office` is read by another reader
+-- the words from the subcommand on; another reader reads the words after `office`
 abbrev pub named_behind : List Text → List Text
 named_behind [] = []
 named_behind (word ∷ words) = if bytes_eq word (codes "office") then word ∷ []
     else word ∷ named_from false (free_places words (places_of word)) words
 
--- the words with a name before each value, as the library `clap` is to read them
+-- the words with a name before each value, for the library `clap` to read
 abbrev pub named_words : List Text → List Text
 named_words words = take (word_place words) words ++ named_behind (drop (word_place words) words)
 
--- the words behind the subcommand
+-- the words after the subcommand
 abbrev pub office_words : List Text → List Text
 office_words words = drop 1 (drop (word_place words) words)

@@ -1,4 +1,4 @@
--- The words of a line: blanks part them, and double quotes keep blanks in a word.
+-- The words of a line: blanks separate them, and double quotes keep blanks in a word.
 use Rattle.std.specs.Prelude.{ℕ, ◌==◌, ◌||◌, ◌&&◌, Bool, false, not, List, [], ◌++◌, Option, Some, None, fold, unwrap_or, option_to_list, encode_utf8, if◌then◌else◌}
 use Rattle.std.specs.Str.{chars}
 use Rattle.clap.specs.Words.{Text}
@@ -19,15 +19,15 @@ is_blank c = c == 32 || (c == 9 || (c == 10 || c == 13))
 abbrev pub word_of : Reading → Text
 word_of r = unwrap_or r.word []
 
--- the word is over, where one was begun
+-- if a word was begun, it ends
 abbrev pub ended : Reading → Reading
 ended r = record r { words = r.words ++ option_to_list r.word; word = None }
 
--- the word has a character more
+-- the word gets one more character
 abbrev pub longer : Reading → ℕ → Reading
 longer r c = record r { word = Some (word_of r ++ encode_utf8 c) }
 
--- a quote is opened or closed; there is a word from then on, be it empty
+-- a quote is opened or closed; from then on there is a word, which may be empty
 abbrev pub turned : Reading → Reading
 turned r = record r { word = Some (word_of r); quoted = not r.quoted }
 
@@ -35,7 +35,7 @@ abbrev pub read_char : Reading → ℕ → Reading
 read_char r c = if c == 34 then turned r
     else (if is_blank c && not r.quoted then ended r else longer r c)
 
--- the words of the line, which are none where a quote is left open
+-- the words of the line, or none if a quote is left open
 abbrev pub words_of : Text → Option (List Text)
 words_of line =
     let r = fold read_char beginning (chars line) in

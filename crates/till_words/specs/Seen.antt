@@ -1,4 +1,4 @@
--- How far the program has read a line.
+-- What the program has read of a line so far.
 use Rattle.std.specs.Prelude.{map, option_map, string_bytes}
 use Rattle.till_words.specs.declared.lines.Reading.{Reading}
 use Rattle.till_words.specs.PromptLine as line

@@ -1,4 +1,4 @@
--- What the program's own table of words and options says to the library `clap`.
+-- How the program's own table describes words and options to the library `clap`.
 use Rattle.std.specs.Prelude.{map}
 use Rattle.std.specs.Borrow.{Bor}
 use Rattle.clap.specs.Words.{Rule, Shape, Text}

@@ -6,7 +6,7 @@ use Rattle.std.specs.Str.Parse.{digits_value}
 use Rattle.clap.specs.Words.{Text}
 use Rattle.shop_types.specs.Numbers.{row_number_of}
 
--- what the function makes of the value, where there is one
+-- the function's result for the value, if there is a value
 abbrev pub with_value : {A B : Type 0} → Option A → (A → Option B) → Option B
 with_value found f = option_and_then f found
 
@@ -17,7 +17,7 @@ abbrev pub five_digits_value : Text → Option ℕ
 five_digits_value bytes = if nat_lt 0 (length bytes) && (nat_le (length bytes) 5 && list_all is_ascii_digit bytes)
     then Some (digits_value 10 bytes) else None
 
--- without the sign of the dollar (36) before it, where there is one
+-- the text without its dollar sign (36), if it begins with one
 abbrev pub without_dollar : Text → Text
 without_dollar [] = []
 without_dollar (b ∷ bytes) = if b == 36 then bytes else b ∷ bytes
@@ -46,7 +46,7 @@ amount_of text = with_value (cents_of text) (λ cents. if nat_le cents 99_999 th
 
 -- ---- lists
 
--- the numbers that the texts write, where each of them writes one
+-- the numbers that the texts write, if each text writes one
 abbrev pub all_numbers : List Text → Option (List ℕ)
 all_numbers [] = Some []
 all_numbers (text ∷ texts) = with_value (row_number_of text) (λ number. option_map (λ numbers. number ∷ numbers) (all_numbers texts))
@@ -55,7 +55,7 @@ all_numbers (text ∷ texts) = with_value (row_number_of text) (λ number. optio
 abbrev pub numbers_of : Text → Option (List ℕ)
 numbers_of text = all_numbers (slice_split (λ b. b == 44) text)
 
--- the same, where there may be none
+-- the numbers of a list that may be empty
 abbrev pub any_numbers_of : Text → Option (List ℕ)
 any_numbers_of [] = Some []
 any_numbers_of (b ∷ bytes) = numbers_of (b ∷ bytes)

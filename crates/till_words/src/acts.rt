@@ -24,7 +24,7 @@ fn rent(given: &ArgMatches<'_>) -> Option<Act>
     })
 }
 
-/// A return is of a copy or of a rental, and not of both.
+/// Returns the return of a copy or of a rental. Finds none if both are given, or neither.
 fn one_return(copy: Option<CopyNo>, rental: Option<RentalNo>) -> Option<TillAct>
     ensures { result ≡ spec.one_return copy rental }
 {
@@ -56,7 +56,7 @@ fn pay(given: &ArgMatches<'_>) -> Option<Act>
     })
 }
 
-/// What a customer is called.
+/// A customer's names.
 #[derive(Drop)]
 struct Names {
     first: T45,
@@ -72,7 +72,7 @@ fn name_details(alloc: Global, given: &ArgMatches<'_>) -> Result<Names, Usage>
     })
 }
 
-/// Where a customer is found.
+/// A customer's address, postal code and phone number.
 #[derive(Drop)]
 struct Contact {
     address: T128,
@@ -152,9 +152,9 @@ fn scrap(given: &ArgMatches<'_>) -> Option<TillAct>
     Some(TillAct::Do(Act::Scrap(given::row(given, "copy")?)))
 }
 
-// ---- what is looked up
+// ---- looks
 
-/// The customer of the number that is given, or those who have the text that is.
+/// Returns the look for the customer with the given number, or for the customers with the given text.
 fn customer(alloc: Global, given: &ArgMatches<'_>) -> Result<TillLook, Usage>
     ensures { Reads result (spec.find_of look.Customer look.Customers (values_of given.now)) }
 {
@@ -164,7 +164,7 @@ fn customer(alloc: Global, given: &ArgMatches<'_>) -> Result<TillLook, Usage>
     }
 }
 
-/// The film of the number that is given, or those that have the text that is.
+/// Returns the look for the film with the given number, or for the films with the given text.
 fn film(alloc: Global, given: &ArgMatches<'_>) -> Result<TillLook, Usage>
     ensures { Reads result (spec.find_of look.Film look.Films (values_of given.now)) }
 {
@@ -174,7 +174,7 @@ fn film(alloc: Global, given: &ArgMatches<'_>) -> Result<TillLook, Usage>
     }
 }
 
-/// A number from 1 on, of no row.
+/// Returns a number from 1 on that isn't a row's number.
 fn count(given: &ArgMatches<'_>, id: &str) -> Option<u32>
     ensures { result ≡ row_given id.now (values_of given.now) }
 {
@@ -191,7 +191,7 @@ fn rewards(given: &ArgMatches<'_>) -> Option<TillLook>
     })
 }
 
-/// What a word of this name looks up that shows a list.
+/// Returns the look for a word of this name, if it shows a list.
 fn list_look(name: &str, given: &ArgMatches<'_>) -> Option<TillLook>
     ensures { result ≡ spec.list_look_of name.now (values_of given.now) }
 {
@@ -205,7 +205,7 @@ fn list_look(name: &str, given: &ArgMatches<'_>) -> Option<TillLook>
     }
 }
 
-/// What a word of this name looks up of one row, or as a list.
+/// Returns the look for a word of this name, for one row or a list.
 fn row_look(name: &str, given: &ArgMatches<'_>) -> Option<TillLook>
     ensures { result ≡ spec.row_look_of name.now (values_of given.now) }
 {
@@ -230,7 +230,7 @@ fn look(alloc: Global, name: &str, given: &ArgMatches<'_>) -> Result<TillLook, U
 
 // ---- the till itself
 
-/// A member of staff, or head office, and not both.
+/// Returns the member of staff, or `Some(None)` for head office. Finds none if both are given, or neither.
 fn whose(staff: Option<StaffNo>, is_office: bool) -> Option<Option<StaffNo>>
     ensures { result ≡ spec.whose staff is_office }
 {
@@ -260,7 +260,7 @@ fn beginning(alloc: Global, given: &ArgMatches<'_>) -> Result<Beginning, Usage>
     })
 }
 
-/// Head office's words.
+/// Returns the words for head office, after the word `office`.
 fn office(alloc: Global, words: &[String]) -> Result<TillAct, Usage>
     ensures ok { IfOk result (λ it. it ≡ TillAct.Office (places.office_words (map string_bytes words.now))) }
     ensures memory { IfErr result (λ e. e ≡ Usage.Memory) }
@@ -273,7 +273,7 @@ fn office(alloc: Global, words: &[String]) -> Result<TillAct, Usage>
 
 // ---- by their names
 
-/// What a word of this name does to the stock, or looks up.
+/// Returns what a word of this name does to the stock, or looks up.
 fn stock_act(alloc: Global, name: &str, given: &ArgMatches<'_>) -> Result<TillAct, Usage>
     ensures { Reads result (spec.stock_act_of name.now (values_of given.now)) }
 {
@@ -286,7 +286,7 @@ fn stock_act(alloc: Global, name: &str, given: &ArgMatches<'_>) -> Result<TillAc
     }
 }
 
-/// What a word of this name does at the counter, or to the stock, or looks up.
+/// Returns what a word of this name does at the counter or to the stock, or looks up.
 fn counter_act(alloc: Global, name: &str, given: &ArgMatches<'_>) -> Result<TillAct, Usage>
     ensures { Reads result (spec.counter_act_of name.now (values_of given.now)) }
 {
@@ -303,7 +303,7 @@ fn counter_act(alloc: Global, name: &str, given: &ArgMatches<'_>) -> Result<Till
     }
 }
 
-/// What the subcommand of this name asks for, among these words.
+/// Returns what the subcommand of this name asks for. `words` are all words of the line.
 pub(crate) fn act(
     alloc: Global,
     words: &[String],

@@ -14,7 +14,7 @@ use clap::{ArgMatches, Error};
 use shop_types::Usage;
 use std::alloc::{AllocError, Global};
 
-/// What clap finds in the words.
+/// Returns what clap finds in the words.
 fn matches<'a>(alloc: Global, words: &'a [&'a str]) -> Result<ArgMatches<'a>, Error>
     ensures fails { FailsBy (fault_of till_app (map (λ s. s.now) words.now)) result }
     ensures ok { IfOk result (λ m. (rows_of (found_of m) ≡ matches_of till_app (map (λ s. s.now) words.now))
@@ -23,7 +23,7 @@ fn matches<'a>(alloc: Global, words: &'a [&'a str]) -> Result<ArgMatches<'a>, Er
     commands::till(alloc)?.try_get_matches_from(words)
 }
 
-/// What clap says of words that it refuses.
+/// Returns what clap says of words that it refuses.
 fn refused(alloc: Global, error: &Error) -> Usage
     ensures { kind_of error.now ≡ ErrorKind.OutOfMemory → result ≡ usage.Memory }
 {
@@ -36,7 +36,7 @@ fn refused(alloc: Global, error: &Error) -> Usage
     }
 }
 
-/// What clap's finds in the words ask for.
+/// Returns what the words ask for, from what clap found in them.
 fn entered(alloc: Global, words: &[String], found: &ArgMatches<'_>) -> Result<TillAct, Usage>
     ensures { Reads result (entered_act (office_words (map string_bytes words.now)) (subcommand_rows_of found.now)) }
 {
@@ -46,7 +46,7 @@ fn entered(alloc: Global, words: &[String], found: &ArgMatches<'_>) -> Result<Ti
     }
 }
 
-/// The line of words that clap takes.
+/// Returns the line for words that clap accepts.
 fn line(alloc: Global, words: &[String], found: &ArgMatches<'_>) -> Result<TillLine, Usage>
     ensures { Reads result (line_from (office_words (map string_bytes words.now)) (values_of found.now)
         (subcommand_rows_of found.now)) }
@@ -62,7 +62,7 @@ fn line(alloc: Global, words: &[String], found: &ArgMatches<'_>) -> Result<TillL
     })
 }
 
-/// The line of words of which each value stands behind its option's name.
+/// Returns the line for the words. In `named` each value follows its option's name.
 fn read_named(alloc: Global, words: &[String], named: &[&str]) -> Result<TillLine, Usage>
     ensures { Reads result (read_of (office_words (map string_bytes words.now)) (map (λ s. s.now) named.now)) }
 {
@@ -72,7 +72,7 @@ fn read_named(alloc: Global, words: &[String], named: &[&str]) -> Result<TillLin
     }
 }
 
-/// Whether clap finds that the words ask for help.
+/// Reports whether clap finds that the words ask for help.
 fn is_help(alloc: Global, named: &[&str]) -> bool
     ensures { result ≡ true → IsAmong ErrorKind.DisplayHelp (fault_of till_app (map (λ s. s.now) named.now)) }
 {
@@ -82,8 +82,8 @@ fn is_help(alloc: Global, named: &[&str]) -> bool
     }
 }
 
-/// The line that the words are, without the program's name. Where they are none it is `Usage::Words`, with the text
-/// that tells how they are to be given, and where memory is wanting `Usage::Memory`.
+/// Reads the line that the words are, without the program's name. If they are no line, fails with `Usage::Words`, whose
+/// text says how to give the words. If there is no memory, fails with `Usage::Memory`.
 pub fn read_till_words(alloc: Global, words: &[String]) -> Result<TillLine, Usage>
     ensures ok { IfOk result (λ line. till_line_of (map string_bytes words.now) ≡ Some line) }
     ensures refused { IfErr result (λ e. ¬ (e ≡ usage.Memory) → till_line_of (map string_bytes words.now) ≡ None) }
@@ -94,7 +94,8 @@ pub fn read_till_words(alloc: Global, words: &[String]) -> Result<TillLine, Usag
     }
 }
 
-/// Returns whether the words ask for help by `--help` or `-h`: then `read_till_words` gives its text as a usage.
+/// Reports whether the words ask for help by `--help` or `-h`. If they do, `read_till_words` fails with the help as its
+/// text.
 pub fn asks_for_help(alloc: Global, words: &[String]) -> Result<bool, AllocError>
     ensures { IfOk result (λ asks. asks ≡ true → IsAmong ErrorKind.DisplayHelp
         (fault_of till_app (places.named_words (map string_bytes words.now)))) }
@@ -103,7 +104,7 @@ pub fn asks_for_help(alloc: Global, words: &[String]) -> Result<bool, AllocError
     Ok(is_help(alloc, named.as_slice()))
 }
 
-/// What the words of a till are, for one who asks for help.
+/// Returns the help on a till's words.
 pub fn help_text(alloc: Global) -> Result<String, AllocError> {
     commands::till(alloc)?.render_help()
 }

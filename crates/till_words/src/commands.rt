@@ -10,7 +10,7 @@ use crate::options::{Kind, with_options};
 use clap::Command;
 use std::alloc::{AllocError, Global};
 
-/// A word: what it does, in a line of help, and its options.
+/// A word, its line of help, and its options.
 #[derive(Clone, Copy)]
 struct Subcommand {
     name: &'static str,
@@ -18,14 +18,14 @@ struct Subcommand {
     options: &'static [(&'static str, Kind)],
 }
 
-/// What stands before the word.
+/// The options before the word.
 static OPTIONS: [(&'static str, Kind); 3] = [
     ("book", Kind::OptionalText),
     ("json", Kind::Flag),
     ("staff", Kind::OptionalRow),
 ];
 
-/// The words, in the order in which help tells them.
+/// The words, in the order in which help lists them.
 static SUBCOMMANDS: [Subcommand; 27] = [
     // ---- at the counter
     Subcommand {
@@ -94,7 +94,7 @@ static SUBCOMMANDS: [Subcommand; 27] = [
         about: "Take a copy out of the shop for good: scrap COPY",
         options: &[("copy", Kind::Row)],
     },
-    // ---- what is looked up
+    // ---- looks
     Subcommand {
         name: "customer",
         about: "Show a customer, or those with a name or phone: customer NUMBER or TEXT",
@@ -188,7 +188,7 @@ static SUBCOMMANDS: [Subcommand; 27] = [
     },
 ];
 
-/// The command of a word.
+/// Returns the command of a word.
 fn command_of<'a>(alloc: Global, subcommand: Subcommand) -> Result<Command<'a>, AllocError>
     ensures shape { IfOk result (λ c. shape_of c ≡ table_shape subcommand) }
     ensures local { IfOk result (λ c. (fields_of c).has_globals ≡ false) }
@@ -197,7 +197,7 @@ fn command_of<'a>(alloc: Global, subcommand: Subcommand) -> Result<Command<'a>, 
     with_options(alloc, command, subcommand.options)
 }
 
-/// The command with these words more.
+/// Returns the command with these words added.
 fn with_commands<'a>(
     alloc: Global,
     mut command: Command<'a>,
@@ -215,7 +215,7 @@ fn with_commands<'a>(
     Ok(command)
 }
 
-/// The command line before its words.
+/// Returns the command line without its words.
 fn top<'a>(alloc: Global) -> Result<Command<'a>, AllocError>
     ensures app { IfOk result (λ c. app_of c ≡ line.top_app) }
     ensures local { IfOk result (λ c. (fields_of c).has_globals ≡ false) }
@@ -226,7 +226,7 @@ fn top<'a>(alloc: Global) -> Result<Command<'a>, AllocError>
     with_options(alloc, command, &OPTIONS)
 }
 
-/// The command line of a till.
+/// Returns the command line of a till.
 pub(crate) fn till<'a>(alloc: Global) -> Result<Command<'a>, AllocError>
     ensures app { IfOk result (λ c. app_of c ≡ line.till_app) }
     ensures local { IfOk result (λ c. (fields_of c).has_globals ≡ false) }

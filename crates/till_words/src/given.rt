@@ -11,7 +11,7 @@ use clap::ArgMatches;
 use shop_types::{Amount, LotName, Numbers, RowNumber, Text, Token, Usage};
 use std::alloc::{AllocError, Global};
 
-// ---- what is said of values that aren't of their kinds
+// ---- the texts for values that aren't of their kinds
 
 pub(crate) const NUMBER: &str =
     "a number is written in digits, from 1 to 4294967295; an amount is in dollars, from 0 to 999.99";
@@ -32,7 +32,7 @@ pub(crate) const WHOSE: &str =
 pub(crate) const PAYMENT: &str =
     "a payment is of a customer, and in dollars, from 0 to 999.99: 4.99, 5 or 0.50";
 
-/// Words that are none of a till, and why.
+/// Returns the fault of words that aren't a till's, with the reason.
 pub(crate) fn unread(alloc: Global, why: &str) -> Usage {
     match String::from_str(alloc, why) {
         Ok(text) => Usage::Words(text),
@@ -40,7 +40,7 @@ pub(crate) fn unread(alloc: Global, why: &str) -> Usage {
     }
 }
 
-/// The value, where there is one.
+/// Returns the value, or fails with the reason if there is none.
 pub(crate) fn of_kind<T>(alloc: Global, value: Option<T>, why: &str) -> Result<T, Usage>
     ensures { Reads result value }
 {
@@ -90,7 +90,7 @@ pub(crate) fn text<const LOW: usize, const HIGH: usize>(
     }
 }
 
-/// A text that may be left out.
+/// Returns a text that may be left out.
 pub(crate) fn optional_text<const LOW: usize, const HIGH: usize>(
     alloc: Global,
     given: &ArgMatches<'_>,
@@ -119,7 +119,7 @@ pub(crate) fn token(given: &ArgMatches<'_>) -> Option<Token>
     Token::read(str_of(given, "token")?.as_bytes())
 }
 
-/// Whether the option is there.
+/// Reports whether the option is given.
 pub(crate) fn flag(given: &ArgMatches<'_>, id: &str) -> bool
     ensures { result ≡ flag_given id.now (values_of given.now) }
 {
@@ -131,14 +131,14 @@ pub(crate) fn flag(given: &ArgMatches<'_>, id: &str) -> bool
 
 // ---- numbers
 
-/// The number of a row.
+/// Returns the number of a row.
 pub(crate) fn row<const KIND: u8>(given: &ArgMatches<'_>, id: &str) -> Option<RowNumber<KIND>>
     ensures { result ≡ row_given id.now (values_of given.now) }
 {
     RowNumber::read(str_of(given, id)?.as_bytes())
 }
 
-/// The number of a row, which may be left out.
+/// Returns the number of a row, which may be left out.
 pub(crate) fn optional_row<const KIND: u8>(
     given: &ArgMatches<'_>,
     id: &str,
@@ -157,7 +157,7 @@ pub(crate) fn amount(given: &ArgMatches<'_>) -> Option<Amount>
     Amount::new(texts::cents_of(str_of(given, "amount")?)?)
 }
 
-/// The list, where it was read and isn't too long.
+/// Returns the list, if it was read and isn't too long.
 fn listed<const KIND: u8>(
     alloc: Global,
     read: Result<Option<Vec<RowNumber<KIND>>>, AllocError>,
@@ -185,7 +185,7 @@ pub(crate) fn numbers<const KIND: u8>(
     }
 }
 
-/// A list that may be empty.
+/// Returns a list that may be empty.
 pub(crate) fn any_numbers<const KIND: u8>(
     alloc: Global,
     given: &ArgMatches<'_>,

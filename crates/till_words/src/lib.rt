@@ -1,4 +1,4 @@
-//! The words that are typed at a till, as the library `clap` reads them.
+//! Reads the words that are typed at a till, by the library `clap`.
 #![tactic(auto)]
 
 mod acts;

@@ -1,4 +1,4 @@
-//! A prompt's line, cut into words.
+//! Cuts a prompt's line into words.
 
 ghost use Rattle.std.specs.Prelude.{◌≡◌, Some, None, IfOk, IfErr, OnOk, map, option_map, string_bytes, unwrap_or, []};
 ghost use Rattle.shop_types.specs.declared.line.Usage.TheVariants as usage;
@@ -8,7 +8,7 @@ ghost use Rattle.till_words.specs.Seen.{seen_reading};
 use shop_types::Usage;
 use std::alloc::{AllocError, Global};
 
-/// How far a line is read.
+/// What was read of a line so far.
 #[derive(Drop)]
 struct Reading {
     words: Vec<String>,
@@ -24,7 +24,7 @@ fn is_blank(c: char) -> bool
     c == ' ' || c == '\t' || c == '\n' || c == '\r'
 }
 
-/// The word that is being read, or an empty one.
+/// Returns the word that is being read, or an empty one.
 fn begun(alloc: Global, word: Option<String>) -> String
     ensures { string_bytes result ≡ unwrap_or (option_map string_bytes word) [] }
 {
@@ -76,7 +76,7 @@ impl Reading {
     }
 }
 
-/// The words of the line, or none where a quote is left open.
+/// Returns the words of the line, or none if a quote is left open.
 fn words_of(alloc: Global, line: &str) -> Result<Option<Vec<String>>, AllocError>
     ensures { IfOk result (λ found. option_map (λ words. map string_bytes words.items) found ≡ spec.words_of line.now) }
 {
@@ -95,7 +95,7 @@ fn words_of(alloc: Global, line: &str) -> Result<Option<Vec<String>>, AllocError
     Ok(Some(reading.words))
 }
 
-/// What is said of a line with a quote that is left open.
+/// Returns the fault of a line with a quote that is left open.
 fn left_open(alloc: Global) -> Usage {
     match String::from_str(alloc, "a quote is left open") {
         Ok(text) => Usage::Words(text),
@@ -103,8 +103,8 @@ fn left_open(alloc: Global) -> Usage {
     }
 }
 
-/// The words of a line that was typed. Blanks part them, which are spaces, tabs and ends of lines; between two double
-/// quotes a blank is part of a word, and the quotes aren't. A quote that is left open is `Usage::Words`.
+/// Returns the words of a line that was typed. Blanks separate them: spaces, tabs and ends of lines. Between two double
+/// quotes a blank is part of a word, and the quotes aren't. Fails with `Usage::Words` if a quote is left open.
 pub fn split_line(alloc: Global, line: &str) -> Result<Vec<String>, Usage>
     ensures ok { IfOk result (λ words. spec.words_of line.now ≡ Some (map string_bytes words.items)) }
     ensures refused { IfErr result (λ e. ¬ (e ≡ usage.Memory) → spec.words_of line.now ≡ None) }

@@ -1,4 +1,4 @@
-//! Values in their places: each is put behind the name of the option that it is of.
+//! Values in their places: puts the name of its option before each value.
 
 ghost use Rattle.std.specs.Prelude.{◌≡◌, ◌≤◌, ◌++◌, false, map, drop, length, string_bytes, IfOk, OnOk};
 ghost use Rattle.till_words.specs.Places as spec;
@@ -14,7 +14,7 @@ fn is_option(word: &str) -> bool
     word.as_bytes().starts_with(b"--")
 }
 
-/// An option's name with its hyphens: what stands before the first `=`.
+/// Returns an option's name with its hyphens: the text before the first `=`.
 fn option_name(word: &str) -> &str
     ensures { result.now ≡ spec.option_name word.now }
 {
@@ -24,21 +24,21 @@ fn option_name(word: &str) -> &str
     }
 }
 
-/// Whether the word is an option with nothing behind it.
+/// Reports whether the word is an option without a value.
 fn is_flag(word: &str) -> bool
     ensures { result ≡ spec.is_flag word.now }
 {
     word == "--json" || word == "--office"
 }
 
-/// Whether the word is an option whose value is the next word.
+/// Reports whether the word is an option whose value is the next word.
 fn awaits_value(word: &str) -> bool
     ensures { result ≡ spec.awaits_value word.now }
 {
     is_option(word) && !is_flag(word) && option_name(word).len() == word.len()
 }
 
-/// How many words stand before the first one that is neither an option nor the value of one.
+/// Returns how many words come before the first word that is neither an option nor an option's value.
 pub(crate) fn word_place(words: &[String]) -> usize
     ensures value { result ≡ spec.word_place (map string_bytes words.now) }
     ensures bound { result ≤ length words.now }
@@ -59,14 +59,14 @@ pub(crate) fn word_place(words: &[String]) -> usize
 
 // ---- places
 
-/// Whether one of the words is the option of this name.
+/// Reports whether one of the words is the option of this name.
 fn is_given(words: &[String], name: &str) -> bool
     ensures { result ≡ spec.is_given (map string_bytes words.now) name.now }
 {
     words.iter().any(|word| option_name(word.as_str()) == name)
 }
 
-/// The places of what isn't given by its name.
+/// Returns the places of the options that aren't given by their names.
 fn free_places(
     alloc: Global,
     words: &[String],
@@ -97,7 +97,7 @@ fn push_words<'a>(named: &mut Vec<&'a str>, words: &'a [String]) -> Result<(), A
     Ok(())
 }
 
-/// Adds a value behind the name of the first place, where there is one.
+/// Adds a value after the name of the first place, or without a name if no place is left.
 fn push_placed<'a>(
     named: &mut Vec<&'a str>,
     names: &[&'static str],
@@ -113,7 +113,7 @@ fn push_placed<'a>(
     Ok(())
 }
 
-/// The places behind the first one.
+/// Returns the places after the first one.
 fn next_places<'a>(names: &'a [&'static str]) -> &'a [&'static str]
     ensures { map (λ s. s.now) result.now ≡ drop 1 (map (λ s. s.now) names.entry.now) }
 {
@@ -123,7 +123,7 @@ fn next_places<'a>(names: &'a [&'static str]) -> &'a [&'static str]
     }
 }
 
-/// Adds the words behind the subcommand, each value behind its name.
+/// Adds the words after the subcommand, each value after its option's name.
 fn push_named<'a>(
     named: &mut Vec<&'a str>,
     names: &[&'static str],
@@ -168,7 +168,7 @@ fn push_behind<'a>(
     push_named(named, free.as_slice(), values)
 }
 
-/// The words with a name before each value, as the library `clap` is to read them.
+/// Returns the words with a name before each value, for the library `clap` to read.
 pub(crate) fn named_words<'a>(
     alloc: Global,
     words: &'a [String],
@@ -193,7 +193,7 @@ fn copied(alloc: Global, words: &[String]) -> Result<Vec<String>, AllocError>
     Ok(copies)
 }
 
-/// The words behind the subcommand.
+/// Returns the words after the subcommand.
 pub(crate) fn office_words(alloc: Global, words: &[String]) -> Result<Vec<String>, AllocError>
     ensures { IfOk result (λ copies. map string_bytes copies.items ≡ spec.office_words (map string_bytes words.now)) }
 {

@@ -1,4 +1,4 @@
-//! What the options of a word say to the library `clap`.
+//! Describes the options of a word to the library `clap`.
 
 ghost use Rattle.std.specs.Prelude.{◌≡◌, false, IfOk, map, fold};
 ghost use Rattle.clap.specs.Words.{rule_of, app_of, with_rule};
@@ -10,26 +10,26 @@ use clap::builder::ValueParser;
 use clap::{Arg, ArgAction, Command};
 use std::alloc::{AllocError, Global};
 
-/// What stands after an option.
+/// What comes after an option.
 #[derive(Clone, Copy)]
 pub(crate) enum Kind {
     /// A text, which must be there.
     Text,
     /// A text, which may be left out.
     OptionalText,
-    /// A text, which is this one where it's left out.
+    /// A text, which is this one if it is left out.
     DefaultText(&'static str),
     /// A number from 1 on, which must be there.
     Row,
     /// A number from 1 on, which may be left out.
     OptionalRow,
-    /// A number from 1 on, which is the one of this text where it's left out.
+    /// A number from 1 on, which is read from this text if it is left out.
     DefaultRow(&'static str),
     /// Nothing: the option is there or not.
     Flag,
 }
 
-/// `--NAME`, with nothing said of it yet.
+/// Returns `--NAME`, with no more rules yet.
 fn named<'a>(alloc: Global, name: &'a str) -> Arg<'a>
     ensures rule { rule_of result ≡ line.optional_rule name.entry.now }
     ensures local { result.global ≡ false }
@@ -37,7 +37,7 @@ fn named<'a>(alloc: Global, name: &'a str) -> Arg<'a>
     Arg::new(alloc, name).long(name)
 }
 
-/// `--NAME NUMBER`, from 1 on.
+/// Returns `--NAME NUMBER`, from 1 on.
 fn row<'a>(alloc: Global, name: &'a str) -> Arg<'a>
     ensures rule { rule_of result ≡ line.optional_row_rule name.entry.now }
     ensures local { result.global ≡ false }
@@ -45,7 +45,7 @@ fn row<'a>(alloc: Global, name: &'a str) -> Arg<'a>
     named(alloc, name).value_parser(ValueParser::unsigned(1, 4_294_967_295))
 }
 
-/// The option of this name and kind.
+/// Returns the option of this name and kind.
 fn option<'a>(alloc: Global, name: &'static str, kind: Kind) -> Arg<'a>
     ensures rule { rule_of result ≡ kind_rule name.entry.now kind }
     ensures local { result.global ≡ false }
@@ -61,7 +61,7 @@ fn option<'a>(alloc: Global, name: &'static str, kind: Kind) -> Arg<'a>
     }
 }
 
-/// The command with these options more.
+/// Returns the command with these options added.
 pub(crate) fn with_options<'a>(
     alloc: Global,
     mut command: Command<'a>,

@@ -1,4 +1,4 @@
-//! Which options a word has that may be given in their order, without their names.
+//! The options of a word that may be given without their names, in their order.
 
 ghost use Rattle.std.specs.Prelude.{◌≡◌, map};
 ghost use Rattle.till_words.specs.Places.{till_places, found_places, stock_places, places_of};
@@ -40,7 +40,7 @@ fn stock_places(word: &str) -> &'static [&'static str]
     }
 }
 
-/// The names of the options whose values may stand in their order.
+/// Returns the names of the options whose values may be given without names, in their order.
 pub(crate) fn places_of(word: &str) -> &'static [&'static str]
     ensures { map (λ s. s.now) result.now ≡ places_of word.now }
 {

@@ -1,4 +1,4 @@
-//! Amounts in dollars and lists of numbers, as they are typed.
+//! Reads amounts in dollars and lists of numbers, as they are typed.
 
 ghost use Rattle.std.specs.Prelude.{◌≡◌, ◌<◌, ◌==◌, true, IfOk, IfSome, map, option_map};
 ghost use Rattle.std.specs.List.{slice_split};
@@ -9,7 +9,7 @@ use std::alloc::{AllocError, Global};
 
 // ---- amounts
 
-/// The number that 1 to 5 digits write.
+/// Returns the number that 1 to 5 digits write.
 fn five_digits(bytes: &[u8]) -> Option<u32>
     ensures value { result ≡ spec.five_digits_value bytes.now }
     ensures bound { IfSome result (λ n. n < 100_000) }
@@ -27,7 +27,7 @@ fn five_digits(bytes: &[u8]) -> Option<u32>
     Some(number)
 }
 
-/// Without the sign of the dollar before it, where there is one.
+/// Returns the text without its dollar sign, if it begins with one.
 fn without_dollar(bytes: &[u8]) -> &[u8]
     ensures { result.now ≡ spec.without_dollar bytes.now }
 {
@@ -37,14 +37,14 @@ fn without_dollar(bytes: &[u8]) -> &[u8]
     }
 }
 
-/// Whether the third byte from the end is a point.
+/// Reports whether the third byte from the end is a point.
 fn has_point(bytes: &[u8]) -> bool
     ensures { result ≡ spec.has_point bytes.now }
 {
     bytes.len() >= 3 && bytes[bytes.len() - 3] == b'.'
 }
 
-/// Dollars, a point and two digits.
+/// Reads dollars, a point and two digits, and returns the cents.
 fn dollars_and_cents(bytes: &[u8]) -> Option<u32>
     requires { spec.has_point bytes.now ≡ true }
     ensures { result ≡ spec.dollars_and_cents bytes.now }
@@ -62,7 +62,7 @@ fn whole_dollars(bytes: &[u8]) -> Option<u32>
     Some(dollars * 100)
 }
 
-/// The cents of an amount in dollars: `4.99`, `5`, `0.50` or `$5`.
+/// Returns the cents of an amount in dollars: `4.99`, `5`, `0.50` or `$5`.
 pub(crate) fn cents_of(text: &str) -> Option<u32>
     ensures { result ≡ spec.cents_of text.now }
 {
@@ -76,14 +76,14 @@ pub(crate) fn cents_of(text: &str) -> Option<u32>
 
 // ---- lists
 
-/// What stands between the commas.
+/// Returns the texts between the commas.
 fn pieces<'a>(alloc: Global, text: &'a str) -> Result<Vec<&'a str>, AllocError>
     ensures { IfOk result (λ found. map (λ s. s.now) found.items ≡ slice_split (λ b. b == 44) text.entry.now) }
 {
     text.split(',').collect(alloc)
 }
 
-/// The numbers that the pieces write, or none where one of them writes none.
+/// Returns the numbers that the pieces write, or none if a piece writes no number.
 fn all_numbers<const KIND: u8>(
     alloc: Global,
     pieces: &[&str],
@@ -100,7 +100,7 @@ fn all_numbers<const KIND: u8>(
     Ok(Some(numbers))
 }
 
-/// The numbers of a list with commas between them, or none where a part isn't one.
+/// Returns the numbers of a list with commas between them, or none if a part isn't a number.
 pub(crate) fn numbers_of<const KIND: u8>(
     alloc: Global,
     text: &str,
@@ -111,7 +111,7 @@ pub(crate) fn numbers_of<const KIND: u8>(
     all_numbers(alloc, pieces.as_slice())
 }
 
-/// The same, where there may be none.
+/// Returns the numbers of a list that may be empty.
 pub(crate) fn any_numbers_of<const KIND: u8>(
     alloc: Global,
     text: &str,

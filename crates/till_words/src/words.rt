@@ -34,14 +34,14 @@ impl WordList {
     }
 }
 
-/// What a new book is made with.
+/// What the till needs to make a new book.
 #[derive(Drop)]
 pub struct Beginning {
-    /// Where the server is found.
+    /// The server's address.
     pub address: T128,
-    /// Whose the book is, by the token that the server knows.
+    /// The token by which the server knows the book's owner.
     pub token: Token,
-    /// Who works at the till, or none for a book of head office.
+    /// The member of staff at the till, or none for a book of head office.
     pub staff: Option<StaffNo>,
 }
 
@@ -58,7 +58,7 @@ pub enum TillLook {
     InStock(CopyNo),
     /// Which customer has the copy.
     HeldBy(CopyNo),
-    /// The film's copies that are in stock, and those that are out.
+    /// The film's copies that are in stock, and its copies that are out.
     Copies(FilmNo),
     /// What the customer owes now.
     Balance(CustomerNo),
@@ -80,14 +80,14 @@ pub enum TillAct {
     Init(Beginning),
     /// To enter a command of a branch.
     Do(Act),
-    /// To take a copy back, of whichever rental the till knows of it.
+    /// To take a copy back, for whichever rental of the copy the till knows.
     ReturnCopy(CopyNo),
-    /// To enter an import of the stock file of that name, as a lot of that name.
+    /// To enter an import of this stock file, under this lot's name.
     Import { file: FileName, lot: LotName },
     Look(TillLook),
-    /// To show what is entered and not yet answered.
+    /// To show the commands that are entered and not yet answered.
     Waiting,
-    /// To send what is waiting.
+    /// To send the commands that wait.
     Send,
     /// To show so many of the book's last entries.
     Last(u32),
@@ -101,11 +101,11 @@ pub enum TillAct {
 /// A line of words, as it was read.
 #[derive(Drop)]
 pub struct TillLine {
-    /// The name of the book's file, where one is named.
+    /// The name of the book's file, if one is given.
     pub book: Option<FileName>,
-    /// Whether it is to be answered with JSON.
+    /// Whether the answer is to be JSON.
     pub is_json: bool,
-    /// Who works at the till, where it isn't who the book was made for.
+    /// The member of staff at the till, if another than the one that the book was made for.
     pub staff: Option<StaffNo>,
     pub act: TillAct,
 }

@@ -1,3 +1,4 @@
 pub mod Saying
-pub mod EntryLists
 pub mod Noting
+pub mod GoingOn
+pub mod Telling

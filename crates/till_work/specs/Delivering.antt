@@ -1,4 +1,4 @@
--- What becomes of the oldest entry when it is sent.
+-- The outcome when the oldest entry is sent.
 use Rattle.std.specs.Prelude.{◌≡◌, ◌≢◌, ℕ, List, ◌⊎◌, Option, Some, None}
 use Rattle.std.specs.Io.KnownBytes.{Appends, Consumes, Keeps}
 use Rattle.sqlite_trees.specs.Tree.{Trees}
@@ -14,8 +14,8 @@ use Rattle.till_client.specs.declared.replies.Answer.{Answer as Read}
 use Rattle.till_work.specs.declared.delivering.DeliverFault.{DeliverFault}
 use Rattle.till_work.specs.declared.delivering.DeliverFault.TheVariants.{Book, Unanswered, NotNow, NotKnown}
 
--- What was written is that entry, whole; what was read is the reply that is told, whole; and that reply stands in the book, on the disk too, for that entry and
--- no other. It is neither that the store couldn't do its part nor that the server doesn't know who asks.
+-- That entry was written whole, and the reply was read whole. The reply is recorded for that entry and no other, on the disk too. It says neither that the store
+-- couldn't do its part nor that the server doesn't know who asks.
 pub record DeliversOne (journal : Journal) (answer : Answer) (new : State) (input left output written : Option (List ℕ)) : Type 0 where
   pub request : List ℕ
   pub oldest : waiting journal ≡ Some request
@@ -25,7 +25,7 @@ pub record DeliversOne (journal : Journal) (answer : Answer) (new : State) (inpu
   pub known : answer ≢ answer_of (Sorry NoCounter)
   pub rests : Rests new (with_reply answer journal)
 
--- where each entry has its reply, nothing is written or read, and the book stays
+-- each entry has its reply: nothing is written or read, and the book stays
 pub record HasNone (journal : Journal) (new : State) (input left output written : Option (List ℕ)) : Type 0 where
   pub none : waiting journal ≡ None
   pub writes : Keeps output written
@@ -38,12 +38,12 @@ Delivers n (Some answer) old new input left output written =
 Delivers n None old new input left output written =
     (journal : Journal) → Rests old journal → IsNextReply n journal → HasNone journal new input left output written
 
--- a fault of the oldest entry, of which that is known
+-- that is known of the oldest entry
 abbrev pub OfOldest : Journal → (List ℕ → Type 0) → Type 0
 OfOldest journal Known = (request : List ℕ) × (waiting journal ≡ Some request) × Known request
 
--- Where no reply came, or none that counts, the entry stays without one, and so much of it was written as the fault says. Where the book failed nothing was
--- written, or the whole entry, and the book is to be opened anew.
+-- If no reply came, or none that counts, the entry stays without one, and the fault says how much of it was written. If the book failed, nothing was written or the
+-- whole entry, and the book is to be opened anew.
 abbrev pub FailsToDeliver : ℕ → DeliverFault → State → State → Option (List ℕ) → Option (List ℕ) → Type 0
 FailsToDeliver n (Unanswered fault) old new output written =
     (journal : Journal) → Rests old journal → IsNextReply n journal → Rests new journal × OfOldest journal (λ request. FailsToAsk fault request output written)
@@ -54,6 +54,6 @@ FailsToDeliver n NotKnown old new output written =
 FailsToDeliver n (Book fault) old new output written =
     (journal : Journal) → Rests old journal → IsNextReply n journal → Keeps output written ⊎ OfOldest journal (λ request. Appends output written request)
 
--- what may come to the disk: the book with a reply more, and nothing else
+-- what a stop may leave on the disk: the book with one more reply, and nothing else
 abbrev pub MayLeave : ℕ → State → Trees → Type 0
 MayLeave n old db = (status : ℕ) × (body : List ℕ) × LeavesRecorded n status body old db

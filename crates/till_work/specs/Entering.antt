@@ -5,23 +5,13 @@ use Rattle.shop_model.specs.Values.{Text, Command}
 use Rattle.shop_model.specs.Calendar.{Moment}
 use Rattle.till_model.specs.Numbered.{key_of, AreNumbered, IsAfterLast}
 use Rattle.till_client.specs.Sealing.{SaysCommand}
+pub use Rattle.till_book.specs.Saying.{Says, Say}
 use Rattle.till_book.specs.Journal.{Journal, with_entry}
 use Rattle.till_book.specs.Steps.{Rests, Stays, IsNext, IsEntered}
 use Rattle.till_work.specs.declared.entering.EnterFault.{EnterFault}
 use Rattle.till_work.specs.declared.entering.EnterFault.TheVariants.{Book, Memory, NoCommand, OtherKey, NotLater, OtherBook}
 
 -- ---- the book
-
--- an entry says that command, with whatever token
-abbrev pub Says : List ℕ → Command → Type 0
-Says bytes command = (token : Text) × SaysCommand bytes token command
-
--- the n-th entry says the n-th command
-abbrev pub Say : List (List ℕ) → List Command → Type 0
-Say [] [] = ⊤
-Say [] (command ∷ commands) = ⊥
-Say (bytes ∷ entries) [] = ⊥
-Say (bytes ∷ entries) (command ∷ commands) = Says bytes command × Say entries commands
 
 -- The book's entries say these commands. The n-th has the till's mark and its number for a key, and moments rise.
 pub record IsTillsBook (mark : Text) (journal : Journal) (commands : List Command) : Type 0 where
@@ -40,7 +30,7 @@ FindsLast n last old new =
 
 -- ---- one more entry
 
--- The request says that command with the till's token, its key is the entry's, and it stands behind the last, on the disk too. So a till's book stays one.
+-- The request says that command with the till's token, its key is the entry's, and it was added after the last, on the disk too. So a till's book stays one.
 pub record Enters (mark token : Text) (n : ℕ) (command : Command) (request : List ℕ) (old new : State) : Type 0 where
   pub says : SaysCommand request token command
   pub key : command.key ≡ key_of mark n

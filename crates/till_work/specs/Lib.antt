@@ -1,5 +1,7 @@
 pub mod Delivering
 pub mod Entering
 pub mod Laws
-pub mod Reading
 pub mod Settling
+pub mod Faults
+pub mod Told
+pub mod Desk

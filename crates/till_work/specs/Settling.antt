@@ -27,15 +27,15 @@ after_settling n answer (Acted read) journal = with_settled n answer journal
 after_settling n answer Never journal = with_settled n answer journal
 after_settling n answer (Open read) journal = journal
 
--- of an entry of which nothing was recorded but its reply
+-- if nothing was recorded of the entry but its reply
 abbrev pub IsKept : ℕ → Answer → Settled → State → State → Type 0
 IsKept n answer settled old new = (journal : Journal) → Rests old journal → IsUnsettled n journal → Rests new (after_settling n answer settled journal)
 
--- the entry at that place, of which that is known
+-- that is known of the entry at that place
 abbrev pub OfEntry : ℕ → Journal → (List ℕ → Type 0) → Type 0
 OfEntry n journal Known = (i : ℕ) → n ≡ i + 1 → (request : List ℕ) × (slice_get journal.entries i ≡ Some request) × Known request
 
--- The entry was settled before: nothing is written or read, what is told follows from what is recorded of it, and the book stays.
+-- The entry was settled before: nothing is written or read, the result follows from what is recorded, and the book stays.
 pub record WasSettled (n : ℕ) (settled : Settled) (journal : Journal) (new : State) (input left output written : Option (List ℕ)) : Type 0 where
   pub answer : Answer
   pub recorded : settled_of n journal.settled ≡ answer ∷ []
@@ -44,7 +44,7 @@ pub record WasSettled (n : ℕ) (settled : Settled) (journal : Journal) (new : S
   pub says : IsSettledBy answer settled
   pub rests : Rests new journal
 
--- That entry was written, whole, a reply was read, whole, which is no 503, what is told follows from it, and what was decided is recorded, on the disk too.
+-- That entry was written whole, and a reply was read whole, which is no 503. The result follows from it, and what was decided is recorded, on the disk too.
 pub record IsSettled (n : ℕ) (settled : Settled) (journal : Journal) (new : State) (input left output written : Option (List ℕ)) : Type 0 where
   pub unsettled : IsUnsettled n journal
   pub answer : Answer
@@ -59,8 +59,8 @@ Settles n settled old new input left output written =
     (journal : Journal) → Rests old journal
     → WasSettled n settled journal new input left output written ⊎ IsSettled n settled journal new input left output written
 
--- Where nothing is told the book stays, and so much of the entry was written as the fault says; nothing where there is no such entry. Where the book failed
--- nothing was written, or the whole entry, and the book is to be opened anew.
+-- Without a result the book stays, and the fault says how much of the entry was written. If there is no such entry, nothing was. If the book failed, nothing was written
+-- or the whole entry, and the book is to be opened anew.
 abbrev pub FailsToSettle : ℕ → SettleFault → State → State → Option (List ℕ) → Option (List ℕ) → Type 0
 FailsToSettle n (Book fault) old new output written =
     (journal : Journal) → Rests old journal → Keeps output written ⊎ OfEntry n journal (λ request. Appends output written request)
@@ -70,6 +70,6 @@ FailsToSettle n (Unanswered fault) old new output written =
     (journal : Journal) → Rests old journal → Rests new journal × OfEntry n journal (λ request. FailsToAsk fault request output written)
 FailsToSettle n NotNow old new output written = (journal : Journal) → Rests old journal → Rests new journal × OfEntry n journal (λ request. Appends output written request)
 
--- what may come to the disk: the book with what the entry was told, and nothing else
+-- what a stop may leave on the disk: the book with the settlement, and nothing else
 abbrev pub MayNote : ℕ → State → Trees → Type 0
 MayNote n old db = (status : ℕ) × (body : List ℕ) × LeavesNoted n status body old db

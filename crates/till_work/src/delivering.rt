@@ -1,4 +1,4 @@
-//! The oldest entry without a reply is sent, and its reply recorded.
+//! Sending the oldest entry without a reply, and recording its reply.
 
 ghost use Rattle.std.specs.Prelude.{◌≡◌, ◌↔◌, false, IsTrue, IfOk, IfErr};
 ghost use Rattle.sqlite.specs.Held.{state};
@@ -9,6 +9,7 @@ ghost use Rattle.shop_model.specs.Answers.{answer_of};
 ghost use Rattle.till_client.specs.Replies.{seen_answer};
 ghost use Rattle.till_work.specs.Delivering.{Delivers, FailsToDeliver, MayLeave};
 
+use counter_routes::Routes;
 use shop_types::{Refusal, Reply};
 use sql_rows::StoreFault;
 use sqlite::{Alter, Connection};
@@ -39,13 +40,14 @@ fn is_unknown(answer: &Answer) -> bool
 }
 
 /// Sends the oldest entry that has no reply, over a connection that is there for it alone, and records the reply that
-/// came. `next` is the number of the next reply. Where every entry has its reply, nothing is written or read.
+/// came. `next` is the number of the next reply. If every entry has its reply, nothing is written or read.
 ///
 /// An entry is on the disk before its first byte is written, and stays the oldest until its reply is on the disk too:
 /// whatever fails, the next call sends the same bytes again. A reply with status 503 is none, and so is `no_counter`:
 /// a server that was started over another file decides nothing of an entry.
 pub fn deliver<S: Alter, R: Read, W: Write>(
     alloc: Global,
+    routes: &Routes,
     conn: &mut Connection<S>,
     next: u32,
     reader: &mut R,
@@ -77,7 +79,14 @@ pub fn deliver<S: Alter, R: Read, W: Write>(
     if is_unknown(&answer) {
         return Err(DeliverFault::NotKnown);
     }
-    match record(conn, next, u32::from(answer.status), &answer.body) {
+    match record(
+        alloc,
+        routes,
+        conn,
+        next,
+        u32::from(answer.status),
+        &answer.body,
+    ) {
         Ok(()) => Ok(Some(answer)),
         Err(fault) => Err(DeliverFault::Book(fault)),
     }

@@ -1,4 +1,4 @@
-//! A command is entered: its request comes to stand in the book.
+//! Entering a command: its request is added to the book.
 
 ghost use Rattle.std.specs.Prelude.{◌≡◌, true, false, List, IfOk, IfErr};
 ghost use Rattle.std.specs.Str.{bytes_eq};
@@ -36,7 +36,7 @@ pub enum EnterFault {
     OtherBook,
 }
 
-/// The key of the entry of that number: the till's mark, a hyphen and the number.
+/// Returns the key of the entry of that number: the till's mark, a hyphen and the number.
 pub fn key_bytes(alloc: Global, mark: &[u8], number: u32) -> Result<Vec<u8>, AllocError>
     ensures { IfOk result (λ key. key.items ≡ key_of mark.now number) }
 {
@@ -47,7 +47,7 @@ pub fn key_bytes(alloc: Global, mark: &[u8], number: u32) -> Result<Vec<u8>, All
     Ok(key)
 }
 
-/// Whether the command has the key of the entry of that number.
+/// Tests whether the command has the key of the entry of that number.
 fn has_key(alloc: Global, mark: &[u8], number: u32, command: &Command) -> Result<bool, AllocError>
     ensures { IfOk result (λ is. is ≡ bytes_eq command.now.key (key_of mark.now number)) }
 {
@@ -55,7 +55,7 @@ fn has_key(alloc: Global, mark: &[u8], number: u32, command: &Command) -> Result
     Ok(command.key.as_str().as_bytes() == key.as_slice())
 }
 
-/// The request and its command, where that has the key of the entry of that number.
+/// Returns the request with its command, if that has the key of the entry of that number.
 fn fit(
     alloc: Global,
     routes: &Routes,
@@ -81,7 +81,7 @@ fn fit(
     }
 }
 
-/// The moment of the last entry, where there is one; `number` is the next entry's.
+/// Returns the moment of the last entry, if there is one; `number` is the next entry's.
 fn last_moment<S: Alter>(
     alloc: Global,
     conn: &mut Connection<S>,
@@ -111,7 +111,7 @@ fn last_moment<S: Alter>(
     }
 }
 
-/// Whether the moment is after the last one's, where there is one.
+/// Tests whether the moment is after the last one's, if there is one.
 fn is_later(last: Option<Moment>, moment: Moment) -> bool
     ensures yes { (commands : List Written) → IsLast last commands → result ≡ true → IsAfterLast commands moment }
     ensures no { (commands : List Written) → IsLast last commands → result ≡ false → ¬ (IsAfterLast commands moment) }
@@ -122,7 +122,7 @@ fn is_later(last: Option<Moment>, moment: Moment) -> bool
     }
 }
 
-/// Enters a command's request behind the last, and commits it. `number` is the entry's number, `mark` the till's mark
+/// Enters a command's request after the last, and commits it. `number` is the entry's number, `mark` the till's mark
 /// and `token` its token.
 ///
 /// The bytes have to say a command by the server's own readers, whose key is the mark and the number, and whose

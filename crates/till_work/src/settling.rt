@@ -1,5 +1,5 @@
-//! A refused entry that may have been sent more than once is sent once more, and so made sure of; what that decides
-//! is recorded.
+//! Making sure of a refused entry that may have been sent more than once: it is sent once more, and what that decides is
+//! recorded.
 
 ghost use Rattle.std.specs.Prelude.{◌≡◌, false, IfOk, IfErr};
 ghost use Rattle.sqlite.specs.Held.{state};
@@ -8,6 +8,7 @@ ghost use Rattle.till_client.specs.Replies.{seen_answer};
 ghost use Rattle.till_book.specs.Seen.{seen_reply};
 ghost use Rattle.till_work.specs.Settling.{IsSettledBy, IsKept, Settles, FailsToSettle, MayNote};
 
+use counter_routes::Routes;
 use shop_types::{Refusal, Reply};
 use sql_rows::StoreFault;
 use sqlite::{Alter, Connection};
@@ -16,21 +17,21 @@ use std::io::{Read, Write};
 use till_book::{BookReply, note_settled, request_of, settlement_of};
 use till_client::{Answer, AskFault, ask};
 
-/// What has become of an entry, by what it was told when it was sent once more.
+/// The outcome of an entry, by the reply that it got when it was sent once more.
 #[derive(Drop)]
 pub enum Settled {
     /// It has acted, and this is its reply.
     Acted(Answer),
-    /// Its moment is behind the branch's last: it never acts, whatever comes late.
+    /// Its moment is before the branch's last: it never acts, even if it arrives late.
     Never,
     /// Neither: it isn't settled yet.
     Open(Answer),
 }
 
-/// Why nothing was told of the entry.
+/// Why the outcome of the entry isn't known.
 #[derive(Drop)]
 pub enum SettleFault {
-    /// The book failed, or there was no memory for what it has: it is to be opened anew, and may have what was decided.
+    /// The book failed, or there was no memory for what it has: it is to be opened anew, and may have the decision.
     Book(StoreFault),
     /// No entry has that number.
     NoEntry,
@@ -40,7 +41,7 @@ pub enum SettleFault {
     NotNow,
 }
 
-/// What a reply to an entry that was sent once more says of it.
+/// Returns the outcome of an entry by the reply that it got when it was sent once more.
 fn settled_by(answer: Answer) -> Settled
     ensures { IsSettledBy (seen_answer answer) result }
 {
@@ -55,7 +56,7 @@ fn settled_by(answer: Answer) -> Settled
     }
 }
 
-/// What the book has of an entry, as an answer.
+/// Copies a reply in the book as an answer.
 fn answer_in(alloc: Global, reply: &BookReply) -> Result<Answer, StoreFault>
     ensures { IfOk result (λ answer. seen_answer answer ≡ seen_reply reply.now) }
 {
@@ -65,8 +66,10 @@ fn answer_in(alloc: Global, reply: &BookReply) -> Result<Answer, StoreFault>
     })
 }
 
-/// What a reply to an entry that was sent once more says of it; where that is decided, it is recorded.
+/// Returns the outcome of an entry by the reply that it got when it was sent once more, and records a decision.
 fn keep<S: Alter>(
+    alloc: Global,
+    routes: &Routes,
     conn: &mut Connection<S>,
     number: u32,
     answer: Answer,
@@ -82,23 +85,38 @@ fn keep<S: Alter>(
 {
     match settled_by(answer) {
         Settled::Acted(answer) => {
-            note_settled(conn, number, u32::from(answer.status), &answer.body)?;
+            note_settled(
+                alloc,
+                routes,
+                conn,
+                number,
+                u32::from(answer.status),
+                &answer.body,
+            )?;
             Ok(Settled::Acted(answer))
         }
         Settled::Never => {
             let back = Reply::refused(Refusal::MomentBack);
-            note_settled(conn, number, u32::from(back.status), back.body_bytes())?;
+            note_settled(
+                alloc,
+                routes,
+                conn,
+                number,
+                u32::from(back.status),
+                back.body_bytes(),
+            )?;
             Ok(Settled::Never)
         }
         Settled::Open(answer) => Ok(Settled::Open(answer)),
     }
 }
 
-/// Sends the entry of that number once more, byte for byte, over a connection that is there for it alone, and tells
-/// what has become of it. What was decided, `Acted` or `Never`, is recorded, and told from the book from then on:
-/// then nothing is sent. A reply with status 503 is none.
+/// Sends the entry of that number once more, byte for byte, over a connection that is there for it alone, and returns
+/// its outcome. A decision, `Acted` or `Never`, is recorded. From then on it is read from the book, and nothing is
+/// sent. A reply with status 503 is none.
 pub fn settle<S: Alter, R: Read, W: Write>(
     alloc: Global,
+    routes: &Routes,
     conn: &mut Connection<S>,
     number: u32,
     reader: &mut R,
@@ -135,7 +153,7 @@ pub fn settle<S: Alter, R: Read, W: Write>(
     if answer.status == 503 {
         return Err(SettleFault::NotNow);
     }
-    match keep(conn, number, answer) {
+    match keep(alloc, routes, conn, number, answer) {
         Ok(settled) => Ok(settled),
         Err(fault) => Err(SettleFault::Book(fault)),
     }

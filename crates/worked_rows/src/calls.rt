@@ -1,4 +1,4 @@
-//! Calls of public functions that no request makes, each once, by values worked out by hand: `call NAME`.
+//! Calls public functions that no request calls, each once, by values worked out by hand: `call NAME`.
 use crate::counter::name_of;
 use crate::lists::are_lists;
 use balance_rule::{Paid, last_month, rewarded};
@@ -12,7 +12,7 @@ use shop_types::{
 };
 use std::alloc::{AllocError, Global};
 
-/// Whether a chain with no shared row knows head office alone.
+/// Checks that a chain with no shared row knows only head office.
 fn knows_office(alloc: Global) -> bool {
     let (Some(office), Some(branch)) = (
         Token::read(b"0123456789abcdef0123456789abcdef"),
@@ -30,7 +30,7 @@ fn knows_office(alloc: Global) -> bool {
     }
 }
 
-/// Whether the faults by which there is no chain have their names.
+/// Checks that each fault by which there is no chain has its name.
 fn are_named(alloc: Global) -> bool {
     let mut are_same = true;
     for fault in [
@@ -57,7 +57,7 @@ fn paid(cents: u32, at: &str) -> Option<Paid> {
     }
 }
 
-/// Whether who is rewarded has passed both thresholds.
+/// Checks that a customer is rewarded only after passing both thresholds.
 fn are_rewarded() -> bool {
     let (Some(first), Some(last), Some(later), Some(at)) = (
         paid(300, "2028-02-01T00:00:00"),
@@ -80,7 +80,7 @@ fn are_rewarded() -> bool {
     }
 }
 
-/// Whether a copy is out by its open rental alone, and held by who has that.
+/// Checks that only an open rental puts a copy out, and that the rental's customer holds the copy.
 fn are_out_by_open_rentals() -> bool {
     let (Some(rented), Some(back), Some(staff)) = (
         Moment::read("2026-03-01T10:00:00"),
@@ -129,10 +129,10 @@ fn are_out_by_open_rentals() -> bool {
 
 const LOT_PATH: &str = "/import/k1/1/2026-03-01T10:00:00/L1";
 
-/// Parts that are no key, number, moment or name: nothing is decoded.
+/// A path with parts that are no key, number, moment or name: nothing is decoded.
 const ODD_PATH: &str = "/import/k%2f/M\u{fc}ller/{at}/ ";
 
-/// The parts at places of the paths, which are the texts between slashes as they stand.
+/// Paths, places in them, and the part at each place: the text between two slashes, not decoded.
 const PARTS: [(&str, usize, &str); 10] = [
     (LOT_PATH, 0, ""),
     (LOT_PATH, 1, "import"),
@@ -146,7 +146,7 @@ const PARTS: [(&str, usize, &str); 10] = [
     (ODD_PATH, 5, " "),
 ];
 
-/// Whether paths have their parts, and none behind the last.
+/// Checks that paths have their parts, and none after the last.
 fn are_our_parts() -> bool {
     for (path, place, wanted) in PARTS {
         match part(path.as_bytes(), place) {
@@ -157,7 +157,7 @@ fn are_our_parts() -> bool {
     part(LOT_PATH.as_bytes(), 6).is_none()
 }
 
-/// Whether values that no reply shows have their texts and numbers.
+/// Checks the texts and numbers of values that no reply shows.
 fn are_texts(alloc: Global) -> bool {
     moment_texts_are_one_to_one();
     let Some(last) = Moment::read("9999-12-31T23:59:59") else {
@@ -176,7 +176,7 @@ fn are_texts(alloc: Global) -> bool {
         && Refusal::StoreFailed.number() == 42
 }
 
-/// Makes the calls of that name.
+/// Makes the calls of this name.
 pub fn call(alloc: Global, name: &str, told: &mut Texts) {
     let holds = match name {
         "new_chain" => knows_office(alloc),

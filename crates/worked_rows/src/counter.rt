@@ -1,4 +1,4 @@
-//! What the rows are played on: a chain in files on disks in memory, and the whole program.
+//! What the rows are played on: a chain in two files on disks in memory, and the whole program.
 use crate::calls::call;
 use crate::disks::{InMemory, calls_of, disks};
 use crate::serving::{listen, put_replies, serve_as};
@@ -14,7 +14,7 @@ use std::alloc::Global;
 use std::marker::Model;
 use std::mem;
 
-/// A chain, files in which there is none, or neither.
+/// A chain, files without a chain, or neither.
 #[derive(Drop)]
 enum Held<D: InMemory> {
     Open(Chain<FileStore<D>>),
@@ -29,7 +29,7 @@ pub struct Counter<D: InMemory> {
     held: Held<D>,
 }
 
-/// Nothing is said of it: so those who hold one aren't checked over its parts.
+/// Says nothing of the value. So its holder isn't checked over its parts.
 impl<D: InMemory> Model for Counter<D> {
     ghost use Rattle.std.specs.Prelude.{⊤};
 
@@ -38,7 +38,7 @@ impl<D: InMemory> Model for Counter<D> {
     ghost view = { λ _. tt };
 }
 
-/// The fault's name.
+/// Returns the fault's name.
 pub fn name_of(fault: OpenFault) -> &'static str {
     match fault {
         OpenFault::Memory => "memory",
@@ -59,7 +59,7 @@ impl<D: InMemory> Counter<D> {
         }
     }
 
-    /// Keeps the chain, or its files. The name of the fault by which there is none.
+    /// Keeps the chain, or its files. Returns an empty name, or the name of the fault if there is no chain.
     fn keep(&mut self, opened: Result<Chain<FileStore<D>>, (OpenFault, Files<D>)>) -> &'static str {
         match opened {
             Ok(chain) => {

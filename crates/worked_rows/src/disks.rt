@@ -1,4 +1,4 @@
-//! A chain's files on disks in memory, each of which fails behind so many calls.
+//! A chain's files on disks in memory. Each disk fails after so many calls.
 use row_player::{Calls, Image, MOST_CALLS};
 use sqlite::Files;
 use sqlite_disk::{Crash, Disk, Fuse, Memory};
@@ -6,11 +6,11 @@ use std::alloc::Global;
 
 /// A disk in memory.
 pub trait InMemory: Crash + Drop {
-    /// One that holds these bytes, and fails behind so many calls. It holds fewer where memory is wanting, and what is
-    /// told then differs.
+    /// Makes a disk that holds these bytes, and fails after so many calls. If there isn't enough memory, the disk holds
+    /// fewer bytes, and the rows then differ.
     fn holding(alloc: Global, bytes: &[u8], calls: u64) -> Self;
 
-    /// What it holds.
+    /// Returns what the disk holds.
     fn held(&self) -> &[u8];
 }
 
@@ -27,7 +27,7 @@ impl InMemory for Fuse<Memory> {
     }
 }
 
-/// Disks that hold what the files do, and fail behind so many calls.
+/// Makes disks that hold what the files hold, and fail after so many calls.
 pub fn disks<D: InMemory>(alloc: Global, files: &Image, calls: Calls) -> Files<D> {
     Files {
         log: D::holding(alloc, files.log(), calls.log),
@@ -35,7 +35,7 @@ pub fn disks<D: InMemory>(alloc: Global, files: &Image, calls: Calls) -> Files<D
     }
 }
 
-/// How many of many calls a disk had. What is left of them is told by using them up.
+/// Returns how many of `MOST_CALLS` calls a disk had. Finds out how many are left by using them up.
 pub fn calls_of<D: Disk>(disk: &mut D) -> u64 {
     for left in 0..MOST_CALLS {
         if !disk.may_be_used() || disk.len().is_err() {

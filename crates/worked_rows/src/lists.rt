@@ -1,4 +1,4 @@
-//! The lists of rows as values, each once, of one row that is as short as it can be.
+//! The lists of rows as values: each once, with one row that is as short as it can be.
 use serde_json::Value;
 use shop_types::{ActorNo, BranchNo, CustomerNo, FilmNo, Minutes, Rate, Rating, StaffNo, Text};
 use shop_views::actors::ActorRow;
@@ -41,7 +41,7 @@ fn person(alloc: Global) -> Option<ListedPerson> {
     })
 }
 
-/// Whether the list is there, and has this text.
+/// Checks that the list is there, and has this text.
 fn is_text(alloc: Global, list: Result<Value, AllocError>, wanted: &str) -> bool {
     let Ok(list) = list else {
         return false;
@@ -170,7 +170,7 @@ fn is_overdue(alloc: Global) -> bool {
     )
 }
 
-/// Whether lists of rows that come as values are those of a request, which has them row by row.
+/// Checks that lists of rows made from values have the same texts as a request's lists, which are made row by row.
 pub fn are_lists(alloc: Global) -> bool {
     is_staff_list(alloc)
         && is_customer_list(alloc)

@@ -22,7 +22,7 @@ fn play_talks(rt: &HostRuntime, paths: &[String]) -> ExitCode {
     play_all(rt, counter, paths)
 }
 
-/// Plays a till's days, whose files end in `.till`, behind all others.
+/// Plays all files. Plays a till's days last: their names end in `.till`.
 fn main(rt: HostRuntime) -> io::Result<ExitCode> {
     let mut talks = Vec::new(rt.alloc());
     let mut days = Vec::new(rt.alloc());

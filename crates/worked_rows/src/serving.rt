@@ -1,5 +1,5 @@
-//! A connection to a chain, alone or by turns, tills side by side, and requests that are put to it as values: over any
-//! store, since a call costs a fraction where the store isn't named.
+//! Serves a connection alone or by turns, serves tills side by side, and puts requests to a chain as values. Works over
+//! any store, since a call costs a fraction if the store isn't named.
 use crate::values::Values;
 use chain_engine::Chain;
 use counter_http::{
@@ -14,7 +14,7 @@ use std::alloc::Global;
 use std::net::TcpListener;
 use std::time::Duration;
 
-/// An end's word.
+/// Returns the word for an end.
 fn word_of(end: End) -> &'static str {
     match end {
         End::Closed => "closed",
@@ -26,7 +26,7 @@ fn word_of(end: End) -> &'static str {
     }
 }
 
-/// Serves a connection by turns that answer so many requests each, until no next turn is to come.
+/// Serves a connection by turns that answer so many requests each, until no turn is left.
 fn serve_by_turns<S: Alter>(
     alloc: Global,
     input: &[u8],
@@ -44,7 +44,7 @@ fn serve_by_turns<S: Alter>(
     let words = ClapWords { alloc };
     let mut pieces = Pieces::new(input, how);
     let mut last = Ok(Standing::Ready);
-    // (a turn answers a request at least, or is the last)
+    // (a turn answers at least one request, or is the last)
     for _ in 0..=how.most {
         last = connection.advance(alloc, &mut pieces, told, chain, &board, &words, turns);
         let Ok(Standing::Ready) = last else {
@@ -53,7 +53,7 @@ fn serve_by_turns<S: Alter>(
     }
     let answered = connection.replies();
     let (word, replies) = match last {
-        // (the reply to a text that is no message is one more)
+        // (the reply to a text that is no message counts too)
         Ok(Standing::Ended(End::Refused)) => ("refused", answered.saturating_add(1)),
         Ok(Standing::Ended(end)) => (word_of(end), answered),
         Err(TurnFault::Read) => ("read", answered),
@@ -83,7 +83,7 @@ fn serve_alone<S: Alter>(
     told.ends(word, replies);
 }
 
-/// Puts the bytes of replies, one behind the other.
+/// Adds the bytes of replies, one after the other.
 pub fn put_replies(alloc: Global, out: &mut Vec<u8>, replies: &[Reply]) -> bool {
     let mut is_put = true;
     for reply in replies {
@@ -99,7 +99,7 @@ fn put_reply(alloc: Global, out: &mut Vec<u8>, reply: &Reply) -> bool {
     }
 }
 
-/// Has the chain answer the requests as those of a branch, whatever their tokens are.
+/// Answers the requests as requests of a branch, whatever their tokens are.
 fn answer_each<S: Alter>(
     alloc: Global,
     chain: &mut Chain<S>,
@@ -119,8 +119,8 @@ fn answer_each<S: Alter>(
     is_put
 }
 
-/// Has the requests read, and the chain answer them as values, with their tokens or as those of that branch. The replies
-/// are told, and how many there are.
+/// Reads the requests and answers them as values, with their tokens or as requests of this branch. Puts the replies and
+/// their number into `told`.
 fn answer<S: Alter>(
     alloc: Global,
     input: &[u8],
@@ -141,7 +141,7 @@ fn answer<S: Alter>(
     told.needs(is_put, "the requests aren't answered");
 }
 
-/// Serves a connection to which these bytes come so, or has their requests answered as values.
+/// Serves a connection that gets these bytes as `how` says, or answers their requests as values.
 pub fn serve_as<S: Alter>(
     alloc: Global,
     input: &[u8],
@@ -156,7 +156,8 @@ pub fn serve_as<S: Alter>(
     }
 }
 
-/// Serves tills side by side, each waited for so many milliseconds, or else at a port: the status.
+/// Serves tills side by side, and waits so many milliseconds for each. Without milliseconds, serves them at a port.
+/// Returns the status.
 pub fn listen<S: Alter>(
     alloc: Global,
     tills: &Tills<'_>,

@@ -1,5 +1,5 @@
-//! The tables in a chain's files, over a connection of its own beside the chain: their making, statements on them, and
-//! audits of them.
+//! The tables in a chain's files: makes them, runs statements on them and audits them, over a connection of its own
+//! beside the chain.
 use books_audit::audit_custody;
 use chain_files::{FirstRows, create};
 use chain_requests::read_audit;
@@ -13,7 +13,7 @@ use std::alloc::Global;
 /// Head office's token.
 const OFFICE: &[u8] = b"00000000000000000000000000000000";
 
-/// Does a statement, in a transaction. Whether it is done.
+/// Runs a statement in a transaction. Reports whether it succeeded.
 fn change<S: Alter>(conn: &mut Connection<S>, text: &str) -> bool {
     if !conn.is_autocommit() {
         return false;
@@ -25,7 +25,7 @@ fn change<S: Alter>(conn: &mut Connection<S>, text: &str) -> bool {
     tx.commit().is_ok()
 }
 
-/// What an audit of custody alone says of the tables. They stay as they are.
+/// Audits only custody in the tables, which stay as they are.
 fn custody<S: Alter>(alloc: Global, conn: &mut Connection<S>) -> Option<Audit> {
     if !conn.is_autocommit() {
         return None;
@@ -36,7 +36,7 @@ fn custody<S: Alter>(alloc: Global, conn: &mut Connection<S>) -> Option<Audit> {
     audit.ok()
 }
 
-/// Tells an audit of the tables.
+/// Puts the text of an audit into `told`.
 fn tell(alloc: Global, audit: Option<Audit>, told: &mut Texts) {
     let Some(audit) = audit else {
         return told.needs(false, "the tables aren't audited");
@@ -47,8 +47,8 @@ fn tell(alloc: Global, audit: Option<Audit>, told: &mut Texts) {
     }
 }
 
-/// Does that with the tables: makes this version's with the opening rows, or those of version 1 with head office's
-/// token; a statement; or an audit.
+/// Does the deed with the tables: makes them, runs a statement, or audits them. The tables of this version get the
+/// opening rows, and the tables of version 1 get head office's token.
 pub fn work<S: Alter>(alloc: Global, deed: Deed<'_>, conn: &mut Connection<S>, told: &mut Texts) {
     if !conn.is_autocommit() {
         return told.needs(false, "a transaction is open");

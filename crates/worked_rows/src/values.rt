@@ -13,7 +13,7 @@ pub struct Values {
     list: Vec<(Token, Request)>,
 }
 
-/// Nothing is said of it: so those who hold one aren't checked over its parts.
+/// Says nothing of the value. So its holder isn't checked over its parts.
 impl Model for Values {
     ghost use Rattle.std.specs.Prelude.{⊤};
 
@@ -27,7 +27,7 @@ impl Values {
         self.list.as_slice()
     }
 
-    /// Puts what the message of a branch asks, with its token. Whether it is read.
+    /// Adds what the message of a branch asks, with its token. Reports whether the message was read.
     fn put(&mut self, alloc: Global, routes: &Routes, message: &Message<'_>) -> bool {
         let (Some(token), Some(branch)) = (
             Token::read(message.token.unwrap_or(b"")),
@@ -46,7 +46,7 @@ impl Values {
         }
     }
 
-    /// Puts what the messages ask. Whether all are read.
+    /// Adds what the messages ask. Reports whether all were read.
     fn put_all(&mut self, alloc: Global, routes: &Routes, input: &[u8]) -> bool {
         let mut rest = input;
         for _ in 0..input.len() {
@@ -61,7 +61,7 @@ impl Values {
         true
     }
 
-    /// What the messages of branches ask, with their tokens.
+    /// Reads what the messages of branches ask, with their tokens.
     pub fn read(alloc: Global, input: &[u8], told: &mut Texts) -> Values {
         let mut values = Values {
             list: Vec::new(alloc),

@@ -1,15 +1,15 @@
-use Rattle.sql_rows.proofs.Common.{subst, state}
-use Rattle.shop_model.specs.Values.{Text}
-use Rattle.till_desk.specs.Desk.{GoesOn}
-use Rattle.till_program.proofs.GoingOn.{desk_kept, desk_kept_ok}
+use Rattle.sql_rows.proofs.Common.{state}
+use Rattle.shop_types.specs.Seen.{seen_act}
+use Rattle.till_program.specs.Faults.{giver_of}
+use Rattle.till_program.proofs.GoingOn.{desk_kept}
+use Rattle.till_program.proofs.Giving.{enters_try}
 use Rattle.till_program.proofs.commands.enter_act.Goals as goal
 
-pub returns-in-Ok-clause-keeps : goal.returns-in-Ok-clause-keeps
-returns-in-Ok-clause-keeps g c clean kept =
-    subst (λ (mark : Text). GoesOn mark c.args.book.now.place (state g.S.Store c.args.conn.now) c.enter.new.place (state g.S.Store c.enter.new.conn)) c.identity.ensures
-    (c.in-Ok.ensures.keeps clean (desk_kept_ok _))
+pub returns-in-Ok-clause-entered : goal.returns-in-Ok-clause-entered
+returns-in-Ok-clause-entered g c clean =
+    enters_try (g.K.WallClock.shows c.args.desk.now.clock.now) c.args.desk.now.settings.now.mark c.args.desk.now.settings.now.token c.identity.result.mark.now c.identity.result.token.now
+    (giver_of c.args.desk.now.settings.now.staff c.args.desk.now.staff) (seen_act c.args.act.now) c.in_ok-request.field-0.request.items c.args.book.now.place c.enter.new.place
+    (state g.S.Store c.args.conn.now) (state g.S.Store c.enter.new.conn) c.identity.ensures.mark c.identity.ensures.token c.in_ok-request.ensures (c.in-Ok.ensures.entered clean)
 
-pub returns-in-Err-clause-keeps : goal.returns-in-Err-clause-keeps
-returns-in-Err-clause-keeps g c clean kept =
-    subst (λ (mark : Text). GoesOn mark c.args.book.now.place (state g.S.Store c.args.conn.now) c.enter.new.place (state g.S.Store c.enter.new.conn)) c.identity.ensures
-    (c.in-Err.ensures.keeps clean (desk_kept _ c.in-Err.fault c.from.ensures kept))
+pub returns-in-Err-clause-stays : goal.returns-in-Err-clause-stays
+returns-in-Err-clause-stays g c clean kept = c.in-Err.ensures.stays clean (desk_kept _ c.in-Err.fault c.from.ensures kept)

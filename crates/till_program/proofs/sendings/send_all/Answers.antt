@@ -1,14 +1,11 @@
 use Rattle.till_program.proofs.GoingOn.{desk_kept, desk_kept_ok}
 use Rattle.till_program.proofs.sendings.send_all.Goals as goal
 
-pub returns-in-Ok-clause-keeps : goal.returns-in-Ok-clause-keeps
-returns-in-Ok-clause-keeps g c clean kept mark = c.in-Ok.ensures.keeps clean (desk_kept_ok _) mark
+pub returns-in-Ok-clause-sends : goal.returns-in-Ok-clause-sends
+returns-in-Ok-clause-sends g c clean kept = c.in-Ok.ensures.sends clean (desk_kept_ok _)
 
-pub returns-in-Err-clause-keeps : goal.returns-in-Err-clause-keeps
-returns-in-Err-clause-keeps g c clean kept mark = c.in-Err.ensures.keeps clean (desk_kept _ c.in-Err.fault c.from.ensures kept) mark
+pub returns-in-Err-clause-sends : goal.returns-in-Err-clause-sends
+returns-in-Err-clause-sends g c clean kept = c.in-Err.ensures.sends clean (desk_kept _ c.in-Err.fault c.from.ensures kept)
 
-pub returns-in-Ok-clause-grows : goal.returns-in-Ok-clause-grows
-returns-in-Ok-clause-grows g c clean kept = c.in-Ok.ensures.grows clean (desk_kept_ok _)
-
-pub returns-in-Err-clause-grows : goal.returns-in-Err-clause-grows
-returns-in-Err-clause-grows g c clean kept = c.in-Err.ensures.grows clean (desk_kept _ c.in-Err.fault c.from.ensures kept)
+pub returns-in-Err-clause-why : goal.returns-in-Err-clause-why
+returns-in-Err-clause-why g c clean = (c.in-Err.fault, c.from.ensures, c.in-Err.ensures.why clean)

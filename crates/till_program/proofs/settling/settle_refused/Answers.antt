@@ -4,22 +4,22 @@ use Rattle.till_program.proofs.settling.settle_refused.Goals as goal
 
 pub returns-in-Ok-false-clause-same : goal.returns-in-Ok-false-clause-same
 returns-in-Ok-false-clause-same g c clean kept =
-    same_then (state g.S.Store c.args.conn.now) (state g.S.Store c.numbers.conn) (state g.S.Store c.settle_one.new.conn)
-    (c.numbers.invariant.2 (c.settle_one.ensures.clean clean)) (c.in-Ok-false.ensures.same clean (kept_ok _))
+    same_then _ (state g.S.Store c.args.conn.now) (state g.S.Store c.entries.conn) (state g.S.Store c.settle_one.new.conn)
+    (c.entries.invariant.2 (c.settle_one.ensures.clean clean)) (c.in-Ok-false.ensures.same clean (kept_ok _))
 
 pub returns-in-Err-clause-same : goal.returns-in-Err-clause-same
 returns-in-Err-clause-same g c clean kept =
-    same_then (state g.S.Store c.args.conn.now) (state g.S.Store c.numbers.conn) (state g.S.Store c.settle_one.new.conn)
-    (c.numbers.invariant.2 (c.settle_one.ensures.clean clean)) (c.in-Err.ensures.same clean (kept_as c.in-Err.fault kept))
+    same_then _ (state g.S.Store c.args.conn.now) (state g.S.Store c.entries.conn) (state g.S.Store c.settle_one.new.conn)
+    (c.entries.invariant.2 (c.settle_one.ensures.clean clean)) (c.in-Err.ensures.same clean (kept_as c.in-Err.fault kept))
 
-pub numbers-preserved : goal.numbers-preserved
-numbers-preserved g c = (
+pub entries-preserved : goal.entries-preserved
+entries-preserved g c = (
   c.settle_one.ensures.ended,
-  (λ clean. c.numbers.invariant.1 (c.settle_one.ensures.clean clean)),
+  (λ clean. c.entries.invariant.1 (c.settle_one.ensures.clean clean)),
   (λ clean.
-      same_then (state g.S.Store c.args.conn.now) (state g.S.Store c.numbers.conn) (state g.S.Store c.settle_one.new.conn)
-      (c.numbers.invariant.2 (c.settle_one.ensures.clean clean)) (c.in-Ok-true.ensures.same clean (kept_ok _))),
+      same_then _ (state g.S.Store c.args.conn.now) (state g.S.Store c.entries.conn) (state g.S.Store c.settle_one.new.conn)
+      (c.entries.invariant.2 (c.settle_one.ensures.clean clean)) (c.in-Ok-true.ensures.same clean (kept_ok _))),
 )
 
 pub returns-clause-same : goal.returns-clause-same
-returns-clause-same g c clean kept = c.numbers.invariant.2 clean
+returns-clause-same g c clean kept = c.entries.invariant.2 clean

@@ -1,3 +1,8 @@
+use Rattle.sqlite.specs.Held.{state}
+use Rattle.till_work.specs.Told.{IsTold}
+use Rattle.till_program.specs.Faults.{giver_of}
+use Rattle.till_program.specs.declared.word.Plan.TheVariants as plan
+use Rattle.till_program.proofs.Doing.{carried_out}
 use Rattle.till_program.proofs.word.carry_out.Goals as goal
 
 pub returns-in-Give-clause-keeps : goal.returns-in-Give-clause-keeps
@@ -8,3 +13,15 @@ returns-in-Office-clause-grows g c clean kept office planned = c.give_office.ens
 
 pub returns-in-Send-clause-grows : goal.returns-in-Send-clause-grows
 returns-in-Send-clause-grows g c clean kept office planned = c.send.ensures.grows clean kept
+
+pub returns-in-Give-clause-done : goal.returns-in-Give-clause-done
+returns-in-Give-clause-done g c clean =
+    carried_out c.give_and_tell.result (IsTold (g.V.Server.opens c.args.desk.now.server.now) g.V.Reader.Read.remaining g.V.Writer.Write.contents) (g.K.WallClock.shows c.args.desk.now.clock.now)
+    c.args.desk.now.settings.now.mark c.args.desk.now.settings.now.token (giver_of c.args.desk.now.settings.now.staff c.args.desk.now.staff) c.args.plan
+    (plan.Give c.in-Give.act c.in-Give.customer) _ _ _ _ c.in-Give.is (c.give_and_tell.ensures.given clean)
+
+pub returns-in-Send-clause-done : goal.returns-in-Send-clause-done
+returns-in-Send-clause-done g c clean =
+    carried_out c.send.result (IsTold (g.V.Server.opens c.args.desk.now.server.now) g.V.Reader.Read.remaining g.V.Writer.Write.contents) (g.K.WallClock.shows c.args.desk.now.clock.now)
+    c.args.desk.now.settings.now.mark c.args.desk.now.settings.now.token (giver_of c.args.desk.now.settings.now.staff c.args.desk.now.staff) c.args.plan
+    plan.Send _ _ _ _ c.in-Send.is (c.send.ensures.sent clean)

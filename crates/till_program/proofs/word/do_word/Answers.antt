@@ -2,36 +2,48 @@ use Rattle.std.proofs.Common.{◌≡◌, ◌⊎◌, ◌∙◌, ℕ, Option, Resu
 use Rattle.sqlite.specs.Held.{state}
 use Rattle.till_program.specs.declared.fault.TillFault.{TillFault}
 use Rattle.till_program.specs.Faults.{IsReading, others_fault}
-use Rattle.till_program.proofs.GoingOn.{read_keeps, read_grows, stays_keeps, stays_grows}
+use Rattle.till_program.proofs.GoingOn.{read_keeps, read_grows, stays_keeps, stays_grows, stays_both}
+use Rattle.till_program.proofs.Doing.{ok_then, word_done}
 use Rattle.till_program.proofs.word.do_word.Goals as goal
 
 pub returns-in_err-book-clause-keeps : goal.returns-in_err-book-clause-keeps
 returns-in_err-book-clause-keeps g c clean kept branch =
-    stays_keeps c.args.desk.now.settings.now.mark (state g.S.Store c.args.conn.now) (state g.S.Store c.read.new.conn) (c.read.ensures.stays clean)
+    stays_keeps _ c.args.desk.now.settings.now.mark (state g.S.Store c.args.conn.now) (state g.S.Store c.read.new.conn) (c.read.ensures.stays clean)
 
 pub returns-in_err-plan-clause-keeps : goal.returns-in_err-plan-clause-keeps
 returns-in_err-plan-clause-keeps g c clean kept branch =
-    stays_keeps c.args.desk.now.settings.now.mark (state g.S.Store c.args.conn.now) (state g.S.Store c.read.new.conn) (c.read.ensures.stays clean)
+    stays_keeps _ c.args.desk.now.settings.now.mark (state g.S.Store c.args.conn.now) (state g.S.Store c.plan_of.new.conn)
+    (stays_both (state g.S.Store c.args.conn.now) (state g.S.Store c.read.new.conn) (state g.S.Store c.plan_of.new.conn) (c.read.ensures.stays (c.plan_of.ensures.clean clean))
+    (c.plan_of.ensures.stays clean))
 
 pub returns-clause-keeps : goal.returns-clause-keeps
 returns-clause-keeps g c clean kept branch =
-    let mid = c.carry_out.ensures.clean clean in
-    read_keeps c.args.desk.now.settings.now.mark c.in_ok-book.book.place c.carry_out.new.book.place (state g.S.Store c.args.conn.now) (state g.S.Store c.read.new.conn)
-    (state g.S.Store c.carry_out.new.conn) (c.in_ok-book.ensures.place mid) (c.read.ensures.stays mid) (c.carry_out.ensures.keeps clean kept branch c.in_ok-plan.ensures.planned)
+    let planned = c.carry_out.ensures.clean clean in
+    let read = c.plan_of.ensures.clean planned in
+    read_keeps _ c.args.desk.now.settings.now.mark c.in_ok-book.book.place c.carry_out.new.book.place (state g.S.Store c.args.conn.now) (state g.S.Store c.plan_of.new.conn)
+    (state g.S.Store c.carry_out.new.conn) (c.in_ok-book.ensures.place read)
+    (stays_both (state g.S.Store c.args.conn.now) (state g.S.Store c.read.new.conn) (state g.S.Store c.plan_of.new.conn) (c.read.ensures.stays read) (c.plan_of.ensures.stays planned))
+    (c.carry_out.ensures.keeps clean kept branch c.in_ok-plan.ensures.planned)
 
 pub returns-in_err-book-clause-office : goal.returns-in_err-book-clause-office
-returns-in_err-book-clause-office g c clean kept office = stays_grows (state g.S.Store c.args.conn.now) (state g.S.Store c.read.new.conn) (c.read.ensures.stays clean)
+returns-in_err-book-clause-office g c clean kept office = stays_grows _ (state g.S.Store c.args.conn.now) (state g.S.Store c.read.new.conn) (c.read.ensures.stays clean)
 
 pub returns-in_err-plan-clause-office : goal.returns-in_err-plan-clause-office
-returns-in_err-plan-clause-office g c clean kept office = stays_grows (state g.S.Store c.args.conn.now) (state g.S.Store c.read.new.conn) (c.read.ensures.stays clean)
+returns-in_err-plan-clause-office g c clean kept office =
+    stays_grows _ (state g.S.Store c.args.conn.now) (state g.S.Store c.plan_of.new.conn)
+    (stays_both (state g.S.Store c.args.conn.now) (state g.S.Store c.read.new.conn) (state g.S.Store c.plan_of.new.conn) (c.read.ensures.stays (c.plan_of.ensures.clean clean))
+    (c.plan_of.ensures.stays clean))
 
 pub returns-clause-office : goal.returns-clause-office
 returns-clause-office g c clean kept office =
-    let mid = c.carry_out.ensures.clean clean in
-    read_grows c.in_ok-book.book.place c.carry_out.new.book.place (state g.S.Store c.args.conn.now) (state g.S.Store c.read.new.conn)
-    (state g.S.Store c.carry_out.new.conn) (c.in_ok-book.ensures.place mid) (c.read.ensures.stays mid) (c.carry_out.ensures.grows clean kept office c.in_ok-plan.ensures.planned)
+    let planned = c.carry_out.ensures.clean clean in
+    let read = c.plan_of.ensures.clean planned in
+    read_grows _ c.in_ok-book.book.place c.carry_out.new.book.place (state g.S.Store c.args.conn.now) (state g.S.Store c.plan_of.new.conn)
+    (state g.S.Store c.carry_out.new.conn) (c.in_ok-book.ensures.place read)
+    (stays_both (state g.S.Store c.args.conn.now) (state g.S.Store c.read.new.conn) (state g.S.Store c.plan_of.new.conn) (c.read.ensures.stays read) (c.plan_of.ensures.stays planned))
+    (c.carry_out.ensures.grows clean kept office c.in_ok-plan.ensures.planned)
 
--- what the plan's fault says is handed on
+-- what the plan's fault says is returned
 handed_on : {A B : Type 0} (result : Result A TillFault) (plan : Result B TillFault) (fault : TillFault) (staff : Option ℕ)
     → IsErrAnd result (λ told. told ≡ fault) → plan ≡ Err fault → plan ≡ Err (others_fault staff) → IfErr result (λ told. IsReading told ⊎ (told ≡ others_fault staff))
 handed_on (Ok said) plan fault staff handed was is = absurd handed
@@ -41,8 +53,22 @@ pub returns-in_err-plan-clause-others : goal.returns-in_err-plan-clause-others
 returns-in_err-plan-clause-others g c other =
     handed_on c.from_residual-in_err-plan.result _ _ c.args.desk.now.settings.now.staff c.from_residual-in_err-plan.ensures.1 refl (c.in_err-plan.ensures.others other)
 
+pub returns-in_err-plan-clause-stays : goal.returns-in_err-plan-clause-stays
+returns-in_err-plan-clause-stays g c clean other =
+    stays_both (state g.S.Store c.args.conn.now) (state g.S.Store c.read.new.conn) (state g.S.Store c.plan_of.new.conn) (c.read.ensures.stays (c.plan_of.ensures.clean clean))
+    (c.plan_of.ensures.stays clean)
+
 pub returns-clause-others : goal.returns-clause-others
 returns-clause-others g c other = absurd (other c.in_ok-plan.ensures.own)
 
 pub returns-clause-stays : goal.returns-clause-stays
 returns-clause-stays g c clean other = absurd (other c.in_ok-plan.ensures.own)
+
+pub returns-clause-done : goal.returns-clause-done
+returns-clause-done g c clean =
+    let planned = c.carry_out.ensures.clean clean in
+    let read = c.plan_of.ensures.clean planned in
+    ok_then _ (c.carry_out.ensures.done clean)
+    (word_done _ _ _ _ _ c.args.act c.in_ok-plan.plan c.in_ok-book.book.place c.carry_out.new.book.place (state g.S.Store c.args.conn.now) (state g.S.Store c.read.new.conn)
+    (state g.S.Store c.plan_of.new.conn) (state g.S.Store c.carry_out.new.conn) (c.in_ok-book.ensures.place read) (c.read.ensures.stays read) (c.plan_of.ensures.stays planned)
+    (c.in_ok-plan.ensures.acts planned))

@@ -1,4 +1,4 @@
-use Rattle.shop_types.proofs.Common.{◌≡◌, ◌≤◌, ◌∙◌, List, map, take, string_bytes, ap, subst, IsUtf8, take_all}
+use Rattle.shop_types.proofs.Common.{◌≡◌, ◌≤◌, ◌∙◌, map, take, string_bytes, ap, subst, IsUtf8, take_all}
 use Rattle.std.specs.Prelude.{Some}
 use Rattle.serde_json.specs.Data.{Data, string, depth}
 use Rattle.serde_json.specs.Read.{read, max_depth}

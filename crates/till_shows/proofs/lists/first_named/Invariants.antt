@@ -3,6 +3,6 @@ use Rattle.serde_json.specs.View.{view}
 use Rattle.till_shows.specs.Lists.{first_named}
 use Rattle.till_shows.proofs.lists.first_named.Given as goal
 
--- none of the objects before says the number
+-- no object before this one has the number
 abbrev pub invariant-loop-row : goal.invariant-loop-row
 invariant-loop-row l = first_named l.by l.number l.name (map view (drop l.row-index l.rows)) ≡ first_named l.by l.number l.name (map view l.rows)

@@ -3,6 +3,6 @@ use Rattle.shop_types.specs.declared.refusal.Refusal.{Refusal}
 use Rattle.till_shows.specs.Told.{Tells}
 use Rattle.till_shows.proofs.told.named.Given as goal
 
--- the reply is none of those with a lower number
+-- the reply has no refusal with a lower number
 abbrev pub invariant-loop-number : goal.invariant-loop-number
 invariant-loop-number l = (it : Refusal) → has_fixed_body it ≡ true → problem_number (seen_refusal it) < l.number → ¬ Tells l.status l.body it

@@ -54,3 +54,16 @@ returns-clause-crash g c =
     let clean_mid : HasCleanDisk mid = omega (arith, clean, c.enter.ensures.crash.clean) in
     subst (λ (l : List ℕ). StandsFor db (with_entry l journal)) bytes (leaves journal ((c.in-Ok-last_moment.ensures.found clean_mid).0 journal rests) next))
     c.last_moment.ensures.crash c.enter.ensures.crash
+
+pub returns-in-Ok-enter-clause-crash : goal.returns-in-Ok-enter-clause-crash
+returns-in-Ok-enter-clause-crash g c =
+    let own = c.in-Ok.ensures.ok in
+    let old = state g.S.Store c.args.conn.now in
+    let mid = state g.S.Store c.last_moment.new.conn in
+    let request = c.args.request.items in
+    let bytes : c.as_slice.result.now ≡ request = c.as_slice.ensures.value ∙ ap (λ v. v.items) own.0 in
+    survives_then old mid (state g.S.Store c.enter.new.conn) _ (LeavesEntered c.args.number c.as_slice.result.now mid) (LeavesEntered c.args.number request old) (λ _ db none. absurd none)
+    (λ clean db leaves journal rests next.
+    let clean_mid : HasCleanDisk mid = omega (arith, clean, c.enter.ensures.crash.clean) in
+    subst (λ (l : List ℕ). StandsFor db (with_entry l journal)) bytes (leaves journal ((c.in-Ok-last_moment.ensures.found clean_mid).0 journal rests) next))
+    c.last_moment.ensures.crash c.enter.ensures.crash

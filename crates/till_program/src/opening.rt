@@ -1,0 +1,120 @@
+//! A book that is open, with what a word needs beside it.
+
+ghost use Rattle.std.specs.Prelude.{◌≡◌, false, IfOk, IfSome};
+
+use crate::fault::TillFault;
+use crate::files::{is_asked_for, is_there, open_at, unask};
+use crate::init::settings_of;
+use counter_routes::Routes;
+use sqlite::{Connection, FileStore};
+use sqlite_std_file::File;
+use till_files::close_book;
+use till_requests::Settings;
+
+/// What a word needs beside the open book: its file's name, its settings, and the server's own reader of requests.
+#[derive(Drop)]
+pub(crate) struct Tools {
+    pub(crate) name: String,
+    pub(crate) settings: Settings,
+    pub(crate) routes: Routes,
+}
+
+/// An open book. No other process can open the book until it is closed.
+#[derive(Drop)]
+pub(crate) struct OpenBook {
+    pub(crate) tools: Tools,
+    pub(crate) conn: Connection<FileStore<File>>,
+}
+
+/// Reads the settings of the book of that name, and makes what a word needs beside them.
+fn tools_of(rt: &HostRuntime, name: &str) -> Result<Tools, TillFault> {
+    if !is_there(rt, name) {
+        return Err(TillFault::NoBook);
+    }
+    let settings = settings_of(rt, name)?;
+    let Ok(routes) = Routes::new(rt.alloc()) else {
+        return Err(TillFault::Memory);
+    };
+    Ok(Tools {
+        name: String::from_str(rt.alloc(), name)?,
+        settings,
+        routes,
+    })
+}
+
+impl OpenBook {
+    /// Opens the book of that name with its own settings.
+    fn open(rt: &HostRuntime, name: &str) -> Result<OpenBook, TillFault>
+        ensures { IfOk result (λ book. book.conn.in_transaction ≡ false) }
+    {
+        let tools = tools_of(rt, name)?;
+        let conn = open_at(rt, &tools.routes, name)?;
+        Ok(OpenBook { tools, conn })
+    }
+
+    /// Closes the book: another window may have it.
+    pub(crate) fn close(self) {
+        let OpenBook { tools, conn } = self;
+        drop(tools);
+        drop(close_book(conn));
+    }
+
+    /// Tests whether another window asks for the book, and takes that back.
+    fn is_asked_for(&self, rt: &HostRuntime) -> bool {
+        let name = self.tools.name.as_str();
+        let is_asked = is_asked_for(rt, name);
+        if is_asked {
+            unask(rt, name);
+        }
+        is_asked
+    }
+
+    /// Tests whether it is the book of that name.
+    fn is_named(&self, name: &str) -> bool {
+        self.tools.name.as_str() == name
+    }
+}
+
+/// Closes the book that is held, if one is.
+pub(crate) fn close_held(held: &mut Option<OpenBook>)
+    ensures { IfSome held.new (λ book. book.conn.in_transaction ≡ false) }
+{
+    if let Some(book) = held.take() {
+        book.close();
+    }
+}
+
+/// Closes the book that is held, if another window asks for it.
+pub(crate) fn close_if_asked(rt: &HostRuntime, held: &mut Option<OpenBook>)
+    requires { IfSome held.old (λ book. book.conn.in_transaction ≡ false) }
+    ensures { IfSome held.new (λ book. book.conn.in_transaction ≡ false) }
+{
+    let is_asked = match held {
+        Some(book) => book.is_asked_for(rt),
+        None => false,
+    };
+    if is_asked {
+        close_held(held);
+    }
+}
+
+/// Returns the book of that name: the one that is held, or else it is opened. A book of another name is closed first.
+/// None is held after that.
+pub(crate) fn opened(
+    rt: &HostRuntime,
+    name: &str,
+    held: &mut Option<OpenBook>,
+) -> Result<OpenBook, TillFault>
+    requires { IfSome held.old (λ book. book.conn.in_transaction ≡ false) }
+    ensures idle { IfOk result (λ book. book.conn.in_transaction ≡ false) }
+    ensures held { IfSome held.new (λ book. book.conn.in_transaction ≡ false) }
+{
+    let Some(book) = held.take() else {
+        return OpenBook::open(rt, name);
+    };
+    if book.is_named(name) {
+        return Ok(book);
+    }
+    book.close();
+    OpenBook::open(rt, name)
+}

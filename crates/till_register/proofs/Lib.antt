@@ -1,5 +1,0 @@
-pub mod Bodies
-pub mod LastRent
-pub mod Returned
-pub mod Held
-pub mod OfCopy

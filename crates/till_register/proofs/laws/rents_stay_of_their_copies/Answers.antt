@@ -1,5 +1,0 @@
-use Rattle.till_register.proofs.OfCopy.{rents_stay}
-use Rattle.till_register.proofs.laws.rents_stay_of_their_copies.Goals as goal
-
-pub returns : goal.returns
-returns c = rents_stay

@@ -1,5 +1,0 @@
-use Rattle.till_register.proofs.Returned.{took_back}
-use Rattle.till_register.proofs.laws.returns_by_copy_took_back.Goals as goal
-
-pub returns : goal.returns
-returns c = took_back

@@ -1,3 +1,0 @@
-pub mod Register
-pub mod Entries
-pub mod Laws

@@ -1,0 +1,389 @@
+-- A till's book goes on, step by step.
+use Rattle.std.proofs.Common.{◌≡◌, ◌≢◌, ◌∙◌, ◌+◌, ◌++◌, ◌∷◌, [], ℕ, List, Option, Some, None, Result, Ok, Err, IfOk, IfErr, length, inl, inr, sym, ap, refl, subst, append_assoc, append-nil, length-append}
+use Rattle.sqlite.specs.State.{State}
+use Rattle.shop_model.specs.Values.{Text, Command}
+use Rattle.shop_model.specs.Answers.{Answer}
+use Rattle.till_client.specs.Replies.{seen_answer, answer_bytes}
+use Rattle.std.specs.Io.KnownBytes.{Appends, Consumes}
+use Rattle.till_client.specs.declared.replies.Answer.{Answer as Read}
+use Rattle.till_book.specs.Journal.{Journal, with_entry, with_reply}
+use Rattle.till_book.specs.Steps as book
+use Rattle.till_book.specs.Steps.{Rests, IsNextReply, IsEntered}
+use Rattle.till_work.specs.Entering.{Enters, FailsToEnter}
+use Rattle.till_work.specs.Delivering.{Delivers, FailsToDeliver}
+use Rattle.till_work.specs.declared.entering.EnterFault.{EnterFault}
+use Rattle.till_work.specs.declared.entering.EnterFault.TheVariants as enter
+use Rattle.till_work.specs.declared.delivering.DeliverFault.{DeliverFault}
+use Rattle.till_work.specs.declared.delivering.DeliverFault.TheVariants as deliver
+use Rattle.till_work.specs.declared.fault.DeskFault.{DeskFault}
+use Rattle.till_work.specs.declared.fault.DeskFault.TheVariants as desk
+use Rattle.till_work.specs.declared.place.Place.{Place}
+use Rattle.till_work.specs.Faults.{entering_fault, sending_fault}
+use Rattle.till_work.specs.Told.{IsTold, IsToldAt, AreTold, AreSettled, IsUnanswered, IsPutOff}
+use Rattle.till_work.specs.Desk.{HasPlace, IsAt, Extends, Becomes, HasMore, GoesOn, Grows, Stays, EntersOne, AnswersOne, AreSent, Sends, TellsLast, IsLastOf, with_replies, IsWhy, FailsToTell, FailsToSend, IsBookKept}
+use Rattle.till_work.proofs.Telling.{all_told_more, told_then, all_settled_more, settled_then}
+
+-- what stands behind what stands behind
+pub more_then : {A : Type 0} (x y z a b : List A) → y ≡ x ++ a → z ≡ y ++ b → z ≡ x ++ (a ++ b)
+more_then x y z a b one two = two ∙ ap (λ l. l ++ b) one ∙ append_assoc x a b
+
+nothing_more : {A : Type 0} (x : List A) → x ≡ x ++ []
+nothing_more x = sym (append-nil x)
+
+length_behind : {A : Type 0} (xs : List A) (x : A) → length (xs ++ x ∷ []) ≡ length xs + 1
+length_behind xs x = length-append xs (x ∷ [])
+
+-- ---- a till's book and its place
+
+pub place_of : (mark : Text) (place : Place) (s : State) (journal : Journal) (commands : List Command) → IsAt mark place s journal commands → HasPlace place s journal
+place_of mark place s journal commands at = record { rests = at.rests; entries = at.entries; replies = at.replies }
+
+-- where the entries are the same the book is a till's still
+pub at_place : (mark : Text) (before after : Place) (old new : State) (journal next : Journal) (commands : List Command) → IsAt mark before old journal commands
+    → next.entries ≡ journal.entries → HasPlace after new next → IsAt mark after new next commands
+at_place mark before after old new journal next commands at same has = record {
+  rests = has.rests;
+  book = record { says = rw same at.book.says; numbered = at.book.numbered };
+  entries = has.entries;
+  replies = has.replies;
+}
+
+pub stays_then : (before after last : Place) (old new end : State) → Stays before old after new → Stays after new last end → Stays before old last end
+stays_then before after last old new end one two journal has = two journal (one journal has)
+
+pub rests_stays : (place : Place) (old new : State) → ((journal : Journal) → Rests old journal → Rests new journal) → Stays place old place new
+rests_stays place old new stays journal has = record { rests = stays journal has.rests; entries = has.entries; replies = has.replies }
+
+-- ---- a journal that has more
+
+module _ (Tells : List ℕ → Answer → Type 0) where
+  -- from the place of the later of two journals
+  told_behind : (a b : Journal) (entries : List (List ℕ)) (first : List Answer) (later : List Answer) → b.replies ≡ a.replies ++ first
+      → AreTold Tells entries (length b.replies) later → AreTold Tells entries (length a.replies + length first) later
+  told_behind a b entries first later is told =
+      let place : length b.replies ≡ length a.replies + length first = ap length is ∙ length-append a.replies first in
+      subst (λ (k : ℕ). AreTold Tells entries k later) place told
+
+  pub extends_then : (a b c : Journal) → Extends Tells a b → Extends Tells b c → Extends Tells a c
+  extends_then a b c one two =
+      let more = two.entries.0 in
+      let grown : c.entries ≡ b.entries ++ more = two.entries.1 in
+      let before : AreTold Tells c.entries (length a.replies) one.replies.0 =
+      subst (λ (es : List (List ℕ)). AreTold Tells es (length a.replies) one.replies.0) (sym grown)
+      (all_told_more Tells b.entries more (length a.replies) one.replies.0 one.replies.2) in
+      let after : AreTold Tells c.entries (length a.replies + length one.replies.0) two.replies.0 =
+      told_behind a b c.entries one.replies.0 two.replies.0 one.replies.1 two.replies.2 in
+      let settled : AreSettled Tells c.entries one.settled.0 =
+      subst (λ (es : List (List ℕ)). AreSettled Tells es one.settled.0) (sym grown)
+      (all_settled_more Tells b.entries more one.settled.0 one.settled.2) in
+      record {
+        entries = (one.entries.0 ++ more, more_then a.entries b.entries c.entries one.entries.0 more one.entries.1 grown);
+        replies = (
+          one.replies.0 ++ two.replies.0,
+          more_then a.replies b.replies c.replies one.replies.0 two.replies.0 one.replies.1 two.replies.1,
+          told_then Tells c.entries (length a.replies) one.replies.0 two.replies.0 before after,
+        );
+        settled = (
+          one.settled.0 ++ two.settled.0,
+          more_then a.settled b.settled c.settled one.settled.0 two.settled.0 one.settled.1 two.settled.1,
+          settled_then Tells c.entries one.settled.0 two.settled.0 settled two.settled.2,
+        );
+      }
+
+  pub extends_same : (journal : Journal) → Extends Tells journal journal
+  extends_same journal = record {
+    entries = ([], nothing_more journal.entries);
+    replies = ([], nothing_more journal.replies, tt);
+    settled = ([], nothing_more journal.settled, tt);
+  }
+
+  pub extends_entry : (request : List ℕ) (journal : Journal) → Extends Tells journal (with_entry request journal)
+  extends_entry request journal = record {
+    entries = (request ∷ [], refl);
+    replies = ([], nothing_more journal.replies, tt);
+    settled = ([], nothing_more journal.settled, tt);
+  }
+
+  pub extends_sent : (answers : List Answer) (journal : Journal) → AreTold Tells journal.entries (length journal.replies) answers → Extends Tells journal (with_replies answers journal)
+  extends_sent answers journal told = record {
+    entries = ([], nothing_more journal.entries);
+    replies = (answers, refl, told);
+    settled = ([], nothing_more journal.settled, tt);
+  }
+
+  -- ---- a till's book goes on
+
+  pub becomes_same : (mark : Text) (place : Place) (s : State) (journal : Journal) (commands : List Command) → IsAt mark place s journal commands
+      → Becomes Tells mark place s journal commands
+  becomes_same mark place s journal commands at = record {
+    journal = journal;
+    commands = commands;
+    is_at = at;
+    extends = extends_same journal;
+    says = ([], nothing_more commands);
+  }
+
+  pub becomes_then : (mark : Text) (after last : Place) (new end : State) (journal : Journal) (commands : List Command) (mid : Becomes Tells mark after new journal commands)
+      → Becomes Tells mark last end mid.journal mid.commands → Becomes Tells mark last end journal commands
+  becomes_then mark after last new end journal commands mid it = record {
+    journal = it.journal;
+    commands = it.commands;
+    is_at = it.is_at;
+    extends = extends_then journal mid.journal it.journal mid.extends it.extends;
+    says = (mid.says.0 ++ it.says.0, more_then commands mid.commands it.commands mid.says.0 it.says.0 mid.says.1 it.says.1);
+  }
+
+  pub goes_then : (mark : Text) (before after last : Place) (old new end : State) → GoesOn Tells mark before old after new → GoesOn Tells mark after new last end
+      → GoesOn Tells mark before old last end
+  goes_then mark before after last old new end one two journal commands at =
+      let mid = one journal commands at in becomes_then mark after last new end journal commands mid (two mid.journal mid.commands mid.is_at)
+
+  pub stays_goes : (mark : Text) (before after : Place) (old new : State) → Stays before old after new → GoesOn Tells mark before old after new
+  stays_goes mark before after old new stays journal commands at =
+      becomes_same mark after new journal commands
+      (at_place mark before after old new journal journal commands at refl (stays journal (place_of mark before old journal commands at)))
+
+  pub entry_goes : (mark token : Text) (request : List ℕ) (before after : Place) (old new : State) → EntersOne mark token request before old after new
+      → GoesOn Tells mark before old after new
+  entry_goes mark token request before after old new enters journal commands at =
+      let it = enters journal commands at in
+      record {
+        journal = with_entry request journal;
+        commands = commands ++ it.0 ∷ [];
+        is_at = it.2;
+        extends = extends_entry request journal;
+        says = (it.0 ∷ [], refl);
+      }
+
+  pub sends_goes : (mark : Text) (before after : Place) (old new : State) → Sends Tells before old after new → GoesOn Tells mark before old after new
+  sends_goes mark before after old new sends journal commands at =
+      let it = sends journal (place_of mark before old journal commands at) in
+      record {
+        journal = with_replies it.0 journal;
+        commands = commands;
+        is_at = at_place mark before after old new journal (with_replies it.0 journal) commands at refl it.1.has;
+        extends = extends_sent it.0 journal it.1.told;
+        says = ([], nothing_more commands);
+      }
+
+  -- ---- whatever the entries say
+
+  pub grows_then : (before mid after : Place) (old between new : State) → Grows Tells before old mid between → Grows Tells mid between after new → Grows Tells before old after new
+  grows_then before mid after old between new one two journal has =
+      let first = one journal has in
+      let next = two first.journal first.has in
+      record { journal = next.journal; has = next.has; extends = extends_then journal first.journal next.journal first.extends next.extends }
+
+  pub stays_grows : (before after : Place) (old new : State) → Stays before old after new → Grows Tells before old after new
+  stays_grows before after old new stays journal has = record { journal = journal; has = stays journal has; extends = extends_same journal }
+
+  pub sends_grows : (before after : Place) (old new : State) → Sends Tells before old after new → Grows Tells before old after new
+  sends_grows before after old new sends journal has =
+      let it = sends journal has in
+      record { journal = with_replies it.0 journal; has = it.1.has; extends = extends_sent it.0 journal it.1.told }
+
+  pub entry_grows : (n : ℕ) (request : List ℕ) (before after : Place) (old new : State) → n ≡ before.entries + 1 → after ≡ record before { entries = n }
+      → IsEntered n request old new → Grows Tells before old after new
+  entry_grows n request before after old new counted same it journal has =
+      let next : n ≡ length journal.entries + 1 = counted ∙ ap (λ k. k + 1) has.entries in
+      rw same (record {
+        journal = with_entry request journal;
+        has = record { rests = it journal has.rests next; entries = next ∙ sym (length_behind journal.entries request); replies = has.replies };
+        extends = extends_entry request journal;
+      })
+
+  -- ---- several replies
+
+  pub stays_answers : (answer : Answer) (before mid after : Place) (old between new : State) → Stays before old mid between
+      → AnswersOne Tells answer mid between after new → AnswersOne Tells answer before old after new
+  stays_answers answer before mid after old between new stays answers journal has = answers journal (stays journal has)
+
+  pub tells_sends : (last : Option Read) (before after : Place) (old new : State) → TellsLast Tells last before old after new → Sends Tells before old after new
+  tells_sends last before after old new tells journal has = let it = tells journal has in (it.0, it.1)
+
+  pub sends_stays : (before mid after : Place) (old between new : State) → Sends Tells before old mid between → Stays mid between after new → Sends Tells before old after new
+  sends_stays before mid after old between new sends stays journal has =
+      let it = sends journal has in
+      (it.0, record { has = stays (with_replies it.0 journal) it.1.has; told = it.1.told })
+
+  pub none_sent : (place : Place) (s : State) → TellsLast Tells None place s place s
+  none_sent place s journal has = (
+    [],
+    record { has = subst (λ (rs : List Answer). HasPlace place s (record journal { replies = rs })) (nothing_more journal.replies) has; told = tt },
+    refl,
+  )
+
+  pub tells_one : (last : Option Read) (answer : Read) (before mid after : Place) (old between new : State) → TellsLast Tells last before old mid between
+      → AnswersOne Tells (seen_answer answer) mid between after new → TellsLast Tells (Some answer) before old after new
+  tells_one last answer before mid after old between new tells answers journal has =
+      let it = tells journal has in
+      let one = answers (with_replies it.0 journal) it.1.has in
+      let place : length (journal.replies ++ it.0) ≡ length journal.replies + length it.0 = length-append journal.replies it.0 in
+      let told : AreTold Tells journal.entries (length journal.replies + length it.0) (seen_answer answer ∷ []) =
+      (subst (λ (k : ℕ). IsToldAt Tells journal.entries k (seen_answer answer)) place one.1, tt) in (
+        it.0 ++ seen_answer answer ∷ [],
+        record {
+          has = subst (λ (rs : List Answer). HasPlace after new (record journal { replies = rs })) (append_assoc journal.replies it.0 (seen_answer answer ∷ [])) one.0;
+          told = told_then Tells journal.entries (length journal.replies) it.0 (seen_answer answer ∷ []) it.1.told told;
+        },
+        (it.0, refl),
+      )
+
+-- ---- what the book's calls say
+
+pub enters_one : (mark token : Text) (n : ℕ) (command : Command) (request : List ℕ) (before after : Place) (old new : State) → n ≡ before.entries + 1
+    → after ≡ record before { entries = n } → Enters mark token n command request old new → EntersOne mark token request before old after new
+enters_one mark token n command request before after old new counted same it journal commands at =
+    let next : n ≡ length journal.entries + 1 = counted ∙ ap (λ k. k + 1) at.entries in (
+      command,
+      it.says,
+      rw same (record {
+        rests = it.entered journal at.rests next;
+        book = it.keeps journal commands at.rests next at.book;
+        entries = next ∙ sym (length_behind journal.entries request);
+        replies = at.replies;
+      }),
+    )
+
+failing_entering : (mark token : Text) (n : ℕ) (fault : EnterFault) (request : List ℕ) (old new : State) → FailsToEnter mark token n fault request old new
+    → entering_fault fault ≢ desk.Book → book.Stays old new
+failing_entering mark token n (enter.Book it) request old new fails kept = absurd (kept refl)
+failing_entering mark token n enter.Memory request old new fails kept = fails
+failing_entering mark token n enter.NoCommand request old new fails kept = fails.0
+failing_entering mark token n enter.OtherKey request old new fails kept = fails.0
+failing_entering mark token n enter.NotLater request old new fails kept = fails.0
+failing_entering mark token n enter.OtherBook request old new fails kept = fails.0
+
+-- a command that wasn't entered leaves the book as it was
+pub unentered_stays : {A : Type 0} (mark token : Text) (n : ℕ) (entered : Result A EnterFault) (fault : EnterFault) (request : List ℕ) (place : Place) (old new : State) → entered ≡ Err fault
+    → IfErr entered (λ it. FailsToEnter mark token n it request old new) → entering_fault fault ≢ desk.Book → Stays place old place new
+unentered_stays {A} mark token n entered fault request place old new is fails kept =
+    let failed : FailsToEnter mark token n fault request old new = subst (λ (r : Result A EnterFault). IfErr r (λ it. FailsToEnter mark token n it request old new)) is fails in
+    rests_stays place old new (failing_entering mark token n fault request old new failed kept)
+
+module _ {R W : Type 0} (opens : R → W → Type 0) (remaining : R → Option (List ℕ)) (contents : W → Option (List ℕ)) where
+  -- what was delivered over streams that were opened was told over them
+  pub delivers_one : (n : ℕ) (answer : Read) (before after : Place) (old new : State) (reader read : R) (writer written : W) → n ≡ before.replies + 1
+      → after ≡ record before { replies = n } → opens reader writer
+      → Delivers n (Some answer) old new (remaining reader) (remaining read) (contents writer) (contents written)
+      → AnswersOne (IsTold opens remaining contents) (seen_answer answer) before old after new
+  delivers_one n answer before after old new reader read writer written counted same opened it journal has =
+      let next : n ≡ length journal.replies + 1 = counted ∙ ap (λ k. k + 1) has.replies in
+      let one = it journal has.rests next in (
+        rw same (record { rests = one.rests; entries = has.entries; replies = next ∙ sym (length_behind journal.replies (seen_answer answer)) }),
+        (
+          one.request,
+          one.oldest,
+          record {
+            reader = reader;
+            writer = writer;
+            read = read;
+            written = written;
+            opened = opened;
+            writes = one.writes;
+            reads = one.reads;
+            decided = one.decided;
+            known = one.known;
+          },
+        ),
+      )
+
+pub none_stays : (n : ℕ) (place : Place) (old new : State) (input left output written : Option (List ℕ)) → n ≡ place.replies + 1 → Delivers n None old new input left output written
+    → Stays place old place new
+none_stays n place old new input left output written counted it journal has =
+    let next : n ≡ length journal.replies + 1 = counted ∙ ap (λ k. k + 1) has.replies in
+    record { rests = (it journal has.rests next).rests; entries = has.entries; replies = has.replies }
+
+failing_sending : (n : ℕ) (fault : DeliverFault) (old new : State) (output written : Option (List ℕ)) → FailsToDeliver n fault old new output written
+    → sending_fault fault ≢ desk.Book → (journal : Journal) → Rests old journal → IsNextReply n journal → Rests new journal
+failing_sending n (deliver.Unanswered it) old new output written fails kept journal rests next = (fails journal rests next).0
+failing_sending n deliver.NotNow old new output written fails kept journal rests next = (fails journal rests next).0
+failing_sending n deliver.NotKnown old new output written fails kept journal rests next = (fails journal rests next).0
+failing_sending n (deliver.Book it) old new output written fails kept journal rests next = absurd (kept refl)
+
+pub failing_stays : (n : ℕ) (fault : DeliverFault) (place : Place) (old new : State) (output written : Option (List ℕ)) → n ≡ place.replies + 1
+    → FailsToDeliver n fault old new output written → sending_fault fault ≢ desk.Book → Stays place old place new
+failing_stays n fault place old new output written counted fails kept journal has = record {
+  rests = failing_sending n fault old new output written fails kept journal has.rests (counted ∙ ap (λ k. k + 1) has.replies);
+  entries = has.entries;
+  replies = has.replies;
+}
+
+-- ---- why nothing was told
+
+module _ {R W : Type 0} (refuses : Type 0) (opens : R → W → Type 0) (contents : W → Option (List ℕ)) where
+  pub why_unopened : (place : Place) (s : State) → refuses → FailsToTell refuses opens contents place s desk.Unanswered
+  why_unopened place s is journal has = inl is
+
+  pub why_none : (n : ℕ) (place : Place) (old new : State) (input left output written : Option (List ℕ)) → n ≡ place.replies + 1
+      → Delivers n None old new input left output written → FailsToTell refuses opens contents place old desk.NoEntry
+  why_none n place old new input left output written counted it journal has =
+      let next : n ≡ length journal.replies + 1 = counted ∙ ap (λ k. k + 1) has.replies in
+      (it journal has.rests next).none
+
+  why_delivering : (n : ℕ) (fault : DeliverFault) (place : Place) (old new : State) (reader : R) (writer written : W) → n ≡ place.replies + 1 → opens reader writer
+      → FailsToDeliver n fault old new (contents writer) (contents written) → FailsToTell refuses opens contents place old (sending_fault fault)
+  why_delivering n (deliver.Unanswered it) place old new reader writer written counted opened fails journal has =
+      let next : n ≡ length journal.replies + 1 = counted ∙ ap (λ k. k + 1) has.replies in
+      let one = (fails journal has.rests next).1 in
+      inr (one.0, one.1, record { reader = reader; writer = writer; written = written; fault = it; opened = opened; writes = one.2 })
+  why_delivering n deliver.NotNow place old new reader writer written counted opened fails journal has =
+      let next : n ≡ length journal.replies + 1 = counted ∙ ap (λ k. k + 1) has.replies in
+      let one = (fails journal has.rests next).1 in
+      (one.0, one.1, record { reader = reader; writer = writer; written = written; opened = opened; writes = one.2 })
+  why_delivering n deliver.NotKnown place old new reader writer written counted opened fails journal has =
+      let next : n ≡ length journal.replies + 1 = counted ∙ ap (λ k. k + 1) has.replies in
+      let one = (fails journal has.rests next).1 in
+      (one.0, one.1, record { reader = reader; writer = writer; written = written; opened = opened; writes = one.2 })
+  why_delivering n (deliver.Book it) place old new reader writer written counted opened fails journal has = tt
+
+  pub why_failed : (n : ℕ) (fault : DeliverFault) (told : DeskFault) (place : Place) (old new : State) (reader : R) (writer written : W) → told ≡ sending_fault fault
+      → n ≡ place.replies + 1 → opens reader writer → FailsToDeliver n fault old new (contents writer) (contents written) → FailsToTell refuses opens contents place old told
+  why_failed n fault told place old new reader writer written is counted opened fails =
+      rw is (why_delivering n fault place old new reader writer written counted opened fails)
+
+  -- from where the book was the same
+  pub why_before : (told fault : DeskFault) (before mid : Place) (old between : State) → fault ≡ told → mid ≡ before → Stays before old mid between
+      → FailsToTell refuses opens contents mid between fault → FailsToTell refuses opens contents before old told
+  why_before told fault before mid old between is same stays fails journal has =
+      let why : IsWhy refuses opens contents mid journal fault = fails journal (stays journal has) in
+      let there : IsWhy refuses opens contents before journal fault = subst (λ (place : Place). IsWhy refuses opens contents place journal fault) same why in
+      subst (λ (it : DeskFault). IsWhy refuses opens contents before journal it) is there
+
+  pub why_then : (Tells : List ℕ → Answer → Type 0) (last : Option Read) (fault : DeskFault) (before mid after : Place) (old between new : State)
+      → TellsLast Tells last before old mid between → (fault ≢ desk.Book → Stays mid between after new) → after ≡ mid
+      → FailsToTell refuses opens contents mid between fault → FailsToSend Tells refuses opens contents before old after new fault
+  why_then Tells last fault before mid after old between new tells stays same fails other journal has =
+      let it = tells journal has in
+      let next = with_replies it.0 journal in (
+        it.0,
+        record { has = stays other next it.1.has; told = it.1.told },
+        subst (λ (place : Place). IsWhy refuses opens contents place next fault) (sym same) (fails next it.1.has),
+      )
+
+-- ---- faults
+
+-- a fault that isn't the book's
+pub kept_if : {A : Type 0} (fault : DeskFault) → fault ≢ desk.Book → IsBookKept {A = A} (Err fault)
+kept_if fault other e = other (cc)
+
+-- a fault that is told so isn't the book's
+pub kept_other : {A : Type 0} (told fault : DeskFault) → told ≡ fault → IsBookKept {A = A} (Err told) → fault ≢ desk.Book
+kept_other told fault same kept e = kept (rw (same, e) refl)
+
+pub kept_as : {A B : Type 0} (fault : DeskFault) → IsBookKept {A = A} (Err fault) → IsBookKept {A = B} (Err fault)
+kept_as fault kept e = kept (let same : fault ≡ desk.Book = cc in rw same refl)
+
+-- the command of one that was entered
+pub entered_command : {A E : Type 0} (r : Result A E) (P : A → Type 0) → IfErr r (λ _. ⊥) → IfOk r P → (a : A) × P a
+entered_command (Ok a) P is holds = (a, holds)
+entered_command (Err e) P is holds = absurd is
+
+pub kept_ok : {A : Type 0} (a : A) → IsBookKept (Ok a)
+kept_ok a e = cc
+
+pub kept_unanswered : {A : Type 0} (fault : DeskFault) → fault ≡ desk.Unanswered → IsBookKept {A = A} (Err fault)
+kept_unanswered fault same e = cc
+
+pub kept_not_now : {A : Type 0} (fault : DeskFault) → fault ≡ desk.NotNow → IsBookKept {A = A} (Err fault)
+kept_not_now fault same e = cc

@@ -1,0 +1,160 @@
+//! Sending what waits, the oldest entry first.
+
+ghost use Rattle.std.specs.Prelude.{◌≡◌, ◌≤◌, ◌+◌, false, IfOk, IfErr, OnOk, OnErr};
+ghost use Rattle.sqlite.specs.Held.{state};
+ghost use Rattle.sqlite.specs.State.{HasCleanDisk};
+ghost use Rattle.till_client.specs.Replies.{seen_answer};
+ghost use Rattle.till_work.specs.Faults.{sending_fault};
+ghost use Rattle.till_work.specs.Told.{IsTold};
+ghost use Rattle.till_work.specs.Desk.{AnswersOne, FailsToTell, Sends, FailsToSend, Stays, IsBookKept, TellsLast};
+
+use crate::delivering::{DeliverFault, deliver};
+use crate::fault::DeskFault;
+use crate::place::Place;
+use crate::server::{Server, Watch};
+use counter_routes::Routes;
+use sqlite::{Alter, Connection};
+use std::alloc::Global;
+use std::time::{Clock, Duration};
+use till_client::Answer;
+
+/// How often an entry is sent before it is left to wait.
+const ROUNDS: u64 = 3;
+
+/// How many milliseconds pass after the first try. After each further one that many more pass.
+const PAUSE: u64 = 200;
+
+fn named(fault: DeliverFault) -> DeskFault
+    ensures { result ≡ sending_fault fault }
+{
+    match fault {
+        DeliverFault::Book(_) => DeskFault::Book,
+        DeliverFault::Unanswered(_) => DeskFault::Unanswered,
+        DeliverFault::NotNow => DeskFault::NotNow,
+        DeliverFault::NotKnown => DeskFault::NotKnown,
+    }
+}
+
+/// Sends the oldest entry without a reply over a new connection, and records the reply.
+fn send_once<S: Alter, V: Server>(
+    alloc: Global,
+    routes: &Routes,
+    server: &V,
+    conn: &mut Connection<S>,
+    place: &mut Place,
+) -> Result<Answer, DeskFault>
+    requires { conn.old.in_transaction ≡ false }
+    ensures ended { conn.new.in_transaction ≡ false }
+    ensures clean { HasCleanDisk (state S.Store conn.new) → HasCleanDisk (state S.Store conn.old) }
+    ensures answered { HasCleanDisk (state S.Store conn.new)
+        → IfOk result (λ answer. AnswersOne (IsTold (V.opens server.now) V.Reader.remaining V.Writer.contents)
+        (seen_answer answer) place.old (state S.Store conn.old) place.new (state S.Store conn.new)) }
+    ensures stays { HasCleanDisk (state S.Store conn.new) → IsBookKept result
+        → OnErr result (Stays place.old (state S.Store conn.old) place.new (state S.Store conn.new)) }
+    ensures why { HasCleanDisk (state S.Store conn.new)
+        → IfErr result (FailsToTell (V.refuses server.now) (V.opens server.now) V.Writer.contents place.old
+        (state S.Store conn.old)) }
+    ensures counted { OnOk result (place.new ≡ record place.old { replies = place.old.replies + 1 }) }
+    ensures uncounted { OnErr result (place.new ≡ place.old) }
+{
+    let Ok((mut reader, mut writer)) = server.connect() else {
+        return Err(DeskFault::Unanswered);
+    };
+    let Some(number) = place.replies.checked_add(1) else {
+        return Err(DeskFault::Full);
+    };
+    match deliver(alloc, routes, conn, number, &mut reader, &mut writer) {
+        Ok(Some(answer)) => {
+            place.replies = number;
+            Ok(answer)
+        }
+        Ok(None) => Err(DeskFault::NoEntry),
+        Err(fault) => Err(named(fault)),
+    }
+}
+
+/// Sends the oldest entry without a reply, up to three times, each over a new connection, with a pause between them,
+/// and records the reply. After `Unanswered`, `NotNow` and `NotKnown` it waits on. Fails with `NoEntry` if none waits.
+pub fn send_oldest<S: Alter, V: Server, K: Clock>(
+    alloc: Global,
+    routes: &Routes,
+    clock: &K,
+    server: &V,
+    conn: &mut Connection<S>,
+    place: &mut Place,
+) -> Result<Answer, DeskFault>
+    requires { conn.old.in_transaction ≡ false }
+    ensures ended { conn.new.in_transaction ≡ false }
+    ensures clean { HasCleanDisk (state S.Store conn.new) → HasCleanDisk (state S.Store conn.old) }
+    ensures answered { HasCleanDisk (state S.Store conn.new)
+        → IfOk result (λ answer. AnswersOne (IsTold (V.opens server.now) V.Reader.remaining V.Writer.contents)
+        (seen_answer answer) place.old (state S.Store conn.old) place.new (state S.Store conn.new)) }
+    ensures stays { HasCleanDisk (state S.Store conn.new) → IsBookKept result
+        → OnErr result (Stays place.old (state S.Store conn.old) place.new (state S.Store conn.new)) }
+    ensures why { HasCleanDisk (state S.Store conn.new)
+        → IfErr result (FailsToTell (V.refuses server.now) (V.opens server.now) V.Writer.contents place.old
+        (state S.Store conn.old)) }
+    ensures counted { OnOk result (place.new ≡ record place.old { replies = place.old.replies + 1 }) }
+    ensures uncounted { OnErr result (place.new ≡ place.old) }
+{
+    let mut fault = DeskFault::Unanswered;
+    'rounds: for round in 0..ROUNDS {
+        if round > 0 {
+            clock.sleep(Duration::from_millis(PAUSE * round));
+        }
+        match send_once(alloc, routes, server, conn, place) {
+            Err(DeskFault::Unanswered) => {
+                fault = DeskFault::Unanswered;
+                continue;
+            }
+            Err(DeskFault::NotNow) => {
+                fault = DeskFault::NotNow;
+                continue;
+            }
+            Ok(answer) => return Ok(answer),
+            Err(other) => return Err(other),
+        }
+    }
+    Err(fault)
+}
+
+/// Sends all that waits, oldest first, and records the replies. Returns the last of them, and none if nothing waited.
+/// At the first entry that gets no reply it stops, and that one and all after it wait on. `watch` gets a report before
+/// each.
+pub fn send_waiting<S: Alter, V: Server, K: Clock, W: Watch>(
+    alloc: Global,
+    routes: &Routes,
+    clock: &K,
+    server: &V,
+    watch: &mut W,
+    conn: &mut Connection<S>,
+    place: &mut Place,
+) -> Result<Option<Answer>, DeskFault>
+    requires { conn.old.in_transaction ≡ false }
+    ensures ended { conn.new.in_transaction ≡ false }
+    ensures clean { HasCleanDisk (state S.Store conn.new) → HasCleanDisk (state S.Store conn.old) }
+    ensures sends { HasCleanDisk (state S.Store conn.new) → IsBookKept result
+        → Sends (IsTold (V.opens server.now) V.Reader.remaining V.Writer.contents) place.old
+        (state S.Store conn.old) place.new (state S.Store conn.new) }
+    ensures told { HasCleanDisk (state S.Store conn.new)
+        → IfOk result (λ last. TellsLast (IsTold (V.opens server.now) V.Reader.remaining V.Writer.contents) last
+        place.old (state S.Store conn.old) place.new (state S.Store conn.new)) }
+    ensures why { HasCleanDisk (state S.Store conn.new)
+        → IfErr result (FailsToSend (IsTold (V.opens server.now) V.Reader.remaining V.Writer.contents)
+        (V.refuses server.now) (V.opens server.now) V.Writer.contents place.old (state S.Store conn.old) place.new
+        (state S.Store conn.new)) }
+    ensures entries { place.new.entries ≡ place.old.entries }
+    ensures all { OnOk result (place.old.replies ≤ place.old.entries → place.new.replies ≡ place.old.entries) }
+{
+    let first = place.replies;
+    let end = place.entries;
+    let mut last = None;
+    'entries: for sent in first..end {
+        watch.sends(sent - first, end - first);
+        match send_oldest(alloc, routes, clock, server, conn, place) {
+            Ok(answer) => last = Some(answer),
+            Err(fault) => return Err(fault),
+        }
+    }
+    Ok(last)
+}
