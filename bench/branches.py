@@ -1,4 +1,5 @@
-"""Branches with several tills, over a chain that is served: real tills at their prompts, and tills of this file's that keep books of the same tables and send the same bytes."""
+"""Branches with several tills, over a chain that is served: real tills at their prompts, and tills of this file's, which send the same bytes and keep books of the journal alone, as a
+program did that made no tables beside it. So whatever reads tills' books here has both kinds."""
 import contextlib
 import datetime
 import json
@@ -16,7 +17,7 @@ import shop
 
 TILL = os.environ.get("TILL", os.path.join(os.path.dirname(os.path.abspath(__file__)), "../crates/till/out/till"))
 shop.PROGRAM = os.environ.get("SAKILA", shop.PROGRAM)
-TABLES = ("CREATE TABLE entry (number INT NOT NULL, request BLOB NOT NULL, PRIMARY KEY (number)) STRICT",
+JOURNAL = ("CREATE TABLE entry (number INT NOT NULL, request BLOB NOT NULL, PRIMARY KEY (number)) STRICT",
           "CREATE TABLE reply (number INT NOT NULL, status INTEGER NOT NULL, body BLOB NOT NULL, PRIMARY KEY (number)) STRICT",
           "CREATE TABLE settled (number INT NOT NULL, status INTEGER NOT NULL, body BLOB NOT NULL, PRIMARY KEY (number)) STRICT")
 PLACE = ["--address", "1 High", "--postal", "", "--phone", "", "--city", "1"]
@@ -115,14 +116,14 @@ class Branch:
 
 
 class WrittenTill:
-    """A till of this script's: it writes each entry into a book of a till's tables, sends it, and writes the reply down."""
+    """A till of this script's: it writes each entry into a book, sends it, and writes the reply down."""
 
     def __init__(self, folder, name, served, branch, rng):
         self.path, self.served, self.branch, self.rng = os.path.join(folder, name), served, branch, rng
         self.mark = "t" + "".join(rng.choice("abcdefghijklmnop") for _ in range(10))
         self.book = sqlite3.connect(self.path, check_same_thread=False, isolation_level=None)
         self.book.execute("PRAGMA journal_mode = WAL")
-        for it in TABLES:
+        for it in JOURNAL:
             self.book.execute(it)
         self.count, self.last, self.took = 0, now(), []
 

@@ -1,4 +1,4 @@
-"""The messages of the worked rows, as they stand in `crates/worked_rows/data/*.talk`: what the scripts beside this one send. `docs/ARCHITECTURE.md` has the lines."""
+"""The messages of the worked rows, as they stand in `crates/worked_rows/data/*.talk`: what the scripts beside this one send. `crates/worked_rows/README.md` has the lines."""
 import glob
 import os
 import re

@@ -105,7 +105,8 @@ def read_entry(book, number, request, reply=None):
 
 
 def read_book(path):
-    """Reads a book: an entry is accepted if its reply is 200, or if it was sent once more and that reply is 200."""
+    """Reads a book's journal: an entry is accepted if its reply is 200, or if it was sent once more and that reply is 200. The tables beside the journal aren't read. They are made from it,
+    and a book that an earlier program made has none."""
     if not os.path.exists(path):
         raise Wrong(f"there is no book {path}", 3)
     try:
