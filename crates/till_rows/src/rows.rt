@@ -13,7 +13,7 @@ const MOST_DAYS: u64 = 4000;
 const EACH_BYTE: u64 = 100;
 
 /// A day is disturbed at more places than that, in each part. How many they are depends on how the book is kept.
-const FEWEST: u32 = 100;
+const FEWEST: u32 = 50;
 
 /// The stock file that is imported, in the folder of the first file.
 const STOCK: &str = "stock.csv";
