@@ -1,2 +1,3 @@
 pub mod Shows
 pub mod Telling
+pub mod Answered

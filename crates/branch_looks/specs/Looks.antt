@@ -1,18 +1,20 @@
 -- Defines what a branch's reading shows.
-use Rattle.std.specs.Prelude.{◌≡◌, ⊤, ℕ, Bool, true, false, List, map, Result, Ok, Err, IfOk}
+use Rattle.std.specs.Prelude.{◌≡◌, ⊤, ℕ, Bool, true, false, IsTrue, List, map, Result, Ok, Err, IfOk}
 use Rattle.std.specs.Borrow.{MutBor}
 use Rattle.sqlite_trees.specs.declared.store.Store.{Ghosts}
 use Rattle.sqlite.specs.Held.{Held}
 use Rattle.sqlite.specs.State.{State}
 use Rattle.sql_rows.specs.Calls.{DoesInside, DoesWithin}
+use Rattle.shop_model.specs.Rows.{lacks}
 use Rattle.shop_model.specs.Values as model
-use Rattle.shop_model.specs.Values.{Ask}
-use Rattle.shop_model.specs.Shop.{Shop}
+use Rattle.shop_model.specs.Values.{Ask, Rules}
+use Rattle.shop_model.specs.Shop.{Shop, Catalogue}
 use Rattle.shop_model.specs.Stock.{film_in_stock, film_not_in_stock}
 use Rattle.shop_model.specs.Views.{overdue_text, overdue_list, view_rows}
-use Rattle.shop_model.specs.Machine.{Shown, Shows, RowsAre, ArrivalsAre, SentAre}
-use Rattle.shop_model.specs.Answers.{answer_of}
-use Rattle.shop_model.specs.Books.{Books, shop_of}
+use Rattle.shop_model.specs.Machine.{Look, Shown, Shows, RowsAre, ArrivalsAre, SentAre}
+use Rattle.shop_model.specs.Answers.{Answer, answer_of}
+use Rattle.shop_model.specs.Books.{Books, Counter, shop_of, known_caller, reply_for}
+use Rattle.shop_model.specs.Office.{office_look}
 use Rattle.shop_types.specs.declared.reply.Reply.{Reply}
 use Rattle.shop_types.specs.Seen.{seen_view}
 use Rattle.shop_types.specs.Replies.{seen_reply}
@@ -46,10 +48,14 @@ listed b (list.Overdue at) books = RowsAre (map overdue_text (overdue_list books
 listed b list.Arrivals books = ArrivalsAre (shop_of b books).arrivals
 listed b list.Sent books = SentAre (shop_of b books).sent
 
+-- The work gives the answer, with nothing to commit, or it asks for the list that shows the answer.
+abbrev pub Gives : Answer → ℕ → Work Listing → Books → Type 0
+Gives answer b (work.Answered it) books = (seen_reply it.reply ≡ answer) × (it.is_changed ≡ false)
+Gives answer b (work.Shows it) books = answer ≡ answer_of (Shows (listed b it books))
+
 -- The reading is answered as the definitions say, with nothing to commit, or it asks for the list that the definitions show.
 abbrev pub IsShown : ℕ → Ask → Work Listing → Books → Type 0
-IsShown b ask (work.Answered it) books = (seen_reply it.reply ≡ looked b ask books) × (it.is_changed ≡ false)
-IsShown b ask (work.Shows it) books = looked b ask books ≡ answer_of (Shows (listed b it books))
+IsShown b ask it books = Gives (looked b ask books) b it books
 
 -- an answer is a decision, whatever the disk did
 abbrev pub TellsDecision : {L : Type 0} → Work L → Type 0
@@ -65,6 +71,20 @@ pub record LooksAt {S E : Type 0} (g : Ghosts S) (b : ℕ) (ask : Ask) (old new 
 abbrev pub told_of : {E : Type 0} → Result Reply E → Result (Work Listing) E
 told_of (Ok reply) = Ok (work.Answered (record { reply = reply; is_changed = false }))
 told_of (Err fault) = Err fault
+
+-- ---- a branch that may not be there
+
+-- if the branch is known to be there, it is there
+abbrev pub IsKnown : Bool → ℕ → Catalogue → Type 0
+IsKnown is_known b catalogue = IsTrue is_known → lacks catalogue.branches b ≡ false
+
+-- the answer to the reading of a branch, by the given rules
+abbrev pub look_told : Rules → ℕ → Ask → Books → Answer
+look_told rules b ask books = answer_of (reply_for rules office_look (known_caller books.catalogue (Counter b)) (Look ask) books)
+
+-- the reading has its answer, whatever the rules are
+abbrev pub IsAnswered : ℕ → Ask → Work Listing → Books → Type 0
+IsAnswered b ask it books = (rules : Rules) → Gives (look_told rules b ask books) b it books
 
 -- ---- the copies of a film
 

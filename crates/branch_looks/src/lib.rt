@@ -1,9 +1,10 @@
-//! Answers a branch's reading inside one transaction, or returns which list it asks for.
+//! Answers a branch's reading or view inside one transaction, or returns which list it asks for.
 #![tactic(auto)]
 
+mod answering;
 mod looks;
 mod readings;
 mod work;
 
-pub use readings::{look, reads_row};
+pub use answering::{answer_look, answer_view};
 pub use work::{Listing, Work};

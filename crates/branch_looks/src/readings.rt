@@ -15,7 +15,7 @@ use std::alloc::Global;
 
 /// Returns whether the reading's answer always reads a row. A list reads no row inside a transaction. Rewards read no
 /// row if a threshold is 0, or if there is no month before the moment's.
-pub fn reads_row(ask: Ask) -> bool
+pub(crate) fn reads_row(ask: Ask) -> bool
     ensures { result ≡ reads_row (seen_ask ask) }
 {
     match ask {
@@ -32,7 +32,7 @@ pub fn reads_row(ask: Ask) -> bool
 
 /// Answers a reading of a branch, or returns which list it asks for. If the reading reads a row, an answer shows that
 /// the transaction was open.
-pub fn look<S: Alter>(
+pub(crate) fn look<S: Alter>(
     alloc: Global,
     tx: &mut Transaction<'_, S>,
     branch: BranchNo,

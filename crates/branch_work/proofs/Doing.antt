@@ -1,13 +1,9 @@
--- Lemmas about the result of a request, by the verdict on it, and if the branch isn't there.
-use Rattle.shop_schema.proofs.Common.{◌≡◌, ◌∙◌, refl, sym, ap, subst, ℕ, true, false, List, State, Limits, lacks, Text, Command, Ask, Verdict, Again, Refused, Accepted, verdict, Request, Do, Look, Done, Sorry, reply_to, reply_by, reply_text, if_accepted, answer_of, Books, Caller, Counter, shop_of, book_done, branch_after, seen_reply, Holds}
+-- Lemmas about the result of a request: by the verdict on it, and if the branch isn't there.
+use Rattle.shop_schema.proofs.Common.{◌≡◌, ◌∙◌, refl, sym, ap, subst, ℕ, true, false, List, State, Limits, lacks, Text, Command, Verdict, Again, Refused, Accepted, verdict, Request, Do, Done, Sorry, reply_to, reply_by, reply_text, if_accepted, answer_of, Books, Caller, Counter, shop_of, book_done, branch_after, seen_reply, Holds}
 use Rattle.shop_model.specs.Refusals as named
 use Rattle.shop_ledger.specs.declared.answered.Answered.{Answered}
-use Rattle.branch_looks.specs.Looks.{IsShown, listed}
-use Rattle.branch_looks.specs.declared.work.Listing.{Listing}
-use Rattle.branch_looks.specs.declared.work.Work.{Work}
-use Rattle.branch_looks.specs.declared.work.Work.TheVariants as work
 use Rattle.branch_work.specs.Rules.{rules_of}
-use Rattle.branch_work.specs.Works.{told_to, left_by, GoesBy, IsDone, HasCome}
+use Rattle.branch_work.specs.Works.{told_to, left_by, GoesBy, IsDone}
 
 -- ---- by the verdict, whoever asks
 
@@ -50,15 +46,3 @@ module _ (limits : Limits) (b : ℕ) (books : Books) where
   nobody_done request it s none is holds =
       let after : left_by limits (Counter b) request books ≡ books = rw none refl in
       record { reply = is ∙ rw none refl; holds = subst (Holds s) (sym after) holds; same = λ _. after }
-
-  -- a request that leaves the books as they were, whatever its answer is
-  pub kept_done : (request : Request) (it : Answered) (s : State) → lacks books.catalogue.branches b ≡ false → branch_after (rules_of limits) b request books ≡ books
-      → seen_reply it.reply ≡ answer_of (reply_to (rules_of limits) b books.catalogue (shop_of b books) request) → Holds s books → IsDone limits (Counter b) request it s books
-  kept_done request it s there same is holds =
-      let after = after_is request there ∙ same in
-      record { reply = is ∙ sym (told_is request there); holds = subst (Holds s) (sym after) holds; same = λ _. after }
-
-  -- a reading is answered or asks for a list, and the books stay
-  pub look_come : (ask : Ask) (it : Work Listing) (s : State) → lacks books.catalogue.branches b ≡ false → IsShown b ask it books → Holds s books → HasCome (listed b) limits (Counter b) (Look ask) it s books
-  look_come ask (work.Answered it) s there shown holds = kept_done (Look ask) it s there refl shown.0 holds
-  look_come ask (work.Shows it) s there shown holds = (told_is (Look ask) there ∙ shown, after_is (Look ask) there)

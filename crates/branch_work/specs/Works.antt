@@ -1,12 +1,11 @@
 -- Defines what a request does inside one transaction, whoever asks it.
-use Rattle.std.specs.Prelude.{◌≡◌, ℕ, Bool, false, IsTrue}
+use Rattle.std.specs.Prelude.{◌≡◌, ℕ, false}
 use Rattle.sqlite.specs.State.{State}
 use Rattle.shop_types.specs.LimitValues.{Limits}
 use Rattle.shop_model.specs.Rows.{lacks}
 use Rattle.shop_model.specs.Values.{Text, Command}
-use Rattle.shop_model.specs.Shop.{Catalogue}
 use Rattle.shop_model.specs.Verdict.{Verdict}
-use Rattle.shop_model.specs.Machine.{Request, Do, Done, Shown, Shows, reply_text, reply_by, if_accepted}
+use Rattle.shop_model.specs.Machine.{Request, Do, Done, reply_text, reply_by, if_accepted}
 use Rattle.shop_model.specs.Answers.{Answer, answer_of}
 use Rattle.shop_model.specs.Books.{Books, Caller, Counter, shop_of, book_done, known_caller, reply_for, after_for}
 use Rattle.shop_model.specs.Office.{office_look}
@@ -18,10 +17,6 @@ use Rattle.shop_ledger.specs.declared.answered.Answered.{Answered}
 use Rattle.shop_ledger.specs.declared.branches.Standing.{Standing}
 use Rattle.shop_ledger.specs.Standings.{HasStanding}
 use Rattle.branch_core.specs.Agreed.{Agrees, ActAgrees}
-use Rattle.branch_looks.specs.Looks.{listed}
-use Rattle.branch_looks.specs.declared.work.Listing.{Listing}
-use Rattle.branch_looks.specs.declared.work.Work.{Work}
-use Rattle.branch_looks.specs.declared.work.Work.TheVariants as work
 use Rattle.branch_core.specs.Marked.{AreMarked}
 use Rattle.branch_core.specs.declared.found.Found.{Found}
 use Rattle.branch_core.specs.declared.found.RowsFound.{RowsFound}
@@ -52,21 +47,10 @@ pub record GoesBy (limits : Limits) (caller : Caller) (request : Request) (verdi
   pub told : told_to limits caller request books ≡ answer_of (reply_by verdict text)
   pub left : left_by limits caller request books ≡ if_accepted verdict done books
 
--- The result of the request: it is done, or it asks for a list, which is still to be shown and shows what the definitions show.
-abbrev pub HasCome : {L : Type 0} → (L → Books → Shown) → Limits → Caller → Request → Work L → State → Books → Type 0
-HasCome shown limits caller request (work.Answered it) new books = IsDone limits caller request it new books
-HasCome shown limits caller request (work.Shows it) new books =
-    (told_to limits caller request books ≡ answer_of (Shows (shown it books))) × (left_by limits caller request books ≡ books)
-
--- if the branch is known to be there, it is there
-abbrev pub IsKnown : Bool → ℕ → Catalogue → Type 0
-IsKnown is_known b catalogue = IsTrue is_known → lacks catalogue.branches b ≡ false
-
--- A branch that is known to be there has to be there. Then the request has its result, and the films that are known afterwards are rows of the same books.
-abbrev pub Works : Limits → ℕ → Bool → Request → KnownFilms → KnownFilms → Work Listing → State → State → Type 0
-Works limits b is_known request before after it old new =
-    (books : Books) → Holds old books → IsHeldWith before books → IsKnown is_known b books.catalogue
-    → HasCome (listed b) limits (Counter b) request it new books × AreRows after books.catalogue.films
+-- The request of a branch that may not be there is done, and the films that are known afterwards are rows of the same books.
+abbrev pub Works : Limits → ℕ → Request → KnownFilms → KnownFilms → Answered → State → State → Type 0
+Works limits b request before after it old new =
+    (books : Books) → Holds old books → IsHeldWith before books → IsDone limits (Counter b) request it new books × AreRows after books.catalogue.films
 
 -- the same for a branch that is there and has this standing
 abbrev pub WorksFor : Limits → ℕ → Standing → Request → KnownFilms → KnownFilms → Answered → State → State → Type 0

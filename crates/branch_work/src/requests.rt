@@ -1,90 +1,51 @@
-//! Answers a branch's request inside one transaction.
+//! Answers a branch's command inside one transaction.
 
-ghost use Rattle.std.specs.Prelude.{◌≡◌, false, true, IfOk};
+ghost use Rattle.std.specs.Prelude.{◌≡◌, true, IfOk};
 ghost use Rattle.sql_rows.specs.Calls.{DoesInside, DoesWithin};
 ghost use Rattle.shop_model.specs.Calendar.{IsMoment};
 ghost use Rattle.shop_model.specs.Machine.{Do};
-ghost use Rattle.shop_types.specs.Seen.{seen_command, seen_request};
+ghost use Rattle.shop_types.specs.Seen.{seen_command};
 ghost use Rattle.shop_types.specs.Replies.{seen_reply};
 ghost use Rattle.shop_schema.specs.Forms.{command_form};
 ghost use Rattle.branch_work.specs.Works.{Works, WorksFor, WorksBy, IsAdded};
 ghost use Rattle.branch_reports.specs.Told.{IsDecision};
-ghost use Rattle.branch_looks.specs.Looks.{TellsDecision};
 
 use crate::adding::{carry_out, keep};
 use crate::answering::{again, refuse};
 use branch_core::{Found, RowsFound, decide};
 use branch_finds::find_for_command;
-use branch_looks::{Listing, Work, look, reads_row};
 use chain_caches::FilmCache;
 use shop_ledger::{Answered, Owner, Standing, kept_at, kept_found, standing_at};
 use shop_schema::{command_form, command_values};
-use shop_types::{BranchNo, Change, Command, Limits, Refusal, Reply, Request};
+use shop_types::{BranchNo, Change, Command, Limits, Refusal, Reply};
 use sql_rows::{Bytes, StoreFault};
 use sqlite::{Alter, Transaction};
 use std::alloc::Global;
 
-/// Does a branch's command, or answers its reading. If the reading asks for a list, returns the list for the caller to
-/// show. `is_known` says whether the branch is known to be there.
-pub fn answer_branch<S: Alter>(
+/// Looks for the branch, and then answers its command. The result says whether there is anything to commit.
+pub fn answer_command<S: Alter>(
     alloc: Global,
     tx: &mut Transaction<'_, S>,
     films: &mut FilmCache,
     limits: Limits,
     branch: BranchNo,
-    is_known: bool,
-    request: &Request,
-) -> Result<Work<Listing>, StoreFault>
+    command: &Command,
+) -> Result<Answered, StoreFault>
     ensures does { DoesInside S.Store tx.old.conn tx.new.conn result
-        (Works limits branch is_known (seen_request request.now) films.old films.new) }
-    ensures decided { IfOk result TellsDecision }
-{
-    if is_known {
-        if let Request::Look(ask) = request {
-            // A reading that reads no row doesn't show that the transaction is open.
-            if reads_row(*ask) {
-                return look(alloc, tx, branch, *ask);
-            }
-        }
-    }
-    answer_where_found(alloc, tx, films, limits, branch, request)
-}
-
-/// Looks for the branch first, and then answers the request.
-fn answer_where_found<S: Alter>(
-    alloc: Global,
-    tx: &mut Transaction<'_, S>,
-    films: &mut FilmCache,
-    limits: Limits,
-    branch: BranchNo,
-    request: &Request,
-) -> Result<Work<Listing>, StoreFault>
-    ensures does { DoesInside S.Store tx.old.conn tx.new.conn result
-        (Works limits branch false (seen_request request.now) films.old films.new) }
-    ensures decided { IfOk result TellsDecision }
+        (Works limits branch (Do (seen_command command.now)) films.old films.new) }
+    ensures decided { IfOk result (λ done. IsDecision (seen_reply done.reply)) }
 {
     let Some(standing) = standing_at(tx, branch)? else {
-        return Ok(Work::Answered(Answered {
+        return Ok(Answered {
             reply: Reply::refused(Refusal::NoCounter),
             is_changed: false,
-        }));
+        });
     };
-    match request {
-        Request::Do(command) => {
-            let done = answer_command(alloc, tx, films, limits, branch, standing, command)?;
-            Ok(Work::Answered(done))
-        }
-        Request::Look(ask) => look(alloc, tx, branch, *ask),
-        Request::View(view) => Ok(Work::Shows(Listing::View(*view))),
-        Request::Office(_) | Request::OfficeLook(_) => Ok(Work::Answered(Answered {
-            reply: Reply::refused(Refusal::NoRoute),
-            is_changed: false,
-        })),
-    }
+    answer_where_found(alloc, tx, films, limits, branch, standing, command)
 }
 
 /// Answers a command of a branch that is there and whose standing is known.
-fn answer_command<S: Alter>(
+fn answer_where_found<S: Alter>(
     alloc: Global,
     tx: &mut Transaction<'_, S>,
     films: &mut FilmCache,

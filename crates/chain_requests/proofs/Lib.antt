@@ -10,3 +10,4 @@ pub mod Running
 pub mod Following
 pub mod Resting
 pub mod Requests
+pub mod Looking

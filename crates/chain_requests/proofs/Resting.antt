@@ -12,8 +12,8 @@ use Rattle.branch_looks.specs.declared.work.Work.{Work}
 use Rattle.branch_looks.specs.declared.work.Work.TheVariants as work
 use Rattle.chain_requests.specs.declared.reports.Report.{Report}
 use Rattle.chain_requests.specs.Reports.{shown_by, ShowsReport}
-use Rattle.branch_work.specs.Works.{left_by, HasCome, IsDone}
-use Rattle.chain_requests.specs.Steps.{Works, IsMade, IsUndone, LeavesAfter, LeavesEitherOf}
+use Rattle.branch_work.specs.Works.{left_by, IsDone}
+use Rattle.chain_requests.specs.Steps.{HasCome, Works, IsMade, IsUndone, LeavesAfter, LeavesEitherOf}
 
 pub holds_as : (s t : State) (books : Books) → t.now ≡ s.now → Holds s books → Holds t books
 holds_as s t books same h = record {

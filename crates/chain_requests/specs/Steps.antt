@@ -1,11 +1,13 @@
 -- The state that the transaction of a request leaves.
-use Rattle.std.specs.Prelude.{◌≡◌, ◌⊎◌, ⊤, ℕ, List, Some}
+use Rattle.std.specs.Prelude.{◌≡◌, ◌⊎◌, ⊤, ℕ, if◌then◌else◌, List, Some}
 use Rattle.sqlite_trees.specs.Tree.{Trees}
 use Rattle.sqlite.specs.State.{State}
 use Rattle.shop_types.specs.LimitValues.{Limits}
-use Rattle.shop_model.specs.Machine.{Request, Unread, Do, Look, Office, OfficeLook}
+use Rattle.shop_model.specs.Rows.{lacks}
+use Rattle.shop_model.specs.Refusals.{NoCounter, NoRoute}
+use Rattle.shop_model.specs.Machine.{Request, Unread, Do, Look, Office, OfficeLook, Shown, Shows, Sorry}
 use Rattle.shop_model.specs.Shop.{Catalogue}
-use Rattle.shop_model.specs.Answers.{Answer}
+use Rattle.shop_model.specs.Answers.{Answer, answer_of}
 use Rattle.shop_model.specs.Books.{Books, Caller, Counter, HeadOffice, Nobody, caller_of}
 use Rattle.shop_types.specs.Seen.{seen_request, seen_office}
 use Rattle.chain_caches.specs.Films.{AreRows, KnownFilms}
@@ -13,8 +15,10 @@ use Rattle.shop_schema.specs.Held.{IsHeld}
 use Rattle.shop_schema.specs.RowValues.{IsNumber, IsKey}
 use Rattle.shop_schema.specs.Forms.{IsCommand, IsOfficeAct}
 use Rattle.shop_schema.specs.Shop.{StandsFor, Holds}
-use Rattle.branch_work.specs.Works.{told_to, left_by, HasCome, IsKnown}
+use Rattle.branch_work.specs.Works.{told_to, left_by, IsDone}
+use Rattle.branch_looks.specs.Looks.{IsKnown}
 use Rattle.branch_looks.specs.declared.work.Work.{Work}
+use Rattle.branch_looks.specs.declared.work.Work.TheVariants as work
 use Rattle.chain_requests.specs.declared.asked.Asked.{Asked}
 use Rattle.chain_requests.specs.declared.asked.Asked.TheVariants.{OfBranch, OfOffice}
 use Rattle.chain_requests.specs.declared.reports.Report.{Report}
@@ -58,6 +62,16 @@ abbrev pub IsHeldBy : (Catalogue → Type 0) → KnownFilms → Books → Type 0
 IsHeldBy Known films books = IsHeld books × AreRows films books.catalogue.films × Known books.catalogue
 
 -- ---- one request
+
+-- the answer to a branch that asks what only head office may ask: it has no route, and a branch that isn't there has no counter
+abbrev pub no_route : ℕ → Books → Answer
+no_route b books = answer_of (Sorry (if lacks books.catalogue.branches b then NoCounter else NoRoute))
+
+-- The result of the request: it is done, or it asks for a list, which is still to be shown and shows what the definitions show.
+abbrev pub HasCome : {L : Type 0} → (L → Books → Shown) → Limits → Caller → Request → Work L → State → Books → Type 0
+HasCome shown limits caller request (work.Answered it) new books = IsDone limits caller request it new books
+HasCome shown limits caller request (work.Shows it) new books =
+    (told_to limits caller request books ≡ answer_of (Shows (shown it books))) × (left_by limits caller request books ≡ books)
 
 -- Inside the transaction the request is done, or it asks for a reading, which is shown later. If `Given` held of the books before it, the films that are known
 -- after it are rows of the books after it.

@@ -1,20 +1,25 @@
 //! Answers to requests inside a transaction.
 
-ghost use Rattle.std.specs.Prelude.{⊤, IfOk};
+ghost use Rattle.std.specs.Prelude.{◌≡◌, false, ⊤, IfOk};
+ghost use Rattle.sql_rows.specs.Calls.{DoesInside};
 ghost use Rattle.shop_model.specs.Books.{Counter, HeadOffice};
 ghost use Rattle.shop_model.specs.Machine.{Office};
 ghost use Rattle.shop_types.specs.Seen.{seen_office, seen_request};
-ghost use Rattle.sql_rows.specs.Calls.{DoesInside};
-ghost use Rattle.chain_requests.specs.Steps.{IsHeldBy, IsKnownFor, Works, asker, asked_of};
-ghost use Rattle.branch_work.specs.Works.{IsKnown};
-ghost use Rattle.branch_looks.specs.Looks.{TellsDecision};
+ghost use Rattle.shop_types.specs.Replies.{seen_reply};
+ghost use Rattle.shop_ledger.specs.Calls.{Finds};
+ghost use Rattle.branch_reports.specs.Told.{IsDecision};
+ghost use Rattle.branch_looks.specs.Looks.{IsKnown, TellsDecision};
+ghost use Rattle.chain_requests.specs.Reports.{for_branch};
+ghost use Rattle.chain_requests.specs.Steps.{IsHeldBy, IsKnownFor, Works, asker, asked_of, no_route};
 
 use crate::asked::Asked;
 use crate::office_commands::answer_office;
 use crate::reports::Report;
-use branch_work::{Work, answer_branch};
+use branch_looks::{Listing, Work, answer_look, answer_view};
+use branch_work::answer_command;
 use chain_caches::FilmCache;
-use shop_types::{BranchNo, Limits, OfficeCommand, Request};
+use shop_ledger::{Answered, standing_at};
+use shop_types::{BranchNo, Limits, OfficeCommand, Refusal, Reply, Request};
 use sql_rows::StoreFault;
 use sqlite::{Alter, Transaction};
 use std::alloc::Global;
@@ -55,9 +60,55 @@ fn branch_inside<S: Alter>(
         (seen_request request.now) (IsHeldBy (IsKnown is_known branch) films.old) films.new) }
     ensures decided { IfOk result TellsDecision }
 {
-    match answer_branch(alloc, tx, films, limits, branch, is_known, request)? {
-        Work::Answered(done) => Ok(Work::Answered(done)),
-        Work::Shows(list) => Ok(Work::Shows(Report::OfBranch(branch, list))),
+    match request {
+        Request::Do(command) => {
+            let done = answer_command(alloc, tx, films, limits, branch, command)?;
+            Ok(Work::Answered(done))
+        }
+        Request::Look(ask) => {
+            let look = answer_look(alloc, tx, branch, is_known, ask)?;
+            Ok(for_branch(branch, look))
+        }
+        Request::View(view) => {
+            let look = answer_view(tx, branch, *view)?;
+            Ok(for_branch(branch, look))
+        }
+        Request::Office(_) | Request::OfficeLook(_) => {
+            let done = refuse_office(tx, branch)?;
+            Ok(Work::Answered(done))
+        }
+    }
+}
+
+/// Returns the work with the branch's list as a report.
+fn for_branch(branch: BranchNo, work: Work<Listing>) -> Work<Report>
+    ensures { result ≡ for_branch branch work }
+{
+    match work {
+        Work::Answered(done) => Work::Answered(done),
+        Work::Shows(list) => Work::Shows(Report::OfBranch(branch, list)),
+    }
+}
+
+/// Refuses a request of head office that comes from a branch: it has no route. If the branch isn't there, the refusal
+/// is `NoCounter`.
+fn refuse_office<S: Alter>(
+    tx: &mut Transaction<'_, S>,
+    branch: BranchNo,
+) -> Result<Answered, StoreFault>
+    ensures does { DoesInside S.Store tx.old.conn tx.new.conn result
+        (λ done. Finds (λ books. (seen_reply done.reply ≡ no_route branch books) × (done.is_changed ≡ false))) }
+    ensures decided { IfOk result (λ done. IsDecision (seen_reply done.reply)) }
+{
+    match standing_at(tx, branch)? {
+        Some(_) => Ok(Answered {
+            reply: Reply::refused(Refusal::NoRoute),
+            is_changed: false,
+        }),
+        None => Ok(Answered {
+            reply: Reply::refused(Refusal::NoCounter),
+            is_changed: false,
+        }),
     }
 }
 

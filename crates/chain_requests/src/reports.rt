@@ -14,7 +14,7 @@ ghost use Rattle.branch_reports.specs.Told.{IsDecision};
 ghost use Rattle.chain_requests.specs.Steps.{IsUndone};
 ghost use Rattle.chain_requests.specs.Reports.{shown_by, ShowsReport};
 
-use branch_work::Listing;
+use branch_looks::Listing;
 use consign_store::{arrivals, sent, transit};
 use shop_types::{BranchNo, Reply};
 use sql_rows::StoreFault;
