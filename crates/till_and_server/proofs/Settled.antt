@@ -9,7 +9,7 @@ use Rattle.till_model.proofs.Settled.{all_of, settled_for_good}
 use Rattle.till_client.specs.Replies.{answer_bytes}
 use Rattle.till_book.specs.Journal.{Journal, with_entry, with_settled}
 use Rattle.till_book.specs.Read.{in_order}
-use Rattle.till_work.specs.Entering.{Says}
+use Rattle.till_book.specs.Saying.{Says}
 use Rattle.till_work.specs.Settling.{OfEntry}
 use Rattle.till_and_server.specs.Streams.{Streams}
 use Rattle.till_and_server.specs.Lives.{ServedLife, lives_of, WasRecorded, IsAnsweredBy, WereNoted}

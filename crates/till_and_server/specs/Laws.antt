@@ -164,7 +164,7 @@ ExtendedBooksStayRecorded opens remaining contents =
     → Extends (IsTold opens remaining contents) before after
     → (WereRecorded rules b lives old before → WereRecorded rules b lives old after) × (WereNoted rules b lives old before → WereNoted rules b lives old after)
 
--- So it is from an empty book on, over any words: what the book says of its entries has become of them in the chain's books.
+-- So it is from an empty book on, over any words: what the book says of its entries is what they did in the chain's books.
 abbrev pub WordsReachTheDisk : {R W : Type 0} → (R → W → Type 0) → (R → Option (List ℕ)) → (W → Option (List ℕ)) → Type 0
 WordsReachTheDisk opens remaining contents =
     (mark : Text) (rules : Rules) (look : OfficeAsk → Books → Reply) (b : ℕ) (journal : Journal) (commands : List Command) (lives : List ServedLife) (old new : Books)

@@ -1,8 +1,8 @@
 -- The rows that the texts about rents and returns show.
 use Rattle.std.specs.Prelude.{nat_lt}
-use Rattle.sql_rows.proofs.Common.{◌≡◌, ◌≢◌, ◌∙◌, ◌+◌, ◌<◌, ◌≤◌, ◌==◌, ◌&&◌, ℕ, List, [], ◌∷◌, ◌++◌, map, filter, length, take, Bool, not, true, false, cond, cases_Bool, inl, inr, Option, Some, None, option_map, option_to_list, refl, sym, ap, subst, arith, column, Binary, Term, col, op2, Compare, Eq, State, IsAscending, AllByRecursion, map-map, number_value, nat_tests}
+use Rattle.sql_rows.proofs.Common.{◌≡◌, ◌≢◌, ◌∙◌, ◌+◌, ◌<◌, ◌≤◌, ◌==◌, ◌&&◌, ℕ, List, [], ◌∷◌, ◌++◌, map, filter, length, take, Bool, not, true, false, cond, cases_Bool, inl, inr, Option, Some, None, option_map, option_to_list, refl, sym, ap, subst, arith, column, Binary, Term, col, op2, Compare, Eq, State, IsAscending, AllByRecursion, map-map, number_value, nat_tests, holds, output, columns_of}
 use Rattle.sqlite_keyed.proofs.ListLemmas.{ascending-filter}
-use Rattle.std.specs.List.{list_any}
+use Rattle.std.specs.List.{list_all, list_any}
 use Rattle.sqlite_value.specs.Order as sql
 use Rattle.sqlite_tied.specs.Compute.{everything}
 use Rattle.sqlite.specs.Listing.{understood}
@@ -119,19 +119,28 @@ one_rent rents p rows found shown read =
     same_option found (option_map seen_rent last)
     (unmapped rent_columns same_rent _ _ (read ∙ short ∙ sym (map-map rent_columns seen_rent (option_to_list last)) ∙ ap (map rent_columns) (list_of seen_rent last)))
 
+-- A text that shows the last rent with a number in one column: it tests the column, and shows the others.
+module _ (text : List ℕ) (tests : List Term) (means : Selects book_schema text (first_query 8 tests shown_rent ((col 1 2, descending) ∷ []))) (n place : ℕ) (p : Rented → Bool)
+    (tested : (it : Rented) → (number_test place n (rented_columns it) && true) ≡ p it)
+    (only : (r : sql.Row) → cond (list_all (holds ((number_value n ∷ []) ∷ r ∷ [])) tests) (output (plain_query 8 tests shown_rent ((col 1 2, descending) ∷ [])) ((number_value n ∷ []) ∷ r ∷ []) ∷ []) []
+    ≡ cond (number_test place n (columns_of 4 r) && true) ((column (columns_of 4 r) 1 ∷ [], column (columns_of 4 r) 1 ∷ column (columns_of 4 r) 2 ∷ column (columns_of 4 r) 3 ∷ []) ∷ []) []) where
+  last_shown : (old new : State) (rows : List sql.Row) (found : Option RentRow) → Shown text (number_value n ∷ []) old new rows → map rent_columns (option_to_list found) ≡ take 1 rows
+      → Finds (λ journal. (commands : List Command) → Say journal.entries commands → found ≡ option_map seen_rent (last_or None (filter p (rented_in (entries_in commands journal))))) old new
+  last_shown old new rows found h read journal stood = (
+    still_holds book_schema StandsFor text (number_value n ∷ []) old new means.plain rows h journal stood,
+    λ commands say.
+        let rents : List Rented = rented_in (entries_in commands journal) in
+        let shown : rows ≡ map (λ (it : Rented). rent_columns (seen_rent it)) (ending (filter p rents)) =
+        projects_last book_schema text 8 4 tests shown_rent 1 means (number_value n ∷ []) old new rows stood.schema_is h rented_columns rents (stood.stands.rented commands say) refl
+        (λ vs. number_test place n vs && true) (λ vs. column vs 1 ∷ column vs 2 ∷ column vs 3 ∷ []) p tested only (λ (it : Rented). it.number) (λ it. refl)
+        (ascending-filter _ p rents (rents_ascend 1 (entries_in commands journal))) in
+        one_rent rents p rows found shown read,
+  )
+
 pub reads_rent : (copy : ℕ) (old new : State) (rows : List sql.Row) (found : Option RentRow) → Shown SELECT_RENT.now (number_value copy ∷ []) old new rows
     → map rent_columns (option_to_list found) ≡ take 1 rows
     → Finds (λ journal. (commands : List Command) → Say journal.entries commands → found ≡ option_map seen_rent (last_rent copy (rented_in (entries_in commands journal)))) old new
-reads_rent copy old new rows found h read journal holds = (
-  still_holds book_schema StandsFor SELECT_RENT.now (number_value copy ∷ []) old new select_rent_means.plain rows h journal holds,
-  λ commands say.
-      let rents : List Rented = rented_in (entries_in commands journal) in
-      let shown : rows ≡ map (λ (it : Rented). rent_columns (seen_rent it)) (ending (filter (is_of_copy copy) rents)) =
-      projects_last book_schema SELECT_RENT.now 8 4 of_copy shown_rent 1 select_rent_means (number_value copy ∷ []) old new rows holds.schema_is h rented_columns rents (holds.stands.rented commands say) refl
-      (λ vs. number_test 0 copy vs && true) (λ vs. column vs 1 ∷ column vs 2 ∷ column vs 3 ∷ []) (is_of_copy copy) (λ it. one_tested _ (number_tested it.copy copy)) (λ r. refl) (λ (it : Rented). it.number) (λ it. refl)
-      (ascending-filter _ (is_of_copy copy) rents (rents_ascend 1 (entries_in commands journal))) in
-      one_rent rents (is_of_copy copy) rows found shown read,
-)
+reads_rent copy = last_shown SELECT_RENT.now of_copy select_rent_means copy 0 (is_of_copy copy) (λ it. one_tested _ (number_tested it.copy copy)) (λ r. refl)
 
 -- ---- the last that names a rental
 
@@ -145,16 +154,7 @@ select_renter_means = record { names = _; is = refl; plain = (refl, refl); unlis
 pub reads_renter : (rental : ℕ) (old new : State) (rows : List sql.Row) (found : Option RentRow) → Shown SELECT_RENTER.now (number_value rental ∷ []) old new rows
     → map rent_columns (option_to_list found) ≡ take 1 rows
     → Finds (λ journal. (commands : List Command) → Say journal.entries commands → found ≡ option_map seen_rent (rent_named rental (rented_in (entries_in commands journal)))) old new
-reads_renter rental old new rows found h read journal holds = (
-  still_holds book_schema StandsFor SELECT_RENTER.now (number_value rental ∷ []) old new select_renter_means.plain rows h journal holds,
-  λ commands say.
-      let rents : List Rented = rented_in (entries_in commands journal) in
-      let shown : rows ≡ map (λ (it : Rented). rent_columns (seen_rent it)) (ending (filter (is_named rental) rents)) =
-      projects_last book_schema SELECT_RENTER.now 8 4 of_rental shown_rent 1 select_renter_means (number_value rental ∷ []) old new rows holds.schema_is h rented_columns rents (holds.stands.rented commands say) refl
-      (λ vs. number_test 2 rental vs && true) (λ vs. column vs 1 ∷ column vs 2 ∷ column vs 3 ∷ []) (is_named rental) (λ it. one_tested _ (number_tested it.rental rental)) (λ r. refl) (λ (it : Rented). it.number) (λ it. refl)
-      (ascending-filter _ (is_named rental) rents (rents_ascend 1 (entries_in commands journal))) in
-      one_rent rents (is_named rental) rows found shown read,
-)
+reads_renter rental = last_shown SELECT_RENTER.now of_rental select_renter_means rental 2 (is_named rental) (λ it. one_tested _ (number_tested it.rental rental)) (λ r. refl)
 
 -- ---- returns after a number
 

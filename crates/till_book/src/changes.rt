@@ -1,14 +1,14 @@
 //! One change of the journal and of the tables beside it, inside a transaction.
 
-ghost use Rattle.std.specs.Prelude.{◌≡◌};
+ghost use Rattle.std.specs.Prelude.{◌≡◌, Some};
 ghost use Rattle.sql_rows.specs.Calls.{DoesInside};
-ghost use Rattle.till_book.specs.Journal.{Finds, PutsEntry, PutsReply, PutsRefused, PutsSettled, is_refused};
+ghost use Rattle.till_book.specs.Journal.{Finds, FindsEntry, PutsEntry, PutsReply, PutsRefused, PutsSettled, is_refused};
 
 use crate::journal::{add_entry, add_reply, add_settled, drop_unsure, entry_at};
 use crate::marks::{put_mark, reply_mark, settled_mark};
 use crate::reading::reply_at;
 use counter_routes::Routes;
-use sql_rows::StoreFault;
+use sql_rows::{Bytes, StoreFault};
 use sqlite::{Alter, Transaction};
 use std::alloc::Global;
 
@@ -21,6 +21,16 @@ pub fn put_entry<S: Alter>(
     ensures { DoesInside S.Store tx.old.conn tx.new.conn result (λ _. PutsEntry number request.now) }
 {
     add_entry(tx, number, request)
+}
+
+/// Returns the request of that number. Fails if there is none.
+fn request_at<S: Alter>(tx: &mut Transaction<'_, S>, number: u32) -> Result<Bytes, StoreFault>
+    ensures { DoesInside S.Store tx.old.conn tx.new.conn result (λ request. FindsEntry number (Some request)) }
+{
+    match entry_at(tx, number)? {
+        Some(request) => Ok(request),
+        None => Err(StoreFault::Failed),
+    }
 }
 
 /// Adds the reply to the oldest request that has none, and its row in the tables beside the journal. Fails if no
@@ -36,9 +46,7 @@ pub fn put_reply<S: Alter>(
     ensures { DoesInside S.Store tx.old.conn tx.new.conn result
         (λ _. PutsReply number (record { status = status; body = body.now })) }
 {
-    let Some(request) = entry_at(tx, number)? else {
-        return Err(StoreFault::Failed);
-    };
+    let request = request_at(tx, number)?;
     let mark = reply_mark(alloc, routes, request.as_slice(), status, body)?;
     add_reply(tx, number, status, body)?;
     put_mark(tx, number, mark)
@@ -67,9 +75,7 @@ fn put_refused<S: Alter>(
     ensures { DoesInside S.Store tx.old.conn tx.new.conn result
         (λ _. PutsRefused number (record { status = status; body = body.now })) }
 {
-    let Some(request) = entry_at(tx, number)? else {
-        return Err(StoreFault::Failed);
-    };
+    let request = request_at(tx, number)?;
     let mark = settled_mark(alloc, routes, request.as_slice(), status, body)?;
     add_settled(tx, number, status, body)?;
     drop_unsure(tx, number)?;

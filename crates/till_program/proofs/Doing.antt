@@ -1,5 +1,7 @@
 -- What a word did.
-use Rattle.std.proofs.Common.{◌≡◌, ◌∙◌, ◌≤◌, ◌++◌, ℕ, List, Option, None, Some, Result, Ok, Err, OnOk, IfErr, length, sym, subst, refl}
+use Rattle.std.proofs.Common.{◌≡◌, ◌∙◌, ◌≤◌, ◌++◌, ℕ, Bool, true, false, List, Option, None, Some, Result, Ok, Err, OnOk, IfErr, length, sym, subst, refl}
+use Rattle.std.specs.Prelude.{if◌then◌else◌, IsTrue}
+use Rattle.std.proofs.lemmas.Bool.{false≢true}
 use Rattle.sqlite.specs.State.{State}
 use Rattle.shop_types.specs.Seen.{seen_act}
 use Rattle.shop_types.specs.declared.command.Act.{Act as Asked}
@@ -14,12 +16,14 @@ use Rattle.till_work.specs.Desk.{HasPlace, Sends, with_replies}
 use Rattle.till_work.specs.declared.place.Place.{Place}
 use Rattle.till_words.specs.declared.words.TillAct.{TillAct}
 use Rattle.till_words.specs.declared.words.TillAct.TheVariants as typed
+use Rattle.till_requests.specs.Requests.{is_reading}
 use Rattle.till_program.specs.declared.fault.TillFault.{TillFault}
 use Rattle.till_program.specs.declared.word.Plan.{Plan}
 use Rattle.till_program.specs.declared.word.Plan.TheVariants as plan
 use Rattle.till_program.specs.Word.{IsPlaceOf, IsHeldIn, SendsAll}
 use Rattle.till_program.specs.Giving.{Gives, GivesAct}
 use Rattle.till_program.specs.Doing.{IsPlanOf, IsCarriedOut, GivesWord, SendsWord, DoesWord}
+use Rattle.till_program.proofs.GoingOn.{stays_both}
 
 pub on_ok : {A E : Type 0} (r : Result A E) {P : Type 0} → P → OnOk r P
 on_ok (Ok a) holds = holds
@@ -126,34 +130,43 @@ module _ (Tells : List ℕ → Answer → Type 0) where
           (after, gives.1.2 journal commands (record { rests = stays journal rests; book = tills; entries = counted.0; replies = counted.1 }))),
     )
 
+    -- of the plan that it is
+    as_planned : (it other : Plan) (before : Place) (old : State) (after : Place) (new : State) → it ≡ other → IsCarriedOut Tells shows mark token giver it before old after new
+        → IsCarriedOut Tells shows mark token giver other before old after new
+    as_planned it other before old after new same done = subst (λ (p : Plan). IsCarriedOut Tells shows mark token giver p before old after new) same done
+
+    -- words of head office that only read
+    reading_stays : (reads : Bool) (words : List Text) (it : Plan) (before : Place) (old : State) (after : Place) (new : State)
+        → it ≡ (if reads then plan.ReadOffice words else plan.Office words) → IsCarriedOut Tells shows mark token giver it before old after new → IsTrue reads → book.Stays old new
+    reading_stays true words it before old after new same done is = as_planned it (plan.ReadOffice words) before old after new same done
+    reading_stays false words it before old after new same done is = absurd (false≢true is)
+
     -- What was carried out of the word's plan is the word. The plan was made of the book as it was read.
-    pub word_done : (word : TillAct) (planned : Plan) (place after : Place) (old read mid new : State) → IsPlaceOf place old → book.Stays old read → book.Stays read mid
-        → IsPlanOf read word planned → IsCarriedOut Tells shows mark token giver planned place mid after new → DoesWord Tells shows mark token giver word old new
-    word_done (typed.Do what) (plan.Give it customer) place after old read mid new is first second plans done =
-        given_word (seen_act what) place after old mid new is (λ journal rests. second journal (first journal rests))
-        (subst (λ (one : Asked). GivesAct Tells shows mark token giver (seen_act one) place mid after new) plans done)
-    word_done (typed.Do what) (plan.Office words) place after old read mid new is first second plans done = absurd plans
-    word_done (typed.Do what) plan.Send place after old read mid new is first second plans done = absurd plans
-    word_done (typed.Do what) (plan.Say said) place after old read mid new is first second plans done = absurd plans
-    word_done (typed.ReturnCopy copy) (plan.Give it customer) place after old read mid new is first second plans done = (
+    pub word_done : (word : TillAct) (it : Plan) (place after : Place) (old read mid new : State) → IsPlaceOf place old → book.Stays old read → book.Stays read mid → IsPlanOf read word it
+        → IsCarriedOut Tells shows mark token giver it place mid after new → DoesWord Tells shows mark token giver word old new
+    word_done (typed.Do what) it place after old read mid new is first second plans done =
+        given_word (seen_act what) place after old mid new is (stays_both old read mid first second) (as_planned it (plan.Give what plans.0) place mid after new plans.2 done)
+    word_done (typed.ReturnCopy copy) it place after old read mid new is first second plans done = (
       plans.0,
       held_before copy plans.0 old read first plans.1,
-      given_word (seen_act (asked.TakeBack plans.0.rental)) place after old mid new is (λ journal rests. second journal (first journal rests))
-          (subst (λ (one : Asked). GivesAct Tells shows mark token giver (seen_act one) place mid after new) plans.2 done),
+      given_word (seen_act (asked.TakeBack plans.0.rental)) place after old mid new is (stays_both old read mid first second)
+          (as_planned it (plan.Give (asked.TakeBack plans.0.rental) (Some plans.0.customer)) place mid after new plans.2 done),
     )
-    word_done (typed.ReturnCopy copy) (plan.Office words) place after old read mid new is first second plans done = absurd plans
-    word_done (typed.ReturnCopy copy) plan.Send place after old read mid new is first second plans done = absurd plans
-    word_done (typed.ReturnCopy copy) (plan.Say said) place after old read mid new is first second plans done = absurd plans
-    word_done typed.Send (plan.Give it customer) place after old read mid new is first second plans done = absurd plans
-    word_done typed.Send (plan.Office words) place after old read mid new is first second plans done = absurd plans
-    word_done typed.Send plan.Send place after old read mid new is first second plans done =
-        sent_word place after old mid new is (λ journal rests. second journal (first journal rests)) done
-    word_done typed.Send (plan.Say said) place after old read mid new is first second plans done = absurd plans
-    word_done (typed.Office words) planned place after old read mid new is first second plans done = tt
-    word_done (typed.Init beginning) planned place after old read mid new is first second plans done = tt
-    word_done (typed.Import file lot) planned place after old read mid new is first second plans done = tt
-    word_done (typed.Look look) planned place after old read mid new is first second plans done = tt
-    word_done typed.Waiting planned place after old read mid new is first second plans done = tt
-    word_done (typed.Last count) planned place after old read mid new is first second plans done = tt
-    word_done typed.Help planned place after old read mid new is first second plans done = tt
-    word_done typed.Prompt planned place after old read mid new is first second plans done = tt
+    word_done (typed.Office words) it place after old read mid new is first second plans done =
+        λ reads. stays_both old mid new (stays_both old read mid first second) (reading_stays (is_reading words) words it place mid after new plans done reads)
+    word_done typed.Send it place after old read mid new is first second plans done =
+        sent_word place after old mid new is (stays_both old read mid first second) (as_planned it plan.Send place mid after new plans done)
+    word_done (typed.Look look) it place after old read mid new is first second plans done =
+        stays_both old mid new (stays_both old read mid first second) (as_planned it (plan.Look look) place mid after new plans done)
+    word_done typed.Waiting it place after old read mid new is first second plans done =
+        stays_both old mid new (stays_both old read mid first second) (as_planned it plan.Waiting place mid after new plans done)
+    word_done (typed.Last count) it place after old read mid new is first second plans done =
+        stays_both old mid new (stays_both old read mid first second) (as_planned it (plan.Last count) place mid after new plans done)
+    word_done typed.Help it place after old read mid new is first second plans done =
+        stays_both old mid new (stays_both old read mid first second) (as_planned it plan.Usage place mid after new plans done)
+    word_done (typed.Init beginning) it place after old read mid new is first second plans done =
+        stays_both old mid new (stays_both old read mid first second) (as_planned it plan.Usage place mid after new plans done)
+    word_done (typed.Import file lot) it place after old read mid new is first second plans done =
+        stays_both old mid new (stays_both old read mid first second) (as_planned it plan.Usage place mid after new plans done)
+    word_done typed.Prompt it place after old read mid new is first second plans done =
+        stays_both old mid new (stays_both old read mid first second) (as_planned it plan.Usage place mid after new plans done)

@@ -68,7 +68,7 @@ try_goes Tells shows mark token giver act before after old new enters journal co
       says = (it.1 ∷ [], refl);
     }
 
--- what was told was told to entries that there are
+-- each reply that was received is of an entry of the book
 told_within : (Tells : List ℕ → Answer → Type 0) (entries : List (List ℕ)) (i : ℕ) (front : List Answer) (answer : Answer) → AreTold Tells entries i (front ++ answer ∷ [])
     → i + length front < length entries
 told_within Tells entries i [] answer told = let within = slice_get_within entries i told.0.0 told.0.1 in omega arith
@@ -208,7 +208,7 @@ module _ (Tells : List ℕ → Answer → Type 0) (shows : ℕ → Type 0) (mark
             tried_then Tells shows mark token gives.0 act (it.0 ++ back ∷ []) (answer ∷ []) mid after between new journal commands it.2 last,
           )
 
-  -- what was told so far: nothing, or of each try that it is behind
+  -- the replies so far: none, or `moment_back` to each try
   abbrev pub SoFar : {A : Type 0} → (A → Answer) → Result A TillFault → Place → State → Place → State → Type 0
   SoFar seen told before old after new =
       MatchResult told (λ it. Gives Tells shows mark token giver act (seen it) before old after new × IsBack (seen it)) (λ _. Stays before old after new)

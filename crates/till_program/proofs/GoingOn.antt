@@ -7,12 +7,11 @@ use Rattle.till_book.specs.Journal.{Journal, with_settled}
 use Rattle.till_book.specs.Ends.{IsEndOf}
 use Rattle.till_book.specs.declared.ends.BookEnd.{BookEnd}
 use Rattle.till_book.specs.Steps as book
-use Rattle.till_work.specs.Entering.{Say, IsTillsBook}
+use Rattle.till_book.specs.Saying.{Say}
+use Rattle.till_work.specs.Entering.{IsTillsBook}
 use Rattle.till_work.specs.Settling.{Settles, IsSettled, IsSettledBy, FailsToSettle, after_settling}
 use Rattle.till_work.specs.declared.settling.Settled.{Settled}
 use Rattle.till_work.specs.declared.settling.Settled.TheVariants as settled
-use Rattle.till_work.specs.declared.settling.SettleFault.{SettleFault}
-use Rattle.till_work.specs.declared.settling.SettleFault.TheVariants as settle
 use Rattle.till_work.specs.declared.fault.DeskFault.{DeskFault}
 use Rattle.till_work.specs.declared.fault.DeskFault.TheVariants as desk
 use Rattle.till_work.specs.declared.place.Place.{Place}
@@ -22,7 +21,7 @@ use Rattle.till_work.proofs.Telling.{settled_then, decided_known}
 use Rattle.till_work.proofs.GoingOn.{goes_then, grows_then, stays_goes, stays_grows as grows_same, rests_stays, extends_same}
 use Rattle.till_program.specs.declared.fault.TillFault.{TillFault}
 use Rattle.till_program.specs.declared.fault.TillFault.TheVariants as word
-use Rattle.till_program.specs.Faults.{told_fault, IsBookKept, IsSettlingKept}
+use Rattle.till_program.specs.Faults.{told_fault, IsBookKept}
 use Rattle.till_program.specs.Word.{IsPlaceOf, IsBehind, KeepsATillsBook, KeepsABook, IsSame, EntersNothing}
 
 -- ---- faults
@@ -36,7 +35,7 @@ kept_as fault kept e = kept (let same : fault ≡ word.Book = cc in rw same refl
 pub desk_kept_ok : {A : Type 0} (a : A) → IsDeskKept (Ok a)
 desk_kept_ok a e = cc
 
--- a fault that is told so wasn't the desk's of the book
+-- a fault with that translation wasn't a fault of the book
 pub desk_kept : {A B : Type 0} (told : TillFault) (fault : DeskFault) → told ≡ told_fault fault → IsBookKept {A = A} (Err told) → IsDeskKept {A = B} (Err fault)
 desk_kept told fault same kept e =
     let failed : fault ≡ desk.Book = cc in
@@ -58,12 +57,15 @@ module _ (Tells : List ℕ → Answer → Type 0) where
   pub kept_goes : (mark : Text) (place : Place) (old new : State) → book.Stays old new → GoesOn Tells mark place old place new
   kept_goes mark place old new stays = stays_goes Tells mark place place old new (rests_stays place old new stays)
 
+  pub kept_grows : (place : Place) (old new : State) → book.Stays old new → Grows Tells place old place new
+  kept_grows place old new stays = grows_same Tells place place old new (rests_stays place old new stays)
+
   pub goes_stays : (mark : Text) (before after : Place) (old mid new : State) → GoesOn Tells mark before old after mid → book.Stays mid new → GoesOn Tells mark before old after new
   goes_stays mark before after old mid new goes stays = goes_then Tells mark before after after old mid new goes (kept_goes mark after mid new stays)
 
   pub grows_stays : (before after : Place) (old mid new : State) → Grows Tells before old after mid → book.Stays mid new → Grows Tells before old after new
   grows_stays before after old mid new grows stays =
-      grows_then Tells before after after old mid new grows (grows_same Tells after after mid new (rests_stays after mid new stays))
+      grows_then Tells before after after old mid new grows (kept_grows after mid new stays)
 
   behind : (mark : Text) (place : Place) (s : State) (journal : Journal) (commands : List Command) → Becomes Tells mark place s journal commands → IsBehind Tells mark s journal commands
   behind mark place s journal commands it = record {
@@ -75,7 +77,7 @@ module _ (Tells : List ℕ → Answer → Type 0) where
     says = it.says;
   }
 
-  -- what goes on behind a look at the whole book
+  -- what goes on after a look at the whole book
   pub read_keeps : (mark : Text) (place after : Place) (old mid new : State) → IsPlaceOf place old → book.Stays old mid → GoesOn Tells mark place mid after new
       → KeepsATillsBook Tells mark old new
   read_keeps mark place after old mid new is stays goes journal commands rests tills =
@@ -185,14 +187,23 @@ module _ (Tells : List ℕ → Answer → Type 0) where
         says = ([], sym (append-nil commands));
       }
 
-unsettled_stays : (n : ℕ) (fault : SettleFault) (old new : State) (output written : Option (List ℕ)) → FailsToSettle n fault old new output written → IsSettlingKept (Err fault) → book.Stays old new
-unsettled_stays n (settle.Book it) old new output written fails kept journal rests = absurd kept
-unsettled_stays n settle.NoEntry old new output written fails kept journal rests = (fails journal rests).0
-unsettled_stays n (settle.Unanswered it) old new output written fails kept journal rests = (fails journal rests).0
-unsettled_stays n settle.NotNow old new output written fails kept journal rests = (fails journal rests).0
+unsettled_stays : (n : ℕ) (fault : DeskFault) (old new : State) (output written : Option (List ℕ)) → FailsToSettle n fault old new output written → IsDeskKept {A = Settled} (Err fault)
+    → book.Stays old new
+unsettled_stays n desk.Book old new output written fails kept journal rests = absurd (kept refl)
+unsettled_stays n desk.NoEntry old new output written fails kept journal rests = (fails journal rests).0
+unsettled_stays n (desk.Unanswered why) old new output written fails kept journal rests = (fails journal rests).0
+unsettled_stays n desk.NotNow old new output written fails kept journal rests = (fails journal rests).0
+unsettled_stays n desk.Full old new output written fails kept journal rests = absurd fails
+unsettled_stays n desk.Memory old new output written fails kept journal rests = absurd fails
+unsettled_stays n desk.NoCommand old new output written fails kept journal rests = absurd fails
+unsettled_stays n desk.OtherKey old new output written fails kept journal rests = absurd fails
+unsettled_stays n desk.NotLater old new output written fails kept journal rests = absurd fails
+unsettled_stays n desk.OtherBook old new output written fails kept journal rests = absurd fails
+unsettled_stays n desk.Unopened old new output written fails kept journal rests = absurd fails
+unsettled_stays n desk.NotKnown old new output written fails kept journal rests = absurd fails
 
 module _ {R W : Type 0} (opens : R → W → Type 0) (remaining : R → Option (List ℕ)) (contents : W → Option (List ℕ)) where
-  -- what was told over streams that were opened
+  -- what was received over opened streams
   told_same : (n : ℕ) (what : Settled) (new : State) (reader read : R) (writer written : W) (journal : Journal) → 0 < n → opens reader writer
       → IsSettled n what journal new (remaining reader) (remaining read) (contents writer) (contents written) → IsSame (IsTold opens remaining contents) new journal
   told_same n what new reader read writer written journal some opened is =
@@ -219,9 +230,9 @@ module _ {R W : Type 0} (opens : R → W → Type 0) (remaining : R → Option (
         | inr is ↦ told_same n what new reader read writer written journal some opened is
       ]
 
-  pub settling_same : (n : ℕ) (r : Result Settled SettleFault) (old new : State) (reader read : R) (writer written : W) → 0 < n → opens reader writer
+  pub settling_same : (n : ℕ) (r : Result Settled DeskFault) (old new : State) (reader read : R) (writer written : W) → 0 < n → opens reader writer
       → IfOk r (λ what. Settles n what old new (remaining reader) (remaining read) (contents writer) (contents written))
-      → IfErr r (λ fault. FailsToSettle n fault old new (contents writer) (contents written)) → IsSettlingKept r → EntersNothing (IsTold opens remaining contents) old new
+      → IfErr r (λ fault. FailsToSettle n fault old new (contents writer) (contents written)) → IsDeskKept r → EntersNothing (IsTold opens remaining contents) old new
   settling_same n (Ok what) old new reader read writer written some opened settles fails kept =
       settled_same n what old new reader read writer written some opened settles
   settling_same n (Err fault) old new reader read writer written some opened settles fails kept =

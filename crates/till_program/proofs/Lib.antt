@@ -1,3 +1,4 @@
 pub mod GoingOn
 pub mod Giving
 pub mod Doing
+pub mod Marks

@@ -1,12 +1,13 @@
 -- What a word does to an open book.
-use Rattle.std.specs.Prelude.{◌≡◌, ◌≤◌, ⊤, ℕ, List, ◌++◌, length, Option, Some, Result, Ok}
+use Rattle.std.specs.Prelude.{◌≡◌, ◌≤◌, ⊤, ℕ, if◌then◌else◌, List, ◌++◌, length, Option, Some, Result, Ok, IsTrue}
 use Rattle.sqlite.specs.State.{State}
 use Rattle.shop_model.specs.Values.{Text, Act, Command}
 use Rattle.shop_model.specs.Answers.{Answer}
 use Rattle.shop_types.specs.Seen.{seen_act}
 use Rattle.shop_types.specs.declared.command.Act.TheVariants.{TakeBack}
 use Rattle.till_book.specs.Journal.{Journal}
-use Rattle.till_book.specs.Steps.{Rests}
+use Rattle.till_requests.specs.Requests.{is_reading}
+use Rattle.till_book.specs.Steps.{Rests, Stays}
 use Rattle.till_book.specs.declared.rents.HeldRental.{HeldRental}
 use Rattle.till_work.specs.Entering.{IsTillsBook}
 use Rattle.till_work.specs.Told.{AreTold}
@@ -18,38 +19,37 @@ use Rattle.till_program.specs.declared.fault.TillFault.{TillFault}
 use Rattle.till_program.specs.declared.word.Plan.{Plan}
 use Rattle.till_program.specs.declared.word.Plan.TheVariants as plan
 use Rattle.till_program.specs.Giving.{IsGivenAt, GivesAct}
-use Rattle.till_program.specs.Word.{IsHeldIn, SendsAll}
+use Rattle.till_program.specs.Word.{IsHeldIn, IsDebtor, SendsAll}
 
--- An act is planned as it was typed. For a copy that comes back, the plan is the return of the register's rental, and then what that rental's customer owes. What
--- waits is planned to be sent. Of other words nothing is said.
+-- head office's words are read, or entered if they aren't a reading
+abbrev pub office_planned : List Text → Plan
+office_planned words = if is_reading words then plan.ReadOffice words else plan.Office words
+
+-- A word has the plan that it asks for. An act is planned as it was typed, and for a return its rental's customer owes. For a copy that comes back, the plan is the
+-- return of the register's rental, and then what that rental's customer owes. Head office's words are read or entered, as the first of them asks.
 abbrev pub IsPlanOf : State → TillAct → Plan → Type 0
-IsPlanOf s (typed.Do what) (plan.Give it customer) = it ≡ what
-IsPlanOf s (typed.Do what) (plan.Office words) = ⊥
-IsPlanOf s (typed.Do what) plan.Send = ⊥
-IsPlanOf s (typed.Do what) (plan.Say said) = ⊥
-IsPlanOf s (typed.ReturnCopy copy) (plan.Give it customer) = (held : HeldRental) × IsHeldIn copy held s × (it ≡ TakeBack held.rental) × (customer ≡ Some held.customer)
-IsPlanOf s (typed.ReturnCopy copy) (plan.Office words) = ⊥
-IsPlanOf s (typed.ReturnCopy copy) plan.Send = ⊥
-IsPlanOf s (typed.ReturnCopy copy) (plan.Say said) = ⊥
-IsPlanOf s typed.Send (plan.Give it customer) = ⊥
-IsPlanOf s typed.Send (plan.Office words) = ⊥
-IsPlanOf s typed.Send plan.Send = ⊤
-IsPlanOf s typed.Send (plan.Say said) = ⊥
-IsPlanOf s (typed.Office words) it = ⊤
-IsPlanOf s (typed.Init beginning) it = ⊤
-IsPlanOf s (typed.Import file lot) it = ⊤
-IsPlanOf s (typed.Look look) it = ⊤
-IsPlanOf s typed.Waiting it = ⊤
-IsPlanOf s (typed.Last count) it = ⊤
-IsPlanOf s typed.Help it = ⊤
-IsPlanOf s typed.Prompt it = ⊤
+IsPlanOf s (typed.Do what) it = (customer : Option ℕ) × IsDebtor what customer s × (it ≡ plan.Give what customer)
+IsPlanOf s (typed.ReturnCopy copy) it = (held : HeldRental) × IsHeldIn copy held s × (it ≡ plan.Give (TakeBack held.rental) (Some held.customer))
+IsPlanOf s (typed.Office words) it = it ≡ office_planned words
+IsPlanOf s typed.Send it = it ≡ plan.Send
+IsPlanOf s (typed.Look look) it = it ≡ plan.Look look
+IsPlanOf s typed.Waiting it = it ≡ plan.Waiting
+IsPlanOf s (typed.Last count) it = it ≡ plan.Last count
+IsPlanOf s typed.Help it = it ≡ plan.Usage
+IsPlanOf s (typed.Init beginning) it = it ≡ plan.Usage
+IsPlanOf s (typed.Import file lot) it = it ≡ plan.Usage
+IsPlanOf s typed.Prompt it = it ≡ plan.Usage
 
--- an act that was planned was given, and got some answer; what waited was sent
+-- An act that was planned was given, and got some answer. What waited was sent. Of a look the book stays.
 abbrev pub IsCarriedOut : (List ℕ → Answer → Type 0) → (ℕ → Type 0) → Text → Text → Result ℕ TillFault → Plan → Place → State → Place → State → Type 0
 IsCarriedOut Tells shows mark token giver (plan.Give what customer) before old after new = GivesAct Tells shows mark token giver (seen_act what) before old after new
 IsCarriedOut Tells shows mark token giver (plan.Office words) before old after new = ⊤
 IsCarriedOut Tells shows mark token giver plan.Send before old after new = SendsAll Tells before old after new
-IsCarriedOut Tells shows mark token giver (plan.Say said) before old after new = ⊤
+IsCarriedOut Tells shows mark token giver (plan.Look look) before old after new = Stays old new
+IsCarriedOut Tells shows mark token giver (plan.ReadOffice words) before old after new = Stays old new
+IsCarriedOut Tells shows mark token giver plan.Waiting before old after new = Stays old new
+IsCarriedOut Tells shows mark token giver (plan.Last count) before old after new = Stays old new
+IsCarriedOut Tells shows mark token giver plan.Usage before old after new = Stays old new
 
 -- the act was given at a till's book, and got some answer
 abbrev pub GivesWord : (List ℕ → Answer → Type 0) → (ℕ → Type 0) → Text → Text → Result ℕ TillFault → Act → State → State → Type 0
@@ -65,18 +65,18 @@ SendsWord Tells old new =
     → (answers : List Answer) × Rests new (with_replies answers journal) × AreTold Tells journal.entries (length journal.replies) answers
     × (length journal.replies ≤ length journal.entries → length (journal.replies ++ answers) ≡ length journal.entries)
 
--- An act that was typed was given. Of a copy that comes back the return of the register's rental was given. What waited was sent. Of other words nothing is said
--- here.
+-- An act that was typed was given. Of a copy that comes back the return of the register's rental was given. What waited was sent. Over a look, and over words of
+-- head office that only read, the book stays. Of its other words nothing is said here.
 abbrev pub DoesWord : (List ℕ → Answer → Type 0) → (ℕ → Type 0) → Text → Text → Result ℕ TillFault → TillAct → State → State → Type 0
 DoesWord Tells shows mark token giver (typed.Do what) old new = GivesWord Tells shows mark token giver (seen_act what) old new
 DoesWord Tells shows mark token giver (typed.ReturnCopy copy) old new =
     (held : HeldRental) × IsHeldIn copy held old × GivesWord Tells shows mark token giver (seen_act (TakeBack held.rental)) old new
+DoesWord Tells shows mark token giver (typed.Office words) old new = IsTrue (is_reading words) → Stays old new
 DoesWord Tells shows mark token giver typed.Send old new = SendsWord Tells old new
-DoesWord Tells shows mark token giver (typed.Office words) old new = ⊤
-DoesWord Tells shows mark token giver (typed.Init beginning) old new = ⊤
-DoesWord Tells shows mark token giver (typed.Import file lot) old new = ⊤
-DoesWord Tells shows mark token giver (typed.Look look) old new = ⊤
-DoesWord Tells shows mark token giver typed.Waiting old new = ⊤
-DoesWord Tells shows mark token giver (typed.Last count) old new = ⊤
-DoesWord Tells shows mark token giver typed.Help old new = ⊤
-DoesWord Tells shows mark token giver typed.Prompt old new = ⊤
+DoesWord Tells shows mark token giver (typed.Look look) old new = Stays old new
+DoesWord Tells shows mark token giver typed.Waiting old new = Stays old new
+DoesWord Tells shows mark token giver (typed.Last count) old new = Stays old new
+DoesWord Tells shows mark token giver typed.Help old new = Stays old new
+DoesWord Tells shows mark token giver (typed.Init beginning) old new = Stays old new
+DoesWord Tells shows mark token giver (typed.Import file lot) old new = Stays old new
+DoesWord Tells shows mark token giver typed.Prompt old new = Stays old new

@@ -1,11 +1,16 @@
 -- What a word leaves of a till's book.
-use Rattle.std.specs.Prelude.{◌≡◌, ◌≤◌, ⊤, ℕ, List, ◌++◌, length, Option, None, Some, IsSome}
+use Rattle.std.specs.Prelude.{◌≡◌, ◌≤◌, ◌↔◌, ⊤, ℕ, Bool, true, List, ◌++◌, length, Option, None, Some, IsSome, IsTrue}
 use Rattle.sqlite.specs.State.{State}
 use Rattle.shop_model.specs.Values.{Text, Command}
 use Rattle.shop_model.specs.Answers.{Answer}
+use Rattle.shop_types.specs.declared.command.Act.{Act}
+use Rattle.shop_types.specs.declared.command.Act.TheVariants as asked
+use Rattle.till_model.specs.Numbered.{has_mark}
+use Rattle.till_book.specs.Held.{last_or}
 use Rattle.till_book.specs.Journal.{Journal}
+use Rattle.till_book.specs.Saying.{Says, Say}
 use Rattle.till_book.specs.Steps.{Rests}
-use Rattle.till_book.specs.Register.{IsHeld}
+use Rattle.till_book.specs.Register.{IsHeld, IsRenter}
 use Rattle.till_book.specs.declared.rents.HeldRental.{HeldRental}
 use Rattle.till_work.specs.Entering.{IsTillsBook}
 use Rattle.till_work.specs.Told.{AreSettled}
@@ -27,12 +32,71 @@ IsPlaceOf place s = (journal : Journal) → Rests s journal → (place.entries �
 abbrev pub IsHeldIn : ℕ → HeldRental → State → Type 0
 IsHeldIn copy held s = (journal : Journal) → Rests s journal → IsHeld copy (Some held) journal
 
--- head office's words are planned for its own book alone, and a branch's commands for a branch's
+-- the customer is the one that the register has for that rental, in each journal that the book stands for; none if it has none
+abbrev pub IsRenterIn : ℕ → Option ℕ → State → Type 0
+IsRenterIn rental customer s = (journal : Journal) → Rests s journal → IsRenter rental customer journal
+
+-- whose debt is said after an act: after a return its rental's customer's, and after another act nobody's
+abbrev pub IsDebtor : Act → Option ℕ → State → Type 0
+IsDebtor (asked.TakeBack rental) customer s = IsRenterIn rental customer s
+IsDebtor (asked.Customer new) customer s = customer ≡ None
+IsDebtor (asked.Active who active) customer s = customer ≡ None
+IsDebtor (asked.Rent who copy) customer s = customer ≡ None
+IsDebtor (asked.Pay who rental amount) customer s = customer ≡ None
+IsDebtor (asked.Import lot file) customer s = customer ≡ None
+IsDebtor (asked.Dispatch to copies) customer s = customer ≡ None
+IsDebtor (asked.Receive from number missing) customer s = customer ≡ None
+IsDebtor (asked.Scrap copy) customer s = customer ≡ None
+
+-- ---- whose book it is
+
+-- the last command's key has the mark, if there is a command
+abbrev pub LastHasMark : Text → List Command → Type 0
+LastHasMark mark commands = (last : Command) → last_or None commands ≡ Some last → has_mark mark last.key ≡ true
+
+-- The book's last entry was entered with the mark, or there is none. Of a book that says no commands, as head office's, nothing is said.
+abbrev pub IsOwnBook : Text → State → Type 0
+IsOwnBook mark s = (journal : Journal) (commands : List Command) → Rests s journal → Say journal.entries commands → LastHasMark mark commands
+
+-- the answer is yes exactly if the book's last entry was entered with the mark, or there is none
+abbrev pub TellsMark : Text → Bool → State → Type 0
+TellsMark mark is_own s = (journal : Journal) (commands : List Command) → Rests s journal → Say journal.entries commands → IsTrue is_own ↔ LastHasMark mark commands
+
+-- whatever command the last entry says, the answer is whether its key has the mark; it is yes without an entry
+abbrev pub TellsLastMark : Text → Bool → Option (List ℕ) → Type 0
+TellsLastMark mark is_own None = IsTrue is_own
+TellsLastMark mark is_own (Some request) = (command : Command) → Says request command → is_own ≡ has_mark mark command.key
+
+-- the answer is yes for a till's book under the mark
+abbrev pub KnowsOwn : Text → Bool → State → Type 0
+KnowsOwn mark is_own s = (journal : Journal) (commands : List Command) → Rests s journal → IsTillsBook mark journal commands → IsTrue is_own
+
+-- the word enters or sends, or may
+abbrev pub EntersOrSends : TillAct → Type 0
+EntersOrSends (act.Do what) = ⊤
+EntersOrSends (act.ReturnCopy copy) = ⊤
+EntersOrSends (act.Office words) = ⊤
+EntersOrSends act.Send = ⊤
+EntersOrSends (act.Init beginning) = ⊥
+EntersOrSends (act.Import file lot) = ⊥
+EntersOrSends (act.Look look) = ⊥
+EntersOrSends act.Waiting = ⊥
+EntersOrSends (act.Last count) = ⊥
+EntersOrSends act.Help = ⊥
+EntersOrSends act.Prompt = ⊥
+
+-- ---- for which book a word is
+
+-- head office's words are planned for its own book alone, and a branch's commands and looks for a branch's
 abbrev pub IsPlannedFor : Option ℕ → Plan → Type 0
-IsPlannedFor staff (plan.Office words) = staff ≡ None
 IsPlannedFor staff (plan.Give what customer) = IsSome staff
+IsPlannedFor staff (plan.Office words) = staff ≡ None
 IsPlannedFor staff plan.Send = ⊤
-IsPlannedFor staff (plan.Say said) = ⊤
+IsPlannedFor staff (plan.Look look) = IsSome staff
+IsPlannedFor staff (plan.ReadOffice words) = staff ≡ None
+IsPlannedFor staff plan.Waiting = ⊤
+IsPlannedFor staff (plan.Last count) = ⊤
+IsPlannedFor staff plan.Usage = ⊤
 
 -- a branch's commands and looks are for a branch's book, and head office's words for its own
 abbrev pub IsFor : Option ℕ → TillAct → Type 0

@@ -183,8 +183,8 @@ fn give_once<S: Alter, K: WallClock, V: Server, L: Shelf, W: Watch>(
     }
 }
 
-/// Enters a command, sends what waits and then the command. If its moment is before the branch's last, it never acts,
-/// and the command is entered anew, later and later, up to two minutes ahead of the clock.
+/// Enters a command, sends what waits and then the command. If its moment is before the branch's last, it never acts.
+/// Then the command is entered anew, later and later, up to two minutes ahead of the clock.
 pub(crate) fn give<S: Alter, K: WallClock, V: Server, L: Shelf, W: Watch>(
     desk: &Desk<'_, K, V, L>,
     conn: &mut Connection<S>,

@@ -177,8 +177,12 @@ impl From<DeskFault> for TillFault {
             DeskFault::Book => TillFault::Book,
             DeskFault::Full => TillFault::Full,
             DeskFault::Memory => TillFault::Memory,
-            DeskFault::NoEntry | DeskFault::NotLater => TillFault::OtherBook,
-            DeskFault::Unanswered => TillFault::Unanswered,
+            DeskFault::NoCommand
+            | DeskFault::OtherKey
+            | DeskFault::NotLater
+            | DeskFault::OtherBook
+            | DeskFault::NoEntry => TillFault::OtherBook,
+            DeskFault::Unopened | DeskFault::Unanswered(_) => TillFault::Unanswered,
             DeskFault::NotNow => TillFault::NotNow,
             DeskFault::NotKnown => TillFault::NotKnown,
         }

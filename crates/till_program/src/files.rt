@@ -72,7 +72,7 @@ fn fault_at(rt: &HostRuntime, path: &str, fault: BookFault) -> TillFault {
     TillFault::from(fault)
 }
 
-/// Returns the name of the file that a window makes beside a book that it wants while another window has it.
+/// Returns the name of the file that a window makes beside a book that it wants while another window holds that book.
 fn wanted_at(alloc: Global, path: &str) -> Option<String> {
     format!(in alloc; "{path}.wanted").ok()
 }

@@ -4,7 +4,7 @@ ghost use Rattle.std.specs.Prelude.{◌≡◌, false, Some, IfOk};
 ghost use Rattle.sqlite.specs.Held.{state};
 ghost use Rattle.sqlite.specs.State.{HasCleanDisk};
 ghost use Rattle.till_book.specs.Steps.{Stays};
-ghost use Rattle.till_program.specs.Word.{IsHeldIn};
+ghost use Rattle.till_program.specs.Word.{IsHeldIn, IsRenterIn};
 
 use crate::book::Book;
 use crate::caches::Shelf;
@@ -89,7 +89,7 @@ pub(crate) fn owed<K: WallClock, V: Server, L: Shelf>(
     Ok(balance_line(desk.alloc, name.as_str(), answer.body.as_slice())?)
 }
 
-/// Returns the customer whose rental it is, if the book knows. The book stays.
+/// Returns the customer whose rental it is, if the register knows. The book stays.
 pub(crate) fn customer_of<S: Alter>(
     conn: &mut Connection<S>,
     rental: RentalNo,
@@ -98,6 +98,8 @@ pub(crate) fn customer_of<S: Alter>(
     ensures ended { conn.new.in_transaction ≡ false }
     ensures clean { HasCleanDisk (state S.Store conn.new) → HasCleanDisk (state S.Store conn.old) }
     ensures stays { HasCleanDisk (state S.Store conn.new) → Stays (state S.Store conn.old) (state S.Store conn.new) }
+    ensures renter { HasCleanDisk (state S.Store conn.new)
+        → IfOk result (λ customer. IsRenterIn rental customer (state S.Store conn.old)) }
 {
     match renter_of(conn, rental) {
         Ok(customer) => Ok(customer),

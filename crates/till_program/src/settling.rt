@@ -6,7 +6,8 @@ ghost use Rattle.sqlite.specs.State.{HasCleanDisk};
 ghost use Rattle.shop_model.specs.Values.{Text};
 ghost use Rattle.till_book.specs.Steps.{Stays};
 ghost use Rattle.till_work.specs.Told.{IsTold};
-ghost use Rattle.till_program.specs.Faults.{IsBookKept, IsSettlingKept};
+ghost use Rattle.till_work.specs.Desk.{IsBookKept as IsDeskKept};
+ghost use Rattle.till_program.specs.Faults.{IsBookKept};
 ghost use Rattle.till_program.specs.Word.{EntersNothing, KeepsATillsBook};
 
 use crate::caches::Shelf;
@@ -18,7 +19,7 @@ use sqlite::{Alter, Connection};
 use std::alloc::Global;
 use till_book::{EntryNumber, last_accepted, unsure_of};
 use till_shows::reply_line;
-use till_work::{Server, SettleFault, Settled, settle};
+use till_work::{DeskFault, Server, Settled, settle};
 
 /// Returns the numbers of the entries to make sure of, at most ten: those before the last accepted one that were
 /// refused, may still act, and may get another reply. The book stays.
@@ -47,10 +48,10 @@ fn open_entries<S: Alter>(
 fn say_settled<K: WallClock, V: Server, L: Shelf>(
     desk: &Desk<'_, K, V, L>,
     number: u32,
-    settled: Result<Settled, SettleFault>,
+    settled: Result<Settled, DeskFault>,
     said: &mut Said,
 ) -> Result<bool, TillFault>
-    ensures { IsBookKept result → IsSettlingKept settled }
+    ensures { IsBookKept result → IsDeskKept settled }
 {
     match settled {
         Ok(Settled::Acted(answer)) => {
@@ -62,8 +63,20 @@ fn say_settled<K: WallClock, V: Server, L: Shelf>(
             Ok(true)
         }
         Ok(_) => Ok(true),
-        Err(SettleFault::Book(_)) => Err(TillFault::Book),
-        Err(SettleFault::NoEntry | SettleFault::Unanswered(_) | SettleFault::NotNow) => Ok(false),
+        Err(DeskFault::Book) => Err(TillFault::Book),
+        Err(
+            DeskFault::Full
+            | DeskFault::Memory
+            | DeskFault::NoCommand
+            | DeskFault::OtherKey
+            | DeskFault::NotLater
+            | DeskFault::OtherBook
+            | DeskFault::NoEntry
+            | DeskFault::Unopened
+            | DeskFault::Unanswered(_)
+            | DeskFault::NotNow
+            | DeskFault::NotKnown,
+        ) => Ok(false),
     }
 }
 
@@ -123,9 +136,9 @@ fn settle_refused<S: Alter, K: WallClock, V: Server, L: Shelf>(
     Ok(())
 }
 
-/// Makes sure of some refused entries of a branch's book, if a later one was accepted, and adds to what is said which
-/// of them have acted all the same. Nothing is entered or recorded but their settlements, unless the book failed. Head
-/// office's commands have no moment, so one that was refused could still be done: it isn't sent again.
+/// Makes sure of some refused entries of a branch's book, if a later one was accepted. Says which of them have acted
+/// all the same. Nothing is entered or recorded but their settlements, unless the book failed. Head office's commands
+/// have no moment, so one that was refused could still be done: it isn't sent again.
 pub fn make_sure<S: Alter, K: WallClock, V: Server, L: Shelf>(
     desk: &Desk<'_, K, V, L>,
     conn: &mut Connection<S>,

@@ -1,6 +1,6 @@
 //! One word at an open book.
 
-ghost use Rattle.std.specs.Prelude.{◌≡◌, ◌⊎◌, false, None, Err, IfOk, IfErr, OnOk, IsSome};
+ghost use Rattle.std.specs.Prelude.{◌≡◌, ◌⊎◌, true, false, None, Err, is_ok, IfOk, IfErr, OnOk, IsSome};
 ghost use Rattle.sqlite.specs.Held.{state};
 ghost use Rattle.sqlite.specs.State.{HasCleanDisk};
 ghost use Rattle.shop_types.specs.Seen.{seen_act};
@@ -9,8 +9,16 @@ ghost use Rattle.till_work.specs.Told.{IsTold};
 ghost use Rattle.till_work.specs.Desk.{GoesOn, Grows};
 ghost use Rattle.till_program.specs.Faults.{IsBookKept, IsReading, giver_of, others_fault};
 ghost use Rattle.till_program.specs.Giving.{GivesAct};
-ghost use Rattle.till_program.specs.Word.{KeepsATillsBook, KeepsABook, IsFor, IsPlannedFor};
-ghost use Rattle.till_program.specs.Doing.{IsPlanOf, IsCarriedOut, DoesWord};
+ghost use Rattle.till_program.specs.Word.{
+  KeepsATillsBook,
+  KeepsABook,
+  EntersOrSends,
+  IsDebtor,
+  IsFor,
+  IsOwnBook,
+  IsPlannedFor,
+};
+ghost use Rattle.till_program.specs.Doing.{IsPlanOf, IsCarriedOut, DoesWord, office_planned};
 
 use crate::book::Book;
 use crate::caches::Shelf;
@@ -27,11 +35,12 @@ use crate::said::Said;
 use crate::sendings::{send, waited};
 use shop_types::{Act, CopyNo, CustomerNo, Moment};
 use sqlite::{Alter, Connection};
+use std::alloc::Global;
 use till_requests::is_office_look;
 use till_words::{TillAct, TillLook, WordList, help_text};
 use till_work::{Server, Watch};
 
-/// What a word results in, once the book was looked at.
+/// What is to be done for a word, once the book was looked at.
 enum Plan {
     /// A command is entered, and then it is said what the customer owes.
     Give(Act, Option<CustomerNo>),
@@ -39,44 +48,56 @@ enum Plan {
     Office(WordList),
     /// What waits is sent.
     Send,
-    /// Everything was asked for that there is to say.
-    Say(Said),
+    /// The server is asked for a look of the branch.
+    Look(TillLook),
+    /// The server is asked for a reading of head office.
+    ReadOffice(WordList),
+    /// The entries that have no reply yet are shown.
+    Waiting,
+    /// The last entries are shown, up to that many.
+    Last(u32),
+    /// The words that there are are said, as a usage.
+    Usage,
 }
 
-/// Refuses a book that another till's settings are beside.
-fn is_own<K: WallClock, V: Server, L: Shelf>(
-    desk: &Desk<'_, K, V, L>,
-    book: &Book,
-) -> Result<(), TillFault> {
-    if book.has_mark(&desk.settings.mark) {
+/// Refuses a book whose last entry was entered with another till's mark.
+fn is_own(book: &Book) -> Result<(), TillFault>
+    ensures own { is_ok result ≡ book.now.is_own }
+    ensures other { IfErr result (λ fault. fault ≡ TillFault.OtherBook) }
+{
+    if book.is_own {
         Ok(())
     } else {
         Err(TillFault::OtherBook)
     }
 }
 
-/// Plans head office's words, which are for its own book.
+/// Plans head office's words, which are for its own book: a reading, or words to enter.
 fn office_plan<K: WallClock, V: Server, L: Shelf>(
     desk: &Desk<'_, K, V, L>,
     book: &Book,
     words: WordList,
 ) -> Result<Plan, TillFault>
     ensures planned { IfOk result (IsPlannedFor desk.now.settings.now.staff) }
+    ensures acts { IfOk result (λ it. it ≡ office_planned words) }
     ensures own { OnOk result (desk.now.settings.now.staff ≡ None) }
     ensures others { IsSome desk.now.settings.now.staff → result ≡ Err (others_fault desk.now.settings.now.staff) }
+    ensures marked { OnOk result (book.now.is_own ≡ true) }
+    ensures foreign { desk.now.settings.now.staff ≡ None → book.now.is_own ≡ false
+        → result ≡ Err TillFault.OtherBook }
 {
     if desk.settings.staff.is_some() {
         return Err(TillFault::IsBranch);
     }
-    is_own(desk, book)?;
+    is_own(book)?;
     if is_office_look(words.as_slice()) {
-        Ok(Plan::Say(read_office(desk, words.as_slice())?))
+        Ok(Plan::ReadOffice(words))
     } else {
         Ok(Plan::Office(words))
     }
 }
 
-/// Returns the customer of a return's rental, if the book knows, and none of another act. The book stays.
+/// Returns the customer of a return's rental, if the register knows, and none of another act. The book stays.
 fn customer_in<S: Alter>(
     conn: &mut Connection<S>,
     act: &Act,
@@ -85,6 +106,8 @@ fn customer_in<S: Alter>(
     ensures ended { conn.new.in_transaction ≡ false }
     ensures clean { HasCleanDisk (state S.Store conn.new) → HasCleanDisk (state S.Store conn.old) }
     ensures stays { HasCleanDisk (state S.Store conn.new) → Stays (state S.Store conn.old) (state S.Store conn.new) }
+    ensures debtor { HasCleanDisk (state S.Store conn.new)
+        → IfOk result (λ customer. IsDebtor act.now customer (state S.Store conn.old)) }
 {
     if let Act::TakeBack(rental) = act {
         return customer_of(conn, *rental);
@@ -104,12 +127,16 @@ fn act_plan<S: Alter, K: WallClock, V: Server, L: Shelf>(
     ensures clean { HasCleanDisk (state S.Store conn.new) → HasCleanDisk (state S.Store conn.old) }
     ensures stays { HasCleanDisk (state S.Store conn.new) → Stays (state S.Store conn.old) (state S.Store conn.new) }
     ensures planned { IfOk result (IsPlannedFor desk.now.settings.now.staff) }
-    ensures acts { IfOk result (IsPlanOf (state S.Store conn.old) (TillAct.Do act)) }
+    ensures acts { HasCleanDisk (state S.Store conn.new)
+        → IfOk result (IsPlanOf (state S.Store conn.old) (TillAct.Do act)) }
     ensures own { OnOk result (IsSome desk.now.settings.now.staff) }
     ensures others { desk.now.settings.now.staff ≡ None → result ≡ Err (others_fault desk.now.settings.now.staff) }
+    ensures marked { OnOk result (book.now.is_own ≡ true) }
+    ensures foreign { IsSome desk.now.settings.now.staff → book.now.is_own ≡ false
+        → result ≡ Err TillFault.OtherBook }
 {
     let _ = desk.giver()?;
-    is_own(desk, book)?;
+    is_own(book)?;
     let customer = customer_in(conn, &act)?;
     Ok(Plan::Give(act, customer))
 }
@@ -130,40 +157,42 @@ fn copy_plan<S: Alter, K: WallClock, V: Server, L: Shelf>(
         → IfOk result (IsPlanOf (state S.Store conn.old) (TillAct.ReturnCopy copy)) }
     ensures own { OnOk result (IsSome desk.now.settings.now.staff) }
     ensures others { desk.now.settings.now.staff ≡ None → result ≡ Err (others_fault desk.now.settings.now.staff) }
+    ensures marked { OnOk result (book.now.is_own ≡ true) }
+    ensures foreign { IsSome desk.now.settings.now.staff → book.now.is_own ≡ false
+        → result ≡ Err TillFault.OtherBook }
 {
     let _ = desk.giver()?;
-    is_own(desk, book)?;
+    is_own(book)?;
     let held = rental_at(desk, conn, book, copy)?;
     Ok(Plan::Give(Act::TakeBack(held.rental), Some(held.customer)))
 }
 
 /// Plans the sending of what waits.
-fn send_plan<K: WallClock, V: Server, L: Shelf>(
-    desk: &Desk<'_, K, V, L>,
-    book: &Book,
-) -> Result<Plan, TillFault>
-    ensures { IfOk result (λ plan. plan ≡ Plan.Send) }
+fn send_plan(book: &Book) -> Result<Plan, TillFault>
+    ensures acts { IfOk result (λ plan. plan ≡ Plan.Send) }
+    ensures marked { OnOk result (book.now.is_own ≡ true) }
+    ensures foreign { book.now.is_own ≡ false → result ≡ Err TillFault.OtherBook }
 {
-    is_own(desk, book)?;
+    is_own(book)?;
     Ok(Plan::Send)
 }
 
 /// Plans a look, which is a branch's.
 fn look_plan<K: WallClock, V: Server, L: Shelf>(
     desk: &Desk<'_, K, V, L>,
-    book: &Book,
     it: TillLook,
 ) -> Result<Plan, TillFault>
     ensures planned { IfOk result (IsPlannedFor desk.now.settings.now.staff) }
+    ensures acts { IfOk result (λ plan. plan ≡ Plan.Look it) }
     ensures own { OnOk result (IsSome desk.now.settings.now.staff) }
     ensures others { desk.now.settings.now.staff ≡ None → result ≡ Err (others_fault desk.now.settings.now.staff) }
 {
     let _ = desk.giver()?;
-    Ok(Plan::Say(look(desk, it, book.last)?))
+    Ok(Plan::Look(it))
 }
 
-/// Plans a word: looks are asked for at once, and a return by copy is of the rental that the register has of it. The
-/// book stays.
+/// Plans a word. For a return the register is read: by copy it is of the rental that the register has of it. The book
+/// stays.
 fn plan_of<S: Alter, K: WallClock, V: Server, L: Shelf>(
     desk: &Desk<'_, K, V, L>,
     conn: &mut Connection<S>,
@@ -179,20 +208,20 @@ fn plan_of<S: Alter, K: WallClock, V: Server, L: Shelf>(
     ensures own { OnOk result (IsFor desk.now.settings.now.staff act) }
     ensures others { ¬ IsFor desk.now.settings.now.staff act
         → result ≡ Err (others_fault desk.now.settings.now.staff) }
+    ensures marked { EntersOrSends act → OnOk result (book.now.is_own ≡ true) }
+    ensures foreign { EntersOrSends act → IsFor desk.now.settings.now.staff act → book.now.is_own ≡ false
+        → result ≡ Err TillFault.OtherBook }
 {
     match act {
         TillAct::Do(act) => act_plan(desk, conn, book, act),
         TillAct::ReturnCopy(copy) => copy_plan(desk, conn, book, copy),
         TillAct::Office(words) => office_plan(desk, book, words),
-        TillAct::Send => send_plan(desk, book),
-        TillAct::Look(it) => look_plan(desk, book, it),
-        TillAct::Waiting => Ok(Plan::Say(waiting_entries(desk, conn, book)?)),
-        TillAct::Last(count) => Ok(Plan::Say(last_entries(desk, conn, book, count)?)),
+        TillAct::Send => send_plan(book),
+        TillAct::Look(it) => look_plan(desk, it),
+        TillAct::Waiting => Ok(Plan::Waiting),
+        TillAct::Last(count) => Ok(Plan::Last(count)),
         TillAct::Help | TillAct::Init(_) | TillAct::Import { .. } | TillAct::Prompt => {
-            Ok(Plan::Say(Said {
-                text: help_text(desk.alloc)?,
-                status: 2,
-            }))
+            Ok(Plan::Usage)
         }
     }
 }
@@ -255,7 +284,15 @@ fn give_and_tell<S: Alter, K: WallClock, V: Server, L: Shelf, W: Watch>(
     told(desk, act, customer, book.last, &it, table)
 }
 
-/// Carries out a plan, and says what it resulted in.
+/// Says the words that there are, as a usage.
+fn usage(alloc: Global) -> Result<Said, TillFault> {
+    Ok(Said {
+        text: help_text(alloc)?,
+        status: 2,
+    })
+}
+
+/// Carries out a plan, and says what it resulted in. A look leaves the book as it is.
 fn carry_out<S: Alter, K: WallClock, V: Server, L: Shelf, W: Watch>(
     desk: &Desk<'_, K, V, L>,
     conn: &mut Connection<S>,
@@ -282,21 +319,25 @@ fn carry_out<S: Alter, K: WallClock, V: Server, L: Shelf, W: Watch>(
         S.Store conn.old) book.new.place (state S.Store conn.new) }
 {
     match plan {
-        Plan::Say(said) => Ok(said),
+        Plan::Give(act, customer) => give_and_tell(desk, conn, book, &act, customer, watch),
         Plan::Office(words) => give_office(desk, conn, book, words.as_slice(), watch),
         Plan::Send => send(desk, conn, &mut book.place, watch),
-        Plan::Give(act, customer) => give_and_tell(desk, conn, book, &act, customer, watch),
+        Plan::Look(it) => look(desk, it, book.last),
+        Plan::ReadOffice(words) => read_office(desk, words.as_slice()),
+        Plan::Waiting => waiting_entries(desk, conn, book),
+        Plan::Last(count) => last_entries(desk, conn, book, count),
+        Plan::Usage => usage(desk.alloc),
     }
 }
 
 /// Does a word at an open book, and says what it resulted in. An act that was typed is given once. A copy that comes
-/// back is the return of the register's rental. After `send` each entry has its reply.
+/// back is the return of the register's rental. After `send` each entry has its reply. A look leaves the book as it is.
 ///
 /// A branch's book stays one unless it failed, and what is in it stays, in head office's book too. A branch's command
-/// or look at head office's book, whoever gives it, and head office's words at a branch's are refused, and nothing is
-/// entered: `IsOffice`, `IsBranch`. If another till's settings are beside the book, a word that enters or sends is
-/// refused: `OtherBook`. A word that makes a book, a prompt, or a stock file that is still to be read is answered as a
-/// usage.
+/// or look at head office's book is refused, whoever gives it: `IsOffice`. Head office's words at a branch's book are
+/// refused: `IsBranch`. If the last entry was entered with another mark than the settings', a word that enters or sends
+/// is refused, and the book stays: `OtherBook`. A word that makes a book, a prompt, or a stock file that is still to be
+/// read is answered as a usage.
 pub fn do_word<S: Alter, K: WallClock, V: Server, L: Shelf, W: Watch>(
     desk: &Desk<'_, K, V, L>,
     conn: &mut Connection<S>,
@@ -321,8 +362,16 @@ pub fn do_word<S: Alter, K: WallClock, V: Server, L: Shelf, W: Watch>(
         ⊎ (fault ≡ others_fault desk.now.settings.now.staff)) }
     ensures stays { HasCleanDisk (state S.Store conn.new) → ¬ IsFor desk.now.settings.now.staff act
         → Stays (state S.Store conn.old) (state S.Store conn.new) }
+    ensures marked { HasCleanDisk (state S.Store conn.new) → EntersOrSends act
+        → OnOk result (IsOwnBook desk.now.settings.now.mark (state S.Store conn.old)) }
+    ensures foreign { HasCleanDisk (state S.Store conn.new) → EntersOrSends act → IsFor desk.now.settings.now.staff act
+        → ¬ IsOwnBook desk.now.settings.now.mark (state S.Store conn.old)
+        → IfErr result (λ fault. IsReading fault ⊎ (fault ≡ TillFault.OtherBook)) }
+    ensures untouched { HasCleanDisk (state S.Store conn.new) → EntersOrSends act
+        → ¬ IsOwnBook desk.now.settings.now.mark (state S.Store conn.old)
+        → Stays (state S.Store conn.old) (state S.Store conn.new) }
 {
-    let mut book = Book::read(desk.alloc, desk.routes, conn)?;
+    let mut book = Book::read(desk.alloc, desk.routes, &desk.settings.mark, conn)?;
     let plan = plan_of(desk, conn, &book, act)?;
     carry_out(desk, conn, &mut book, plan, watch)
 }

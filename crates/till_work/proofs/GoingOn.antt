@@ -11,14 +11,9 @@ use Rattle.till_book.specs.Steps as book
 use Rattle.till_book.specs.Steps.{Rests, IsNextReply, IsEntered}
 use Rattle.till_work.specs.Entering.{Enters, FailsToEnter}
 use Rattle.till_work.specs.Delivering.{Delivers, FailsToDeliver}
-use Rattle.till_work.specs.declared.entering.EnterFault.{EnterFault}
-use Rattle.till_work.specs.declared.entering.EnterFault.TheVariants as enter
-use Rattle.till_work.specs.declared.delivering.DeliverFault.{DeliverFault}
-use Rattle.till_work.specs.declared.delivering.DeliverFault.TheVariants as deliver
 use Rattle.till_work.specs.declared.fault.DeskFault.{DeskFault}
 use Rattle.till_work.specs.declared.fault.DeskFault.TheVariants as desk
 use Rattle.till_work.specs.declared.place.Place.{Place}
-use Rattle.till_work.specs.Faults.{entering_fault, sending_fault}
 use Rattle.till_work.specs.Told.{IsTold, IsToldAt, AreTold, AreSettled, IsUnanswered, IsPutOff}
 use Rattle.till_work.specs.Desk.{HasPlace, IsAt, Extends, Becomes, HasMore, GoesOn, Grows, Stays, EntersOne, AnswersOne, AreSent, Sends, TellsLast, IsLastOf, with_replies, IsWhy, FailsToTell, FailsToSend, IsBookKept}
 use Rattle.till_work.proofs.Telling.{all_told_more, told_then, all_settled_more, settled_then}
@@ -231,36 +226,6 @@ module _ (Tells : List ℕ → Answer → Type 0) where
 
 -- ---- what the book's calls say
 
-pub enters_one : (mark token : Text) (n : ℕ) (command : Command) (request : List ℕ) (before after : Place) (old new : State) → n ≡ before.entries + 1
-    → after ≡ record before { entries = n } → Enters mark token n command request old new → EntersOne mark token request before old after new
-enters_one mark token n command request before after old new counted same it journal commands at =
-    let next : n ≡ length journal.entries + 1 = counted ∙ ap (λ k. k + 1) at.entries in (
-      command,
-      it.says,
-      rw same (record {
-        rests = it.entered journal at.rests next;
-        book = it.keeps journal commands at.rests next at.book;
-        entries = next ∙ sym (length_behind journal.entries request);
-        replies = at.replies;
-      }),
-    )
-
-failing_entering : (mark token : Text) (n : ℕ) (fault : EnterFault) (request : List ℕ) (old new : State) → FailsToEnter mark token n fault request old new
-    → entering_fault fault ≢ desk.Book → book.Stays old new
-failing_entering mark token n (enter.Book it) request old new fails kept = absurd (kept refl)
-failing_entering mark token n enter.Memory request old new fails kept = fails
-failing_entering mark token n enter.NoCommand request old new fails kept = fails.0
-failing_entering mark token n enter.OtherKey request old new fails kept = fails.0
-failing_entering mark token n enter.NotLater request old new fails kept = fails.0
-failing_entering mark token n enter.OtherBook request old new fails kept = fails.0
-
--- a command that wasn't entered leaves the book as it was
-pub unentered_stays : {A : Type 0} (mark token : Text) (n : ℕ) (entered : Result A EnterFault) (fault : EnterFault) (request : List ℕ) (place : Place) (old new : State) → entered ≡ Err fault
-    → IfErr entered (λ it. FailsToEnter mark token n it request old new) → entering_fault fault ≢ desk.Book → Stays place old place new
-unentered_stays {A} mark token n entered fault request place old new is fails kept =
-    let failed : FailsToEnter mark token n fault request old new = subst (λ (r : Result A EnterFault). IfErr r (λ it. FailsToEnter mark token n it request old new)) is fails in
-    rests_stays place old new (failing_entering mark token n fault request old new failed kept)
-
 module _ {R W : Type 0} (opens : R → W → Type 0) (remaining : R → Option (List ℕ)) (contents : W → Option (List ℕ)) where
   -- what was delivered over streams that were opened was told over them
   pub delivers_one : (n : ℕ) (answer : Read) (before after : Place) (old new : State) (reader read : R) (writer written : W) → n ≡ before.replies + 1
@@ -294,15 +259,23 @@ none_stays n place old new input left output written counted it journal has =
     let next : n ≡ length journal.replies + 1 = counted ∙ ap (λ k. k + 1) has.replies in
     record { rests = (it journal has.rests next).rests; entries = has.entries; replies = has.replies }
 
-failing_sending : (n : ℕ) (fault : DeliverFault) (old new : State) (output written : Option (List ℕ)) → FailsToDeliver n fault old new output written
-    → sending_fault fault ≢ desk.Book → (journal : Journal) → Rests old journal → IsNextReply n journal → Rests new journal
-failing_sending n (deliver.Unanswered it) old new output written fails kept journal rests next = (fails journal rests next).0
-failing_sending n deliver.NotNow old new output written fails kept journal rests next = (fails journal rests next).0
-failing_sending n deliver.NotKnown old new output written fails kept journal rests next = (fails journal rests next).0
-failing_sending n (deliver.Book it) old new output written fails kept journal rests next = absurd (kept refl)
+failing_sending : (n : ℕ) (fault : DeskFault) (old new : State) (output written : Option (List ℕ)) → FailsToDeliver n fault old new output written → fault ≢ desk.Book
+    → (journal : Journal) → Rests old journal → IsNextReply n journal → Rests new journal
+failing_sending n (desk.Unanswered why) old new output written fails kept journal rests next = (fails journal rests next).0
+failing_sending n desk.NotNow old new output written fails kept journal rests next = (fails journal rests next).0
+failing_sending n desk.NotKnown old new output written fails kept journal rests next = (fails journal rests next).0
+failing_sending n desk.Book old new output written fails kept journal rests next = absurd (kept refl)
+failing_sending n desk.Full old new output written fails kept journal rests next = absurd fails
+failing_sending n desk.Memory old new output written fails kept journal rests next = absurd fails
+failing_sending n desk.NoCommand old new output written fails kept journal rests next = absurd fails
+failing_sending n desk.OtherKey old new output written fails kept journal rests next = absurd fails
+failing_sending n desk.NotLater old new output written fails kept journal rests next = absurd fails
+failing_sending n desk.OtherBook old new output written fails kept journal rests next = absurd fails
+failing_sending n desk.NoEntry old new output written fails kept journal rests next = absurd fails
+failing_sending n desk.Unopened old new output written fails kept journal rests next = absurd fails
 
-pub failing_stays : (n : ℕ) (fault : DeliverFault) (place : Place) (old new : State) (output written : Option (List ℕ)) → n ≡ place.replies + 1
-    → FailsToDeliver n fault old new output written → sending_fault fault ≢ desk.Book → Stays place old place new
+pub failing_stays : (n : ℕ) (fault : DeskFault) (place : Place) (old new : State) (output written : Option (List ℕ)) → n ≡ place.replies + 1
+    → FailsToDeliver n fault old new output written → fault ≢ desk.Book → Stays place old place new
 failing_stays n fault place old new output written counted fails kept journal has = record {
   rests = failing_sending n fault old new output written fails kept journal has.rests (counted ∙ ap (λ k. k + 1) has.replies);
   entries = has.entries;
@@ -312,43 +285,42 @@ failing_stays n fault place old new output written counted fails kept journal ha
 -- ---- why nothing was told
 
 module _ {R W : Type 0} (refuses : Type 0) (opens : R → W → Type 0) (contents : W → Option (List ℕ)) where
-  pub why_unopened : (place : Place) (s : State) → refuses → FailsToTell refuses opens contents place s desk.Unanswered
-  why_unopened place s is journal has = inl is
-
   pub why_none : (n : ℕ) (place : Place) (old new : State) (input left output written : Option (List ℕ)) → n ≡ place.replies + 1
       → Delivers n None old new input left output written → FailsToTell refuses opens contents place old desk.NoEntry
   why_none n place old new input left output written counted it journal has =
       let next : n ≡ length journal.replies + 1 = counted ∙ ap (λ k. k + 1) has.replies in
       (it journal has.rests next).none
 
-  why_delivering : (n : ℕ) (fault : DeliverFault) (place : Place) (old new : State) (reader : R) (writer written : W) → n ≡ place.replies + 1 → opens reader writer
-      → FailsToDeliver n fault old new (contents writer) (contents written) → FailsToTell refuses opens contents place old (sending_fault fault)
-  why_delivering n (deliver.Unanswered it) place old new reader writer written counted opened fails journal has =
-      let next : n ≡ length journal.replies + 1 = counted ∙ ap (λ k. k + 1) has.replies in
-      let one = (fails journal has.rests next).1 in
-      inr (one.0, one.1, record { reader = reader; writer = writer; written = written; fault = it; opened = opened; writes = one.2 })
-  why_delivering n deliver.NotNow place old new reader writer written counted opened fails journal has =
+  pub why_failed : (n : ℕ) (fault : DeskFault) (place : Place) (old new : State) (reader : R) (writer written : W) → n ≡ place.replies + 1 → opens reader writer
+      → FailsToDeliver n fault old new (contents writer) (contents written) → FailsToTell refuses opens contents place old fault
+  why_failed n (desk.Unanswered why) place old new reader writer written counted opened fails journal has =
       let next : n ≡ length journal.replies + 1 = counted ∙ ap (λ k. k + 1) has.replies in
       let one = (fails journal has.rests next).1 in
       (one.0, one.1, record { reader = reader; writer = writer; written = written; opened = opened; writes = one.2 })
-  why_delivering n deliver.NotKnown place old new reader writer written counted opened fails journal has =
+  why_failed n desk.NotNow place old new reader writer written counted opened fails journal has =
       let next : n ≡ length journal.replies + 1 = counted ∙ ap (λ k. k + 1) has.replies in
       let one = (fails journal has.rests next).1 in
       (one.0, one.1, record { reader = reader; writer = writer; written = written; opened = opened; writes = one.2 })
-  why_delivering n (deliver.Book it) place old new reader writer written counted opened fails journal has = tt
-
-  pub why_failed : (n : ℕ) (fault : DeliverFault) (told : DeskFault) (place : Place) (old new : State) (reader : R) (writer written : W) → told ≡ sending_fault fault
-      → n ≡ place.replies + 1 → opens reader writer → FailsToDeliver n fault old new (contents writer) (contents written) → FailsToTell refuses opens contents place old told
-  why_failed n fault told place old new reader writer written is counted opened fails =
-      rw is (why_delivering n fault place old new reader writer written counted opened fails)
+  why_failed n desk.NotKnown place old new reader writer written counted opened fails journal has =
+      let next : n ≡ length journal.replies + 1 = counted ∙ ap (λ k. k + 1) has.replies in
+      let one = (fails journal has.rests next).1 in
+      (one.0, one.1, record { reader = reader; writer = writer; written = written; opened = opened; writes = one.2 })
+  why_failed n desk.Book place old new reader writer written counted opened fails journal has = tt
+  why_failed n desk.Full place old new reader writer written counted opened fails journal has = absurd fails
+  why_failed n desk.Memory place old new reader writer written counted opened fails journal has = absurd fails
+  why_failed n desk.NoCommand place old new reader writer written counted opened fails journal has = absurd fails
+  why_failed n desk.OtherKey place old new reader writer written counted opened fails journal has = absurd fails
+  why_failed n desk.NotLater place old new reader writer written counted opened fails journal has = absurd fails
+  why_failed n desk.OtherBook place old new reader writer written counted opened fails journal has = absurd fails
+  why_failed n desk.NoEntry place old new reader writer written counted opened fails journal has = absurd fails
+  why_failed n desk.Unopened place old new reader writer written counted opened fails journal has = absurd fails
 
   -- from where the book was the same
-  pub why_before : (told fault : DeskFault) (before mid : Place) (old between : State) → fault ≡ told → mid ≡ before → Stays before old mid between
-      → FailsToTell refuses opens contents mid between fault → FailsToTell refuses opens contents before old told
-  why_before told fault before mid old between is same stays fails journal has =
+  pub why_before : (fault : DeskFault) (before mid : Place) (old between : State) → mid ≡ before → Stays before old mid between
+      → FailsToTell refuses opens contents mid between fault → FailsToTell refuses opens contents before old fault
+  why_before fault before mid old between same stays fails journal has =
       let why : IsWhy refuses opens contents mid journal fault = fails journal (stays journal has) in
-      let there : IsWhy refuses opens contents before journal fault = subst (λ (place : Place). IsWhy refuses opens contents place journal fault) same why in
-      subst (λ (it : DeskFault). IsWhy refuses opens contents before journal it) is there
+      subst (λ (place : Place). IsWhy refuses opens contents place journal fault) same why
 
   pub why_then : (Tells : List ℕ → Answer → Type 0) (last : Option Read) (fault : DeskFault) (before mid after : Place) (old between new : State)
       → TellsLast Tells last before old mid between → (fault ≢ desk.Book → Stays mid between after new) → after ≡ mid
@@ -367,23 +339,12 @@ module _ {R W : Type 0} (refuses : Type 0) (opens : R → W → Type 0) (content
 pub kept_if : {A : Type 0} (fault : DeskFault) → fault ≢ desk.Book → IsBookKept {A = A} (Err fault)
 kept_if fault other e = other (cc)
 
--- a fault that is told so isn't the book's
-pub kept_other : {A : Type 0} (told fault : DeskFault) → told ≡ fault → IsBookKept {A = A} (Err told) → fault ≢ desk.Book
-kept_other told fault same kept e = kept (rw (same, e) refl)
+-- and the other way round
+pub kept_other : {A : Type 0} (fault : DeskFault) → IsBookKept {A = A} (Err fault) → fault ≢ desk.Book
+kept_other fault kept e = kept (rw e refl)
 
 pub kept_as : {A B : Type 0} (fault : DeskFault) → IsBookKept {A = A} (Err fault) → IsBookKept {A = B} (Err fault)
 kept_as fault kept e = kept (let same : fault ≡ desk.Book = cc in rw same refl)
 
--- the command of one that was entered
-pub entered_command : {A E : Type 0} (r : Result A E) (P : A → Type 0) → IfErr r (λ _. ⊥) → IfOk r P → (a : A) × P a
-entered_command (Ok a) P is holds = (a, holds)
-entered_command (Err e) P is holds = absurd is
-
 pub kept_ok : {A : Type 0} (a : A) → IsBookKept (Ok a)
 kept_ok a e = cc
-
-pub kept_unanswered : {A : Type 0} (fault : DeskFault) → fault ≡ desk.Unanswered → IsBookKept {A = A} (Err fault)
-kept_unanswered fault same e = cc
-
-pub kept_not_now : {A : Type 0} (fault : DeskFault) → fault ≡ desk.NotNow → IsBookKept {A = A} (Err fault)
-kept_not_now fault same e = cc

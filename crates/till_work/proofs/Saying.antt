@@ -2,29 +2,17 @@
 use Rattle.std.proofs.Common.{◌≡◌, ◌∙◌, ℕ, zero, suc, ◌+◌, ◌-◌, ◌<◌, ◌^◌, List, [], ◌∷◌, ◌++◌, length, Some, None, Option, refl, sym, subst, ap, arith}
 use Rattle.std.specs.Prelude.{slice_get}
 use Rattle.shop_model.specs.Values.{Text, Command}
-use Rattle.shop_model.proofs.Resends.{same_some, same_none}
+use Rattle.shop_model.proofs.Resends.{same_none}
 use Rattle.till_model.specs.Numbered.{key_of, IsAfterLast}
 use Rattle.till_model.proofs.Numbered.{numbered_more}
 use Rattle.till_client.proofs.SoleMessages.{one_command}
 use Rattle.till_book.specs.Journal.{Journal, with_entry}
 use Rattle.till_book.specs.Steps.{IsNext}
-use Rattle.till_work.specs.Entering.{Says, Say, IsTillsBook, IsLast}
+use Rattle.till_book.specs.Saying.{Says, Say}
+use Rattle.till_book.proofs.Saids.{as_long, said_at}
+use Rattle.till_work.specs.Entering.{IsTillsBook, IsLast}
 
-pub as_long : (entries : List (List ℕ)) (commands : List Command) → Say entries commands → length commands ≡ length entries
-as_long [] [] say = refl
-as_long [] (c ∷ cs) say = absurd say
-as_long (b ∷ bs) [] say = absurd say
-as_long (b ∷ bs) (c ∷ cs) say = ap (λ (n : ℕ). suc n) (as_long bs cs say.1)
-
-pub said_at : (entries : List (List ℕ)) (commands : List Command) (i : ℕ) (bytes : List ℕ) → Say entries commands → slice_get entries i ≡ Some bytes
-    → (command : Command) × (slice_get commands i ≡ Some command) × Says bytes command
-said_at [] [] i bytes say there = absurd (same_none bytes there)
-said_at [] (c ∷ cs) i bytes say there = absurd say
-said_at (b ∷ bs) [] i bytes say there = absurd say
-said_at (b ∷ bs) (c ∷ cs) zero bytes say there = (c, refl, subst (λ (it : List ℕ). Says it c) (same_some b bytes there) say.0)
-said_at (b ∷ bs) (c ∷ cs) (suc i) bytes say there = said_at bs cs i bytes say.1 there
-
--- and they say no others
+-- entries say no other commands
 pub say_one : (entries : List (List ℕ)) (one two : List Command) → Say entries one → Say entries two → one ≡ two
 say_one [] [] [] first second = refl
 say_one [] [] (d ∷ ds) first second = absurd second

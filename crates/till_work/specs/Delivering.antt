@@ -11,8 +11,8 @@ use Rattle.till_book.specs.Steps.{Rests, IsNextReply, LeavesRecorded}
 use Rattle.till_client.specs.Replies.{seen_answer, answer_bytes}
 use Rattle.till_client.specs.Exchanges.{FailsToAsk}
 use Rattle.till_client.specs.declared.replies.Answer.{Answer as Read}
-use Rattle.till_work.specs.declared.delivering.DeliverFault.{DeliverFault}
-use Rattle.till_work.specs.declared.delivering.DeliverFault.TheVariants.{Book, Unanswered, NotNow, NotKnown}
+use Rattle.till_work.specs.declared.fault.DeskFault.{DeskFault}
+use Rattle.till_work.specs.declared.fault.DeskFault.TheVariants.{Book, Full, Memory, NoCommand, OtherKey, NotLater, OtherBook, NoEntry, Unopened, Unanswered, NotNow, NotKnown}
 
 -- That entry was written whole, and the reply was read whole. The reply is recorded for that entry and no other, on the disk too. It says neither that the store
 -- couldn't do its part nor that the server doesn't know who asks.
@@ -43,16 +43,24 @@ abbrev pub OfOldest : Journal → (List ℕ → Type 0) → Type 0
 OfOldest journal Known = (request : List ℕ) × (waiting journal ≡ Some request) × Known request
 
 -- If no reply came, or none that counts, the entry stays without one, and the fault says how much of it was written. If the book failed, nothing was written or the
--- whole entry, and the book is to be opened anew.
-abbrev pub FailsToDeliver : ℕ → DeliverFault → State → State → Option (List ℕ) → Option (List ℕ) → Type 0
-FailsToDeliver n (Unanswered fault) old new output written =
-    (journal : Journal) → Rests old journal → IsNextReply n journal → Rests new journal × OfOldest journal (λ request. FailsToAsk fault request output written)
+-- whole entry, and the book is to be opened anew. Other faults never come.
+abbrev pub FailsToDeliver : ℕ → DeskFault → State → State → Option (List ℕ) → Option (List ℕ) → Type 0
+FailsToDeliver n (Unanswered why) old new output written =
+    (journal : Journal) → Rests old journal → IsNextReply n journal → Rests new journal × OfOldest journal (λ request. FailsToAsk why request output written)
 FailsToDeliver n NotNow old new output written =
     (journal : Journal) → Rests old journal → IsNextReply n journal → Rests new journal × OfOldest journal (λ request. Appends output written request)
 FailsToDeliver n NotKnown old new output written =
     (journal : Journal) → Rests old journal → IsNextReply n journal → Rests new journal × OfOldest journal (λ request. Appends output written request)
-FailsToDeliver n (Book fault) old new output written =
+FailsToDeliver n Book old new output written =
     (journal : Journal) → Rests old journal → IsNextReply n journal → Keeps output written ⊎ OfOldest journal (λ request. Appends output written request)
+FailsToDeliver n Full old new output written = ⊥
+FailsToDeliver n Memory old new output written = ⊥
+FailsToDeliver n NoCommand old new output written = ⊥
+FailsToDeliver n OtherKey old new output written = ⊥
+FailsToDeliver n NotLater old new output written = ⊥
+FailsToDeliver n OtherBook old new output written = ⊥
+FailsToDeliver n NoEntry old new output written = ⊥
+FailsToDeliver n Unopened old new output written = ⊥
 
 -- what a stop may leave on the disk: the book with one more reply, and nothing else
 abbrev pub MayLeave : ℕ → State → Trees → Type 0

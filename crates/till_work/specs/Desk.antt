@@ -1,5 +1,5 @@
 -- An open book of a till, and what changes in it.
-use Rattle.std.specs.Prelude.{◌≡◌, ◌≢◌, ◌⊎◌, ◌^◌, ◌-◌, ⊤, ℕ, List, [], ◌∷◌, ◌++◌, length, Option, Some, None, Result, Err}
+use Rattle.std.specs.Prelude.{◌≡◌, ◌≢◌, ◌^◌, ◌-◌, ⊤, ℕ, List, [], ◌∷◌, ◌++◌, length, Option, Some, None, Result, Err}
 use Rattle.sqlite_trees.specs.Tree.{Trees}
 use Rattle.sqlite.specs.State.{State}
 use Rattle.shop_model.specs.Values.{Text, Command}
@@ -101,9 +101,13 @@ abbrev pub IsWhy : {R W : Type 0} → Type 0 → (R → W → Type 0) → (W →
 IsWhy refuses opens contents place journal fault.Book = ⊤
 IsWhy refuses opens contents place journal fault.Full = place.replies ≡ 2 ^ 32 - 1
 IsWhy refuses opens contents place journal fault.Memory = ⊥
-IsWhy refuses opens contents place journal fault.NoEntry = waiting journal ≡ None
+IsWhy refuses opens contents place journal fault.NoCommand = ⊥
+IsWhy refuses opens contents place journal fault.OtherKey = ⊥
 IsWhy refuses opens contents place journal fault.NotLater = ⊥
-IsWhy refuses opens contents place journal fault.Unanswered = refuses ⊎ OfOldest journal (IsUnanswered opens contents)
+IsWhy refuses opens contents place journal fault.OtherBook = ⊥
+IsWhy refuses opens contents place journal fault.NoEntry = waiting journal ≡ None
+IsWhy refuses opens contents place journal fault.Unopened = refuses
+IsWhy refuses opens contents place journal (fault.Unanswered why) = OfOldest journal (IsUnanswered why opens contents)
 IsWhy refuses opens contents place journal fault.NotNow = OfOldest journal (IsPutOff opens contents)
 IsWhy refuses opens contents place journal fault.NotKnown = OfOldest journal (IsPutOff opens contents)
 

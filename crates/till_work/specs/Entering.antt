@@ -5,11 +5,11 @@ use Rattle.shop_model.specs.Values.{Text, Command}
 use Rattle.shop_model.specs.Calendar.{Moment}
 use Rattle.till_model.specs.Numbered.{key_of, AreNumbered, IsAfterLast}
 use Rattle.till_client.specs.Sealing.{SaysCommand}
-pub use Rattle.till_book.specs.Saying.{Says, Say}
+use Rattle.till_book.specs.Saying.{Say}
 use Rattle.till_book.specs.Journal.{Journal, with_entry}
 use Rattle.till_book.specs.Steps.{Rests, Stays, IsNext, IsEntered}
-use Rattle.till_work.specs.declared.entering.EnterFault.{EnterFault}
-use Rattle.till_work.specs.declared.entering.EnterFault.TheVariants.{Book, Memory, NoCommand, OtherKey, NotLater, OtherBook}
+use Rattle.till_work.specs.declared.fault.DeskFault.{DeskFault}
+use Rattle.till_work.specs.declared.fault.DeskFault.TheVariants.{Book, Full, Memory, NoCommand, OtherKey, NotLater, OtherBook, NoEntry, Unopened, Unanswered, NotNow, NotKnown}
 
 -- ---- the book
 
@@ -39,26 +39,38 @@ pub record Enters (mark token : Text) (n : ℕ) (command : Command) (request : L
       → IsTillsBook mark (with_entry request journal) (commands ++ command ∷ [])
 
 -- why a request is no entry of that number, whatever the book has
-abbrev pub IsUnfit : Text → Text → ℕ → EnterFault → List ℕ → Type 0
+abbrev pub IsUnfit : Text → Text → ℕ → DeskFault → List ℕ → Type 0
 IsUnfit mark token n NoCommand request = (command : Command) → ¬ (SaysCommand request token command)
 IsUnfit mark token n OtherKey request = (command : Command) → SaysCommand request token command → command.key ≢ key_of mark n
 IsUnfit mark token n Memory request = ⊤
-IsUnfit mark token n (Book fault) request = ⊥
+IsUnfit mark token n Book request = ⊥
+IsUnfit mark token n Full request = ⊥
 IsUnfit mark token n NotLater request = ⊥
 IsUnfit mark token n OtherBook request = ⊥
+IsUnfit mark token n NoEntry request = ⊥
+IsUnfit mark token n Unopened request = ⊥
+IsUnfit mark token n (Unanswered why) request = ⊥
+IsUnfit mark token n NotNow request = ⊥
+IsUnfit mark token n NotKnown request = ⊥
 
 -- Why the last entry's moment isn't told: the store failed, or there was no memory, or this isn't the book, or not the number.
-abbrev pub FindsNoLast : ℕ → EnterFault → State → State → Type 0
-FindsNoLast n (Book fault) old new = ⊤
+abbrev pub FindsNoLast : ℕ → DeskFault → State → State → Type 0
+FindsNoLast n Book old new = ⊤
 FindsNoLast n Memory old new = Stays old new
 FindsNoLast n OtherBook old new = Stays old new × ((journal : Journal) (commands : List Command) → Rests old journal → IsNext n journal → ¬ (Say journal.entries commands))
+FindsNoLast n Full old new = ⊥
 FindsNoLast n NoCommand old new = ⊥
 FindsNoLast n OtherKey old new = ⊥
 FindsNoLast n NotLater old new = ⊥
+FindsNoLast n NoEntry old new = ⊥
+FindsNoLast n Unopened old new = ⊥
+FindsNoLast n (Unanswered why) old new = ⊥
+FindsNoLast n NotNow old new = ⊥
+FindsNoLast n NotKnown old new = ⊥
 
--- Nothing is entered, unless the book failed; and why.
-abbrev pub FailsToEnter : Text → Text → ℕ → EnterFault → List ℕ → State → State → Type 0
-FailsToEnter mark token n (Book fault) request old new = ⊤
+-- Nothing is entered, unless the book failed; and why. Faults of sending never come.
+abbrev pub FailsToEnter : Text → Text → ℕ → DeskFault → List ℕ → State → State → Type 0
+FailsToEnter mark token n Book request old new = ⊤
 FailsToEnter mark token n Memory request old new = Stays old new
 FailsToEnter mark token n NoCommand request old new = Stays old new × IsUnfit mark token n NoCommand request
 FailsToEnter mark token n OtherKey request old new = Stays old new × IsUnfit mark token n OtherKey request
@@ -68,3 +80,9 @@ FailsToEnter mark token n NotLater request old new =
     → ¬ (IsAfterLast commands command.moment))
 FailsToEnter mark token n OtherBook request old new =
     Stays old new × ((journal : Journal) (commands : List Command) → Rests old journal → IsNext n journal → ¬ (Say journal.entries commands))
+FailsToEnter mark token n Full request old new = ⊥
+FailsToEnter mark token n NoEntry request old new = ⊥
+FailsToEnter mark token n Unopened request old new = ⊥
+FailsToEnter mark token n (Unanswered why) request old new = ⊥
+FailsToEnter mark token n NotNow request old new = ⊥
+FailsToEnter mark token n NotKnown request old new = ⊥

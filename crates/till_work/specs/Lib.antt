@@ -2,6 +2,5 @@ pub mod Delivering
 pub mod Entering
 pub mod Laws
 pub mod Settling
-pub mod Faults
 pub mod Told
 pub mod Desk

@@ -12,8 +12,8 @@ use Rattle.till_client.specs.Replies.{seen_answer, answer_bytes}
 use Rattle.till_client.specs.Exchanges.{FailsToAsk}
 use Rattle.till_work.specs.declared.settling.Settled.{Settled}
 use Rattle.till_work.specs.declared.settling.Settled.TheVariants.{Acted, Never, Open}
-use Rattle.till_work.specs.declared.settling.SettleFault.{SettleFault}
-use Rattle.till_work.specs.declared.settling.SettleFault.TheVariants.{Book, NoEntry, Unanswered, NotNow}
+use Rattle.till_work.specs.declared.fault.DeskFault.{DeskFault}
+use Rattle.till_work.specs.declared.fault.DeskFault.TheVariants.{Book, Full, Memory, NoCommand, OtherKey, NotLater, OtherBook, NoEntry, Unopened, Unanswered, NotNow, NotKnown}
 
 -- accepted; refused for its moment; neither
 abbrev pub IsSettledBy : Answer → Settled → Type 0
@@ -60,15 +60,23 @@ Settles n settled old new input left output written =
     → WasSettled n settled journal new input left output written ⊎ IsSettled n settled journal new input left output written
 
 -- Without a result the book stays, and the fault says how much of the entry was written. If there is no such entry, nothing was. If the book failed, nothing was written
--- or the whole entry, and the book is to be opened anew.
-abbrev pub FailsToSettle : ℕ → SettleFault → State → State → Option (List ℕ) → Option (List ℕ) → Type 0
-FailsToSettle n (Book fault) old new output written =
+-- or the whole entry, and the book is to be opened anew. Other faults never come.
+abbrev pub FailsToSettle : ℕ → DeskFault → State → State → Option (List ℕ) → Option (List ℕ) → Type 0
+FailsToSettle n Book old new output written =
     (journal : Journal) → Rests old journal → Keeps output written ⊎ OfEntry n journal (λ request. Appends output written request)
 FailsToSettle n NoEntry old new output written =
     (journal : Journal) → Rests old journal → Rests new journal × Keeps output written × ((i : ℕ) → n ≡ i + 1 → slice_get journal.entries i ≡ None)
-FailsToSettle n (Unanswered fault) old new output written =
-    (journal : Journal) → Rests old journal → Rests new journal × OfEntry n journal (λ request. FailsToAsk fault request output written)
+FailsToSettle n (Unanswered why) old new output written =
+    (journal : Journal) → Rests old journal → Rests new journal × OfEntry n journal (λ request. FailsToAsk why request output written)
 FailsToSettle n NotNow old new output written = (journal : Journal) → Rests old journal → Rests new journal × OfEntry n journal (λ request. Appends output written request)
+FailsToSettle n Full old new output written = ⊥
+FailsToSettle n Memory old new output written = ⊥
+FailsToSettle n NoCommand old new output written = ⊥
+FailsToSettle n OtherKey old new output written = ⊥
+FailsToSettle n NotLater old new output written = ⊥
+FailsToSettle n OtherBook old new output written = ⊥
+FailsToSettle n Unopened old new output written = ⊥
+FailsToSettle n NotKnown old new output written = ⊥
 
 -- what a stop may leave on the disk: the book with the settlement, and nothing else
 abbrev pub MayNote : ℕ → State → Trees → Type 0

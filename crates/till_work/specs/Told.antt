@@ -44,13 +44,12 @@ abbrev pub AreSettled : (List ℕ → Answer → Type 0) → List (List ℕ) →
 AreSettled Tells entries settled = AllByRecursion (IsSettledAt Tells entries) settled
 
 -- Over streams that were opened no answer came to the request. The fault says how much of the request was written.
-pub record IsUnanswered {R W : Type 0} (opens : R → W → Type 0) (contents : W → Option (List ℕ)) (request : List ℕ) : Type 0 where
+pub record IsUnanswered {R W : Type 0} (why : AskFault) (opens : R → W → Type 0) (contents : W → Option (List ℕ)) (request : List ℕ) : Type 0 where
   pub reader : R
   pub writer : W
   pub written : W
-  pub fault : AskFault
   pub opened : opens reader writer
-  pub writes : FailsToAsk fault request (contents writer) (contents written)
+  pub writes : FailsToAsk why request (contents writer) (contents written)
 
 -- Over streams that were opened the request was written whole, and the server did nothing.
 pub record IsPutOff {R W : Type 0} (opens : R → W → Type 0) (contents : W → Option (List ℕ)) (request : List ℕ) : Type 0 where

@@ -1,17 +1,15 @@
 //! Adding a request after the last.
 
-ghost use Rattle.std.specs.Prelude.{◌≡◌, ◌+◌, false, Err, OnOk, OnErr, IfErr};
+ghost use Rattle.std.specs.Prelude.{◌≡◌, ◌+◌, false, OnOk, OnErr};
 ghost use Rattle.sqlite.specs.Held.{state};
 ghost use Rattle.sqlite.specs.State.{HasCleanDisk, Survives};
 ghost use Rattle.till_book.specs.Steps.{IsEntered, LeavesEntered};
-ghost use Rattle.till_work.specs.Faults.{entering_fault};
 ghost use Rattle.till_work.specs.Desk.{Stays, EntersOne, LeavesEntry, IsBookKept};
 
-use crate::entering::{EnterFault, enter_command};
+use crate::entering::enter_command;
 use crate::fault::DeskFault;
 use crate::place::Place;
 use counter_routes::Routes;
-use shop_types::Command;
 use sqlite::{Alter, Connection};
 use std::alloc::Global;
 
@@ -23,31 +21,9 @@ pub struct Identity<'t> {
     pub token: &'t [u8],
 }
 
-fn named(fault: EnterFault) -> DeskFault
-    ensures { result ≡ entering_fault fault }
-{
-    match fault {
-        EnterFault::Book(_) => DeskFault::Book,
-        EnterFault::Memory => DeskFault::Memory,
-        EnterFault::NoCommand | EnterFault::OtherKey | EnterFault::OtherBook => DeskFault::NoEntry,
-        EnterFault::NotLater => DeskFault::NotLater,
-    }
-}
-
-/// Drops the command that was entered, and keeps whether one was.
-fn done(entered: Result<Command, EnterFault>) -> Result<(), EnterFault>
-    ensures ok { OnOk result (IfErr entered (λ _. ⊥)) }
-    ensures err { IfErr result (λ fault. entered ≡ Err fault) }
-{
-    match entered {
-        Ok(_) => Ok(()),
-        Err(fault) => Err(fault),
-    }
-}
-
 /// Enters a request after the last, and commits it. The request has to say a command with the till's token. The
 /// command's key has to be the mark and the entry's number, and its moment after the last entry's. Else the call fails
-/// with `NoEntry` or `NotLater`, and nothing is entered.
+/// with `NoCommand`, `OtherKey` or `NotLater`, and nothing is entered.
 pub fn enter<S: Alter>(
     alloc: Global,
     conn: &mut Connection<S>,
@@ -69,7 +45,7 @@ pub fn enter<S: Alter>(
     let Some(number) = place.entries.checked_add(1) else {
         return Err(DeskFault::Full);
     };
-    match done(enter_command(
+    enter_command(
         alloc,
         conn,
         till.routes,
@@ -77,13 +53,9 @@ pub fn enter<S: Alter>(
         till.token,
         number,
         request,
-    )) {
-        Ok(()) => {
-            place.entries = number;
-            Ok(())
-        }
-        Err(fault) => Err(named(fault)),
-    }
+    )?;
+    place.entries = number;
+    Ok(())
 }
 
 /// Enters a request after the last, whatever it says, and commits it. It is for head office's requests, which

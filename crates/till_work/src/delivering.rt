@@ -9,27 +9,14 @@ ghost use Rattle.shop_model.specs.Answers.{answer_of};
 ghost use Rattle.till_client.specs.Replies.{seen_answer};
 ghost use Rattle.till_work.specs.Delivering.{Delivers, FailsToDeliver, MayLeave};
 
+use crate::fault::DeskFault;
 use counter_routes::Routes;
 use shop_types::{Refusal, Reply};
-use sql_rows::StoreFault;
 use sqlite::{Alter, Connection};
 use std::alloc::Global;
 use std::io::{Read, Write};
 use till_book::{oldest, record};
-use till_client::{Answer, AskFault, ask};
-
-/// Why the oldest entry still has no reply, or may have none.
-#[derive(Drop)]
-pub enum DeliverFault {
-    /// The book failed: it is to be opened anew, and may have the reply.
-    Book(StoreFault),
-    /// No reply came.
-    Unanswered(AskFault),
-    /// The server had no room or no store for it, and did nothing.
-    NotNow,
-    /// The server doesn't know the entry's token, as over another file, and did nothing.
-    NotKnown,
-}
+use till_client::{Answer, ask};
 
 /// Returns whether the reply is that the server doesn't know who asks.
 fn is_unknown(answer: &Answer) -> bool
@@ -52,7 +39,7 @@ pub fn deliver<S: Alter, R: Read, W: Write>(
     next: u32,
     reader: &mut R,
     writer: &mut W,
-) -> Result<Option<Answer>, DeliverFault>
+) -> Result<Option<Answer>, DeskFault>
     requires { conn.old.in_transaction ≡ false }
     ensures ended { conn.new.in_transaction ≡ false }
     ensures delivers { HasCleanDisk (state S.Store conn.new)
@@ -67,17 +54,17 @@ pub fn deliver<S: Alter, R: Read, W: Write>(
     let request = match oldest(conn, next) {
         Ok(Some(request)) => request,
         Ok(None) => return Ok(None),
-        Err(fault) => return Err(DeliverFault::Book(fault)),
+        Err(_) => return Err(DeskFault::Book),
     };
     let answer = match ask(alloc, reader, writer, request.as_slice()) {
         Ok(answer) => answer,
-        Err(fault) => return Err(DeliverFault::Unanswered(fault)),
+        Err(fault) => return Err(DeskFault::Unanswered(fault)),
     };
     if answer.status == 503 {
-        return Err(DeliverFault::NotNow);
+        return Err(DeskFault::NotNow);
     }
     if is_unknown(&answer) {
-        return Err(DeliverFault::NotKnown);
+        return Err(DeskFault::NotKnown);
     }
     match record(
         alloc,
@@ -88,6 +75,6 @@ pub fn deliver<S: Alter, R: Read, W: Write>(
         &answer.body,
     ) {
         Ok(()) => Ok(Some(answer)),
-        Err(fault) => Err(DeliverFault::Book(fault)),
+        Err(_) => Err(DeskFault::Book),
     }
 }

@@ -11,30 +11,13 @@ ghost use Rattle.till_client.specs.Sealing.{SaysCommand};
 ghost use Rattle.till_book.specs.Steps.{LeavesEntered};
 ghost use Rattle.till_work.specs.Entering.{Enters, FailsToEnter, FindsLast, FindsNoLast, IsLast, IsUnfit};
 
+use crate::fault::DeskFault;
 use counter_routes::Routes;
 use shop_types::{Command, Moment};
-use sql_rows::StoreFault;
 use sqlite::{Alter, Connection};
 use std::alloc::{AllocError, Global};
 use till_book::{enter, request_of};
 use till_client::{NotSealed, Sealed, command_of, seal};
-
-/// Why a request wasn't entered. But for `Book`, the book is as it was.
-#[derive(Drop)]
-pub enum EnterFault {
-    /// The book failed: it is to be opened anew, and may have the entry.
-    Book(StoreFault),
-    /// There was no memory.
-    Memory,
-    /// The request says no command with the till's token.
-    NoCommand,
-    /// The command's key isn't the mark and the entry's number.
-    OtherKey,
-    /// The command's moment isn't after the last entry's.
-    NotLater,
-    /// The number isn't the next entry's, or the last entry is no command: this isn't the till's book.
-    OtherBook,
-}
 
 /// Returns the key of the entry of that number: the till's mark, a hyphen and the number.
 pub fn key_bytes(alloc: Global, mark: &[u8], number: u32) -> Result<Vec<u8>, AllocError>
@@ -63,7 +46,7 @@ fn fit(
     token: &[u8],
     number: u32,
     request: Vec<u8>,
-) -> Result<Sealed, EnterFault>
+) -> Result<Sealed, DeskFault>
     ensures ok { IfOk result (λ sealed. (sealed.bytes ≡ request)
         × SaysCommand request.items token.now (seen_command sealed.command)
         × (sealed.command.key ≡ key_of mark.now number)) }
@@ -71,13 +54,13 @@ fn fit(
 {
     let sealed = match seal(alloc, routes, token, request) {
         Ok(sealed) => sealed,
-        Err(NotSealed::Other) => return Err(EnterFault::NoCommand),
-        Err(NotSealed::Memory) => return Err(EnterFault::Memory),
+        Err(NotSealed::Other) => return Err(DeskFault::NoCommand),
+        Err(NotSealed::Memory) => return Err(DeskFault::Memory),
     };
     match has_key(alloc, mark, number, &sealed.command) {
         Ok(true) => Ok(sealed),
-        Ok(false) => Err(EnterFault::OtherKey),
-        Err(_) => Err(EnterFault::Memory),
+        Ok(false) => Err(DeskFault::OtherKey),
+        Err(_) => Err(DeskFault::Memory),
     }
 }
 
@@ -87,7 +70,7 @@ fn last_moment<S: Alter>(
     conn: &mut Connection<S>,
     routes: &Routes,
     number: u32,
-) -> Result<Option<Moment>, EnterFault>
+) -> Result<Option<Moment>, DeskFault>
     requires { conn.old.in_transaction ≡ false }
     ensures ended { conn.new.in_transaction ≡ false }
     ensures found { HasCleanDisk (state S.Store conn.new)
@@ -101,13 +84,13 @@ fn last_moment<S: Alter>(
     }
     let request = match request_of(conn, number - 1) {
         Ok(Some(request)) => request,
-        Ok(None) => return Err(EnterFault::OtherBook),
-        Err(fault) => return Err(EnterFault::Book(fault)),
+        Ok(None) => return Err(DeskFault::OtherBook),
+        Err(_) => return Err(DeskFault::Book),
     };
     match command_of(alloc, routes, request.as_slice()) {
         Ok(command) => Ok(Some(command.at)),
-        Err(NotSealed::Other) => Err(EnterFault::OtherBook),
-        Err(NotSealed::Memory) => Err(EnterFault::Memory),
+        Err(NotSealed::Other) => Err(DeskFault::OtherBook),
+        Err(NotSealed::Memory) => Err(DeskFault::Memory),
     }
 }
 
@@ -136,7 +119,7 @@ pub fn enter_command<S: Alter>(
     token: &[u8],
     number: u32,
     request: Vec<u8>,
-) -> Result<Command, EnterFault>
+) -> Result<Command, DeskFault>
     requires { conn.old.in_transaction ≡ false }
     ensures ended { conn.new.in_transaction ≡ false }
     ensures entered { HasCleanDisk (state S.Store conn.new)
@@ -157,10 +140,10 @@ pub fn enter_command<S: Alter>(
         Err(fault) => return Err(fault),
     };
     if !is_later(last, command.at) {
-        return Err(EnterFault::NotLater);
+        return Err(DeskFault::NotLater);
     }
     match enter(conn, number, bytes.as_slice()) {
         Ok(()) => Ok(command),
-        Err(fault) => Err(EnterFault::Book(fault)),
+        Err(_) => Err(DeskFault::Book),
     }
 }

@@ -13,10 +13,10 @@ mod server;
 mod settling;
 
 pub use adding::{Identity, enter, enter_request};
-pub use delivering::{DeliverFault, deliver};
-pub use entering::{EnterFault, enter_command, key_bytes};
+pub use delivering::deliver;
+pub use entering::{enter_command, key_bytes};
 pub use fault::DeskFault;
 pub use place::Place;
 pub use sending::{send_oldest, send_waiting};
 pub use server::{Server, Watch};
-pub use settling::{SettleFault, Settled, settle};
+pub use settling::{Settled, settle};

@@ -1,14 +1,14 @@
 //! Sending what waits, the oldest entry first.
 
-ghost use Rattle.std.specs.Prelude.{◌≡◌, ◌≤◌, ◌+◌, false, IfOk, IfErr, OnOk, OnErr};
+ghost use Rattle.std.specs.Prelude.{◌≡◌, ◌≢◌, ◌≤◌, ◌+◌, false, IsTrue, IfOk, IfErr, OnOk, OnErr};
 ghost use Rattle.sqlite.specs.Held.{state};
 ghost use Rattle.sqlite.specs.State.{HasCleanDisk};
 ghost use Rattle.till_client.specs.Replies.{seen_answer};
-ghost use Rattle.till_work.specs.Faults.{sending_fault};
+ghost use Rattle.till_work.specs.declared.fault.DeskFault.TheVariants.{Book};
 ghost use Rattle.till_work.specs.Told.{IsTold};
 ghost use Rattle.till_work.specs.Desk.{AnswersOne, FailsToTell, Sends, FailsToSend, Stays, IsBookKept, TellsLast};
 
-use crate::delivering::{DeliverFault, deliver};
+use crate::delivering::deliver;
 use crate::fault::DeskFault;
 use crate::place::Place;
 use crate::server::{Server, Watch};
@@ -23,17 +23,6 @@ const ROUNDS: u64 = 3;
 
 /// How many milliseconds pass after the first try. After each further one that many more pass.
 const PAUSE: u64 = 200;
-
-fn named(fault: DeliverFault) -> DeskFault
-    ensures { result ≡ sending_fault fault }
-{
-    match fault {
-        DeliverFault::Book(_) => DeskFault::Book,
-        DeliverFault::Unanswered(_) => DeskFault::Unanswered,
-        DeliverFault::NotNow => DeskFault::NotNow,
-        DeliverFault::NotKnown => DeskFault::NotKnown,
-    }
-}
 
 /// Sends the oldest entry without a reply over a new connection, and records the reply.
 fn send_once<S: Alter, V: Server>(
@@ -58,7 +47,7 @@ fn send_once<S: Alter, V: Server>(
     ensures uncounted { OnErr result (place.new ≡ place.old) }
 {
     let Ok((mut reader, mut writer)) = server.connect() else {
-        return Err(DeskFault::Unanswered);
+        return Err(DeskFault::Unopened);
     };
     let Some(number) = place.replies.checked_add(1) else {
         return Err(DeskFault::Full);
@@ -69,12 +58,31 @@ fn send_once<S: Alter, V: Server>(
             Ok(answer)
         }
         Ok(None) => Err(DeskFault::NoEntry),
-        Err(fault) => Err(named(fault)),
+        Err(fault) => Err(fault),
+    }
+}
+
+/// Returns whether a further try may get a reply.
+fn may_pass(fault: &DeskFault) -> bool
+    ensures { IsTrue result → fault.now ≢ Book }
+{
+    match fault {
+        DeskFault::Unopened | DeskFault::Unanswered(_) | DeskFault::NotNow => true,
+        DeskFault::Book
+        | DeskFault::Full
+        | DeskFault::Memory
+        | DeskFault::NoCommand
+        | DeskFault::OtherKey
+        | DeskFault::NotLater
+        | DeskFault::OtherBook
+        | DeskFault::NoEntry
+        | DeskFault::NotKnown => false,
     }
 }
 
 /// Sends the oldest entry without a reply, up to three times, each over a new connection, with a pause between them,
-/// and records the reply. After `Unanswered`, `NotNow` and `NotKnown` it waits on. Fails with `NoEntry` if none waits.
+/// and records the reply. After `Unopened`, `Unanswered`, `NotNow` and `NotKnown` it waits on. Fails with `NoEntry` if
+/// none waits.
 pub fn send_oldest<S: Alter, V: Server, K: Clock>(
     alloc: Global,
     routes: &Routes,
@@ -97,22 +105,19 @@ pub fn send_oldest<S: Alter, V: Server, K: Clock>(
     ensures counted { OnOk result (place.new ≡ record place.old { replies = place.old.replies + 1 }) }
     ensures uncounted { OnErr result (place.new ≡ place.old) }
 {
-    let mut fault = DeskFault::Unanswered;
+    let mut fault = DeskFault::Unopened;
     'rounds: for round in 0..ROUNDS {
         if round > 0 {
             clock.sleep(Duration::from_millis(PAUSE * round));
         }
         match send_once(alloc, routes, server, conn, place) {
-            Err(DeskFault::Unanswered) => {
-                fault = DeskFault::Unanswered;
-                continue;
-            }
-            Err(DeskFault::NotNow) => {
-                fault = DeskFault::NotNow;
-                continue;
-            }
             Ok(answer) => return Ok(answer),
-            Err(other) => return Err(other),
+            Err(it) => {
+                if !may_pass(&it) {
+                    return Err(it);
+                }
+                fault = it;
+            }
         }
     }
     Err(fault)

@@ -8,6 +8,7 @@ ghost use Rattle.till_client.specs.Replies.{seen_answer};
 ghost use Rattle.till_book.specs.Seen.{seen_reply};
 ghost use Rattle.till_work.specs.Settling.{IsSettledBy, IsKept, Settles, FailsToSettle, MayNote};
 
+use crate::fault::DeskFault;
 use counter_routes::Routes;
 use shop_types::{Refusal, Reply};
 use sql_rows::StoreFault;
@@ -15,7 +16,7 @@ use sqlite::{Alter, Connection};
 use std::alloc::Global;
 use std::io::{Read, Write};
 use till_book::{BookReply, note_settled, request_of, settlement_of};
-use till_client::{Answer, AskFault, ask};
+use till_client::{Answer, ask};
 
 /// The outcome of an entry, by the reply that it got when it was sent once more.
 #[derive(Drop)]
@@ -26,19 +27,6 @@ pub enum Settled {
     Never,
     /// Neither: it isn't settled yet.
     Open(Answer),
-}
-
-/// Why the outcome of the entry isn't known.
-#[derive(Drop)]
-pub enum SettleFault {
-    /// The book failed, or there was no memory for what it has: it is to be opened anew, and may have the decision.
-    Book(StoreFault),
-    /// No entry has that number.
-    NoEntry,
-    /// No reply came.
-    Unanswered(AskFault),
-    /// The server had no room or no store for it, and did nothing.
-    NotNow,
 }
 
 /// Returns the outcome of an entry by the reply that it got when it was sent once more.
@@ -121,7 +109,7 @@ pub fn settle<S: Alter, R: Read, W: Write>(
     number: u32,
     reader: &mut R,
     writer: &mut W,
-) -> Result<Settled, SettleFault>
+) -> Result<Settled, DeskFault>
     requires { conn.old.in_transaction ≡ false }
     ensures ended { conn.new.in_transaction ≡ false }
     ensures settles { HasCleanDisk (state S.Store conn.new)
@@ -137,24 +125,24 @@ pub fn settle<S: Alter, R: Read, W: Write>(
         Ok(None) => {}
         Ok(Some(reply)) => match answer_in(alloc, &reply) {
             Ok(answer) => return Ok(settled_by(answer)),
-            Err(fault) => return Err(SettleFault::Book(fault)),
+            Err(_) => return Err(DeskFault::Book),
         },
-        Err(fault) => return Err(SettleFault::Book(fault)),
+        Err(_) => return Err(DeskFault::Book),
     }
     let request = match request_of(conn, number) {
         Ok(Some(request)) => request,
-        Ok(None) => return Err(SettleFault::NoEntry),
-        Err(fault) => return Err(SettleFault::Book(fault)),
+        Ok(None) => return Err(DeskFault::NoEntry),
+        Err(_) => return Err(DeskFault::Book),
     };
     let answer = match ask(alloc, reader, writer, request.as_slice()) {
         Ok(answer) => answer,
-        Err(fault) => return Err(SettleFault::Unanswered(fault)),
+        Err(fault) => return Err(DeskFault::Unanswered(fault)),
     };
     if answer.status == 503 {
-        return Err(SettleFault::NotNow);
+        return Err(DeskFault::NotNow);
     }
     match keep(alloc, routes, conn, number, answer) {
         Ok(settled) => Ok(settled),
-        Err(fault) => Err(SettleFault::Book(fault)),
+        Err(_) => Err(DeskFault::Book),
     }
 }

@@ -1,9 +1,11 @@
-use Rattle.std.proofs.Common.{◌≡◌, ◌⊎◌, ◌∙◌, ℕ, Option, Result, Ok, Err, IfErr, IsErrAnd, inr, refl}
+use Rattle.std.proofs.Common.{◌≡◌, ◌⊎◌, ◌∙◌, Result, Ok, Err, IfErr, IsErrAnd, inr, refl}
 use Rattle.sqlite.specs.Held.{state}
 use Rattle.till_program.specs.declared.fault.TillFault.{TillFault}
+use Rattle.till_program.specs.declared.fault.TillFault.TheVariants.{OtherBook}
 use Rattle.till_program.specs.Faults.{IsReading, others_fault}
 use Rattle.till_program.proofs.GoingOn.{read_keeps, read_grows, stays_keeps, stays_grows, stays_both}
-use Rattle.till_program.proofs.Doing.{ok_then, word_done}
+use Rattle.till_program.proofs.Doing.{on_ok, ok_then, word_done}
+use Rattle.till_program.proofs.Marks.{own_book, other_book}
 use Rattle.till_program.proofs.word.do_word.Goals as goal
 
 pub returns-in_err-book-clause-keeps : goal.returns-in_err-book-clause-keeps
@@ -43,15 +45,15 @@ returns-clause-office g c clean kept office =
     (stays_both (state g.S.Store c.args.conn.now) (state g.S.Store c.read.new.conn) (state g.S.Store c.plan_of.new.conn) (c.read.ensures.stays read) (c.plan_of.ensures.stays planned))
     (c.carry_out.ensures.grows clean kept office c.in_ok-plan.ensures.planned)
 
--- what the plan's fault says is returned
-handed_on : {A B : Type 0} (result : Result A TillFault) (plan : Result B TillFault) (fault : TillFault) (staff : Option ℕ)
-    → IsErrAnd result (λ told. told ≡ fault) → plan ≡ Err fault → plan ≡ Err (others_fault staff) → IfErr result (λ told. IsReading told ⊎ (told ≡ others_fault staff))
-handed_on (Ok said) plan fault staff handed was is = absurd handed
-handed_on (Err told) plan fault staff handed was is = inr (let same : fault ≡ others_fault staff = cc in handed ∙ same)
+-- the plan's fault is returned
+handed_on : {A B : Type 0} (result : Result A TillFault) (plan : Result B TillFault) (fault wanted : TillFault) → IsErrAnd result (λ told. told ≡ fault) → plan ≡ Err fault → plan ≡ Err wanted
+    → IfErr result (λ told. IsReading told ⊎ (told ≡ wanted))
+handed_on (Ok said) plan fault wanted handed was is = absurd handed
+handed_on (Err told) plan fault wanted handed was is = inr (let same : fault ≡ wanted = cc in handed ∙ same)
 
 pub returns-in_err-plan-clause-others : goal.returns-in_err-plan-clause-others
 returns-in_err-plan-clause-others g c other =
-    handed_on c.from_residual-in_err-plan.result _ _ c.args.desk.now.settings.now.staff c.from_residual-in_err-plan.ensures.1 refl (c.in_err-plan.ensures.others other)
+    handed_on c.from_residual-in_err-plan.result _ _ (others_fault c.args.desk.now.settings.now.staff) c.from_residual-in_err-plan.ensures.1 refl (c.in_err-plan.ensures.others other)
 
 pub returns-in_err-plan-clause-stays : goal.returns-in_err-plan-clause-stays
 returns-in_err-plan-clause-stays g c clean other =
@@ -72,3 +74,30 @@ returns-clause-done g c clean =
     (word_done _ _ _ _ _ c.args.act c.in_ok-plan.plan c.in_ok-book.book.place c.carry_out.new.book.place (state g.S.Store c.args.conn.now) (state g.S.Store c.read.new.conn)
     (state g.S.Store c.plan_of.new.conn) (state g.S.Store c.carry_out.new.conn) (c.in_ok-book.ensures.place read) (c.read.ensures.stays read) (c.plan_of.ensures.stays planned)
     (c.in_ok-plan.ensures.acts planned))
+
+pub returns-in_err-plan-clause-foreign : goal.returns-in_err-plan-clause-foreign
+returns-in_err-plan-clause-foreign g c clean enters for other =
+    let read = c.plan_of.ensures.clean clean in
+    let not_own = other_book c.args.desk.now.settings.now.mark c.in_ok-book.book.is_own (state g.S.Store c.args.conn.now) (c.in_ok-book.ensures.marked read) other in
+    handed_on c.from_residual-in_err-plan.result _ _ OtherBook c.from_residual-in_err-plan.ensures.1 refl (c.in_err-plan.ensures.foreign enters for not_own)
+
+pub returns-in_err-plan-clause-untouched : goal.returns-in_err-plan-clause-untouched
+returns-in_err-plan-clause-untouched g c clean enters other =
+    stays_both (state g.S.Store c.args.conn.now) (state g.S.Store c.read.new.conn) (state g.S.Store c.plan_of.new.conn) (c.read.ensures.stays (c.plan_of.ensures.clean clean))
+    (c.plan_of.ensures.stays clean)
+
+pub returns-clause-marked : goal.returns-clause-marked
+returns-clause-marked g c clean enters =
+    let read = c.plan_of.ensures.clean (c.carry_out.ensures.clean clean) in
+    on_ok _
+    (own_book c.args.desk.now.settings.now.mark c.in_ok-book.book.is_own (state g.S.Store c.args.conn.now) (c.in_ok-book.ensures.marked read) (c.in_ok-plan.ensures.marked enters))
+
+pub returns-clause-foreign : goal.returns-clause-foreign
+returns-clause-foreign g c clean enters for other =
+    let read = c.plan_of.ensures.clean (c.carry_out.ensures.clean clean) in
+    absurd (other (own_book c.args.desk.now.settings.now.mark c.in_ok-book.book.is_own (state g.S.Store c.args.conn.now) (c.in_ok-book.ensures.marked read) (c.in_ok-plan.ensures.marked enters)))
+
+pub returns-clause-untouched : goal.returns-clause-untouched
+returns-clause-untouched g c clean enters other =
+    let read = c.plan_of.ensures.clean (c.carry_out.ensures.clean clean) in
+    absurd (other (own_book c.args.desk.now.settings.now.mark c.in_ok-book.book.is_own (state g.S.Store c.args.conn.now) (c.in_ok-book.ensures.marked read) (c.in_ok-plan.ensures.marked enters)))

@@ -1,11 +1,11 @@
-use Rattle.sql_rows.proofs.Common.{◌≡◌, ◌∙◌, ◌<◌, ◌^◌, List, ℕ, refl, ap, subst, arith, state, HasCleanDisk, survives_then, survives_weaker}
+use Rattle.sql_rows.proofs.Common.{◌≡◌, ◌∙◌, ◌<◌, ◌^◌, List, ℕ, refl, ap, subst, arith, state, HasCleanDisk, survives_weaker}
 use Rattle.shop_model.specs.Values.{Command}
 use Rattle.shop_types.specs.Seen.{seen_command}
 use Rattle.till_model.specs.Numbered.{IsAfterLast}
 use Rattle.till_client.proofs.SoleMessages.{one_command}
-use Rattle.till_book.specs.Journal.{StandsFor, with_entry}
 use Rattle.till_book.specs.Steps.{IsEntered, LeavesEntered}
 use Rattle.till_work.proofs.Saying.{keeps_book}
+use Rattle.till_work.proofs.Noting.{entered_after}
 use Rattle.till_work.proofs.entering.enter_command.Goals as goal
 
 pub returns-then-not-is_later-clause-fault : goal.returns-then-not-is_later-clause-fault
@@ -45,25 +45,11 @@ returns-in-Ok-enter-clause-entered g c clean =
 pub returns-clause-crash : goal.returns-clause-crash
 returns-clause-crash g c =
     let own = c.in-Ok.ensures.ok in
-    let old = state g.S.Store c.args.conn.now in
-    let mid = state g.S.Store c.last_moment.new.conn in
-    let request = c.args.request.items in
-    let bytes : c.as_slice.result.now ≡ request = c.as_slice.ensures.value ∙ ap (λ v. v.items) own.0 in
-    survives_then old mid (state g.S.Store c.enter.new.conn) _ (LeavesEntered c.args.number c.as_slice.result.now mid) (LeavesEntered c.args.number request old) (λ _ db none. absurd none)
-    (λ clean db leaves journal rests next.
-    let clean_mid : HasCleanDisk mid = omega (arith, clean, c.enter.ensures.crash.clean) in
-    subst (λ (l : List ℕ). StandsFor db (with_entry l journal)) bytes (leaves journal ((c.in-Ok-last_moment.ensures.found clean_mid).0 journal rests) next))
-    c.last_moment.ensures.crash c.enter.ensures.crash
+    entered_after c.args.number c.as_slice.result.now c.args.request.items (state g.S.Store c.args.conn.now) (state g.S.Store c.last_moment.new.conn) (state g.S.Store c.enter.new.conn)
+    (c.as_slice.ensures.value ∙ ap (λ v. v.items) own.0) c.last_moment.ensures.crash (λ clean. (c.in-Ok-last_moment.ensures.found clean).0) c.enter.ensures.crash
 
 pub returns-in-Ok-enter-clause-crash : goal.returns-in-Ok-enter-clause-crash
 returns-in-Ok-enter-clause-crash g c =
     let own = c.in-Ok.ensures.ok in
-    let old = state g.S.Store c.args.conn.now in
-    let mid = state g.S.Store c.last_moment.new.conn in
-    let request = c.args.request.items in
-    let bytes : c.as_slice.result.now ≡ request = c.as_slice.ensures.value ∙ ap (λ v. v.items) own.0 in
-    survives_then old mid (state g.S.Store c.enter.new.conn) _ (LeavesEntered c.args.number c.as_slice.result.now mid) (LeavesEntered c.args.number request old) (λ _ db none. absurd none)
-    (λ clean db leaves journal rests next.
-    let clean_mid : HasCleanDisk mid = omega (arith, clean, c.enter.ensures.crash.clean) in
-    subst (λ (l : List ℕ). StandsFor db (with_entry l journal)) bytes (leaves journal ((c.in-Ok-last_moment.ensures.found clean_mid).0 journal rests) next))
-    c.last_moment.ensures.crash c.enter.ensures.crash
+    entered_after c.args.number c.as_slice.result.now c.args.request.items (state g.S.Store c.args.conn.now) (state g.S.Store c.last_moment.new.conn) (state g.S.Store c.enter.new.conn)
+    (c.as_slice.ensures.value ∙ ap (λ v. v.items) own.0) c.last_moment.ensures.crash (λ clean. (c.in-Ok-last_moment.ensures.found clean).0) c.enter.ensures.crash

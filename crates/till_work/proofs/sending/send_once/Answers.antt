@@ -1,6 +1,4 @@
-use Rattle.sql_rows.proofs.Common.{◌≡◌, ◌+◌, ◌≢◌, refl, rules, state}
-use Rattle.till_work.specs.declared.fault.DeskFault.TheVariants as desk
-use Rattle.till_work.specs.Faults.{sending_fault}
+use Rattle.sql_rows.proofs.Common.{◌≡◌, ◌+◌, refl, rules, state}
 use Rattle.till_work.proofs.GoingOn.{delivers_one, none_stays, failing_stays, kept_other, why_none, why_failed}
 use Rattle.till_work.proofs.sending.send_once.Goals as goal
 
@@ -20,9 +18,8 @@ returns-in-Ok-None-clause-stays g c clean kept =
 pub returns-clause-stays : goal.returns-clause-stays
 returns-clause-stays g c clean kept =
     let counted : c.in-Some.number ≡ c.args.place.now.replies + 1 = search rules in
-    let other : sending_fault c.in-Err.fault ≢ desk.Book = kept_other _ _ c.named.ensures kept in
     failing_stays c.in-Some.number c.in-Err.fault c.args.place.now (state g.S.Store c.args.conn.now) (state g.S.Store c.deliver.new.conn) _ _ counted
-    (c.in-Err.ensures.fault clean) other
+    (c.in-Err.ensures.fault clean) (kept_other c.in-Err.fault kept)
 
 pub returns-in-Ok-None-clause-why : goal.returns-in-Ok-None-clause-why
 returns-in-Ok-None-clause-why g c clean =
@@ -33,6 +30,6 @@ returns-in-Ok-None-clause-why g c clean =
 pub returns-clause-why : goal.returns-clause-why
 returns-clause-why g c clean =
     let counted : c.in-Some.number ≡ c.args.place.now.replies + 1 = search rules in
-    why_failed (g.V.Server.refuses c.args.server.now) (g.V.Server.opens c.args.server.now) g.V.Writer.Write.contents c.in-Some.number c.in-Err.fault c.named.result c.args.place.now
-    (state g.S.Store c.args.conn.now) (state g.S.Store c.deliver.new.conn) c.in-Ok.reader c.in-Ok.writer c.deliver.new.writer c.named.ensures counted c.in-Ok.ensures.opened
+    why_failed (g.V.Server.refuses c.args.server.now) (g.V.Server.opens c.args.server.now) g.V.Writer.Write.contents c.in-Some.number c.in-Err.fault c.args.place.now
+    (state g.S.Store c.args.conn.now) (state g.S.Store c.deliver.new.conn) c.in-Ok.reader c.in-Ok.writer c.deliver.new.writer counted c.in-Ok.ensures.opened
     (c.in-Err.ensures.fault clean)
