@@ -1,11 +1,15 @@
 -- Two lists of keys in order are equal if each key occurs equally often in both.
-use Rattle.shop_types.proofs.Common.{◌≡◌, ◌&&◌, ◌+◌, List, [], ◌∷◌, map, Bool, true, false, refl, sym, ap, subst, ◌∙◌, arith, true≢false, IsPermutation, Ordering, Less, Equal, Greater, is_lt, nat_cmp, ordering_reverse, slice_cmp, bytes_eq, IsSortedByKey, exact_bytes, bytes_eq-Decides, IsPermutation-map, one}
+use Rattle.shop_types.proofs.Common.{◌≡◌, ◌&&◌, ◌+◌, List, [], ◌∷◌, map, Bool, true, false, refl, sym, ap, subst, ◌∙◌, arith, true≢false, IsPermutation}
+use Rattle.shop_types.proofs.Common.{Ordering, Less, Equal, Greater, is_lt, nat_cmp, ordering_reverse, slice_cmp, bytes_eq, IsSortedByKey, exact_bytes}
+use Rattle.shop_types.proofs.Common.{bytes_eq-Decides, IsPermutation-map, one}
 use Rattle.sqlite_keyed.proofs.ListLemmas.{along_permutation}
 use Rattle.audit_rows.specs.Lists.{Key, is_below, same_lists, count, SameCounts}
 use Rattle.audit_rows.proofs.Keys.{both, key_total, below_trans, below_apart, neither_below, NeverFalls, never_falls, same_bytes}
 
 pub count_along : {X : Type 0} (test : X → Bool) (xs ys : List X) → IsPermutation xs ys → count test xs ≡ count test ys
-count_along {X} test = along_permutation (λ (xs ys : List X). count test xs ≡ count test ys) (λ xs. refl) (λ x us vs h. ap (λ n. one (test x) + n) h) (λ x y us. omega arith) (λ us vs ws p q. p ∙ q)
+count_along {X} test =
+    along_permutation (λ (xs ys : List X). count test xs ≡ count test ys) (λ xs. refl)
+    (λ x us vs h. ap (λ n. one (test x) + n) h) (λ x y us. omega arith) (λ us vs ws p q. p ∙ q)
 
 -- ---- keys in order
 

@@ -1,5 +1,7 @@
 -- Rows in the order of their keys agree, branch by branch, with any numbered books that have the same rows.
-use Rattle.shop_types.proofs.Common.{◌≡◌, ◌+◌, ◌<◌, ◌==◌, ℕ, zero, suc, List, [], ◌∷◌, map, filter, Bool, true, false, cond, refl, ap, subst, arith, IsPermutation, IsSorted, Ordering, Less, is_lt, add-one, nat_cmp, IsTotalOrder, AllByRecursion, nat_cmp_total, on_total, nat_tests, Row, is_of, of, IsCounted, AreNumbered}
+use Rattle.shop_types.proofs.Common.{◌≡◌, ◌+◌, ◌<◌, ◌==◌, ℕ, zero, suc, List, [], ◌∷◌, map, filter, Bool, true, false, cond, refl, ap, subst, arith}
+use Rattle.shop_types.proofs.Common.{IsPermutation, IsSorted, Ordering, Less, is_lt, add-one, nat_cmp, IsTotalOrder, AllByRecursion, nat_cmp_total, on_total}
+use Rattle.shop_types.proofs.Common.{nat_tests, Row, is_of, of, IsCounted, AreNumbered}
 use Rattle.sqlite_trees.specs.Tree.{IsAscending}
 use Rattle.sqlite_keyed.proofs.ListLemmas.{ascending-filter, IsPermutation-filter}
 use Rattle.sqlite_keyed.proofs.SortLemmas.{sorted_unique}
@@ -77,13 +79,15 @@ module _ {A : Type 0} (b : ℕ) where
   within r s p q h =
       let first : r.branch ≡ b = grind (arith, nat_tests) in
       let second : s.branch ≡ b = grind (arith, nat_tests) in
-      then_less b r.number s.number (subst (λ m. is_below (m ∷ r.number ∷ []) (b ∷ s.number ∷ []) ≡ true) first (subst (λ m. is_below (row_key r) (m ∷ s.number ∷ []) ≡ true) second h))
+      then_less b r.number s.number
+      (subst (λ m. is_below (m ∷ r.number ∷ []) (b ∷ s.number ∷ []) ≡ true) first (subst (λ m. is_below (row_key r) (m ∷ s.number ∷ []) ≡ true) second h))
 
   passes : (rows : List (Row A)) → AllByRecursion (λ r. (r.branch == b) ≡ true) (filter (is_of b) rows)
   passes [] = tt
   passes (r ∷ rows) = go (r.branch == b) refl (passes rows)
     where
-      go : (t : Bool) → (r.branch == b) ≡ t → AllByRecursion (λ s. (s.branch == b) ≡ true) (filter (is_of b) rows) → AllByRecursion (λ s. (s.branch == b) ≡ true) (cond t (r ∷ filter (is_of b) rows) (filter (is_of b) rows))
+      go : (t : Bool) → (r.branch == b) ≡ t → AllByRecursion (λ s. (s.branch == b) ≡ true) (filter (is_of b) rows)
+          → AllByRecursion (λ s. (s.branch == b) ≡ true) (cond t (r ∷ filter (is_of b) rows) (filter (is_of b) rows))
       go true e more = (e, more)
       go false e more = more
 
@@ -92,15 +96,18 @@ module _ {A : Type 0} (b : ℕ) where
   all_within r [] p q h = tt
   all_within r (s ∷ rows) p q h = (within r s p q.0 h.0, all_within r rows p q.1 h.1)
 
-  rise_within : (rows : List (Row A)) → AllByRecursion (λ s. (s.branch == b) ≡ true) rows → IsAscending (λ r s. is_below (row_key r) (row_key s) ≡ true) rows → IsAscending (λ r s. r.number < s.number) rows
+  rise_within : (rows : List (Row A)) → AllByRecursion (λ s. (s.branch == b) ≡ true) rows
+      → IsAscending (λ r s. is_below (row_key r) (row_key s) ≡ true) rows → IsAscending (λ r s. r.number < s.number) rows
   rise_within [] q h = tt
   rise_within (r ∷ rows) q h = (all_within r rows q.0 q.1 h.0, rise_within rows q.1 h.1)
 
   -- if xs is in the order of its keys and ys is the same rows, numbered, branch b has the same rows in both
-  pub same_branch : (xs ys : List (Row A)) → climbs (map row_key xs) ≡ true → IsPermutation ys xs → AreNumbered (is_of b) (λ row. row.number) ys → filter (is_of b) xs ≡ filter (is_of b) ys
+  pub same_branch : (xs ys : List (Row A)) → climbs (map row_key xs) ≡ true → IsPermutation ys xs
+      → AreNumbered (is_of b) (λ row. row.number) ys → filter (is_of b) xs ≡ filter (is_of b) ys
   same_branch xs ys up h c =
       one_rising (λ (row : Row A). row.number) (filter (is_of b) xs) (filter (is_of b) ys) (IsPermutation-filter (is_of b) ys xs h) c
       (rise_within (filter (is_of b) xs) (passes xs) (ascending-filter _ (is_of b) xs (ascending_from_climbs row_key xs up)))
 
-  pub same_items : (xs ys : List (Row A)) → climbs (map row_key xs) ≡ true → IsPermutation ys xs → AreNumbered (is_of b) (λ row. row.number) ys → of b xs ≡ of b ys
+  pub same_items : (xs ys : List (Row A)) → climbs (map row_key xs) ≡ true
+      → IsPermutation ys xs → AreNumbered (is_of b) (λ row. row.number) ys → of b xs ≡ of b ys
   same_items xs ys up h c = ap (map (λ (row : Row A). row.it)) (same_branch xs ys up h c)

@@ -1,5 +1,7 @@
 -- Consignments: what the checks of their rows say of any books that have the rows.
-use Rattle.shop_types.proofs.Common.{◌≡◌, ◌&&◌, ◌+◌, ◌<◌, ◌==◌, ℕ, List, [], ◌∷◌, map, filter, Bool, true, false, cond, refl, sym, ap, subst, ◌∙◌, arith, true≢false, IsPermutation, IsSorted, Option, Some, None, nat_lt, Less, nat_cmp, AllByRecursion, list_all, nat_cmp_total, on_total, nat_tests, IsPermutation-sym, IsCounted, Consignment, same_if, equal_test}
+use Rattle.shop_types.proofs.Common.{◌≡◌, ◌&&◌, ◌+◌, ◌<◌, ◌==◌, ℕ, List, [], ◌∷◌, map, filter, Bool, true, false, cond, refl, sym, ap, subst, ◌∙◌, arith}
+use Rattle.shop_types.proofs.Common.{true≢false, IsPermutation, IsSorted, Option, Some, None, nat_lt, Less, nat_cmp, AllByRecursion, list_all, nat_cmp_total}
+use Rattle.shop_types.proofs.Common.{on_total, nat_tests, IsPermutation-sym, IsCounted, Consignment, same_if, equal_test}
 use Rattle.sqlite_trees.specs.Tree.{IsAscending}
 use Rattle.sqlite_keyed.proofs.ListLemmas.{ascending-filter, IsPermutation-filter}
 use Rattle.sqlite_keyed.proofs.SortLemmas.{sorted_unique}
@@ -15,7 +17,8 @@ use Rattle.audit_rows.proofs.Tests.{counted_is}
 -- ---- lines
 
 module _ {X : Type 0} (f : X → Placed) where
-  pub settled_step : (films : ℕ) (h : Header) (hs : List Header) (rest front back : List X) (t : Bool) → front ≡ front_of (λ x. is_line_of h (f x)) rest → back ≡ back_of (λ x. is_line_of h (f x)) rest
+  pub settled_step : (films : ℕ) (h : Header) (hs : List Header) (rest front back : List X) (t : Bool)
+      → front ≡ front_of (λ x. is_line_of h (f x)) rest → back ≡ back_of (λ x. is_line_of h (f x)) rest
       → are_good_lines films h.received (map (λ x. (f x).line) front) ≡ t → are_settled films (h ∷ hs) (map f rest) ≡ (t && are_settled films hs (map f back))
   settled_step films h hs rest front back t a b c =
       let cut : front_of (is_line_of h) (map f rest) ≡ map f front = front-map (is_line_of h) f rest ∙ sym (ap (map f) a) in
@@ -24,15 +27,19 @@ module _ {X : Type 0} (f : X → Placed) where
       (λ i. are_good_lines films h.received (map (λ p. p.line) (cut i)) && are_settled films hs (left i))
       ∙ (λ i. (ap (are_good_lines films h.received) lines ∙ c) i && are_settled films hs (map f back))
 
-pub settled_join : (films : ℕ) (hs : List Header) (ps : List Placed) (its : List Consignment) → join hs ps ≡ Some its → are_settled films hs ps ≡ list_all (is_good_consignment films) its
+pub settled_join : (films : ℕ) (hs : List Header) (ps : List Placed) (its : List Consignment)
+    → join hs ps ≡ Some its → are_settled films hs ps ≡ list_all (is_good_consignment films) its
 settled_join films [] [] [] e = refl
 settled_join films [] [] (it ∷ its) e = cc
 settled_join films [] (p ∷ ps) its e = cc
-settled_join films (h ∷ hs) ps its e = go (counts_from 1 (map (λ p. p.at) (front_of (is_line_of h) ps))) (join hs (back_of (is_line_of h) ps)) its e (settled_join films hs (back_of (is_line_of h) ps))
+settled_join films (h ∷ hs) ps its e =
+    go (counts_from 1 (map (λ p. p.at) (front_of (is_line_of h) ps)))
+    (join hs (back_of (is_line_of h) ps)) its e (settled_join films hs (back_of (is_line_of h) ps))
   where
     go : (t : Bool) (o : Option (List Consignment)) (its : List Consignment) → cond t (with_first (whole h (front_of (is_line_of h) ps)) o) None ≡ Some its
         → ((rest : List Consignment) → o ≡ Some rest → are_settled films hs (back_of (is_line_of h) ps) ≡ list_all (is_good_consignment films) rest)
-        → (are_good_lines films h.received (map (λ p. p.line) (front_of (is_line_of h) ps)) && are_settled films hs (back_of (is_line_of h) ps)) ≡ list_all (is_good_consignment films) its
+        → (are_good_lines films h.received (map (λ p. p.line) (front_of (is_line_of h) ps)) && are_settled films hs (back_of (is_line_of h) ps))
+        ≡ list_all (is_good_consignment films) its
     go false o its e more = cc
     go true None its e more = cc
     go true (Some rest) [] e more = cc
@@ -78,7 +85,8 @@ begins (h ∷ hs) = h.number == 1 && goes_on h.number h.place hs
 abbrev goes : ℕ → ℕ → Header → List Header → Bool
 goes s a last hs = cond (is_pair s a last) (goes_on last.number last.place (filter (is_pair s a) hs)) (begins (filter (is_pair s a) hs))
 
-between : (s a n c d m k : ℕ) → is_below (s ∷ a ∷ n ∷ []) (c ∷ d ∷ m ∷ []) ≡ true → is_below (c ∷ d ∷ m ∷ []) (s ∷ a ∷ k ∷ []) ≡ true → (c == s && d == a) ≡ true
+between : (s a n c d m k : ℕ) → is_below (s ∷ a ∷ n ∷ []) (c ∷ d ∷ m ∷ []) ≡ true
+    → is_below (c ∷ d ∷ m ∷ []) (s ∷ a ∷ k ∷ []) ≡ true → (c == s && d == a) ≡ true
 between s a n c d m k h i = grind (arith, nat_tests)
 
 pair_is : (s a : ℕ) (h : Header) → is_pair s a h ≡ true → (h.source ≡ s) × (h.addressee ≡ a)
@@ -92,7 +100,8 @@ is_own h = (λ i. same h.source i && same h.addressee i)
 
 module _ (s a : ℕ) where
   -- if a consignment from s to a is followed by one of another pair, no later consignment is from s to a
-  no_more : (last h : Header) (hs : List Header) → is_below (header_key last) (header_key h) ≡ true → AllByRecursion (λ k. is_below (header_key h) k ≡ true) (map header_key hs)
+  no_more : (last h : Header) (hs : List Header) → is_below (header_key last) (header_key h) ≡ true
+      → AllByRecursion (λ k. is_below (header_key h) k ≡ true) (map header_key hs)
       → is_pair s a last ≡ true → is_pair s a h ≡ false → filter (is_pair s a) hs ≡ []
   no_more last h [] below up p q = refl
   no_more last h (x ∷ hs) below up p q = go (is_pair s a x) refl (no_more last h hs below up.1 p q)
@@ -102,14 +111,17 @@ module _ (s a : ℕ) where
       go true e more =
           let one = pair_is s a last p in
           let two = pair_is s a x e in
-          let first : is_below (s ∷ a ∷ last.number ∷ []) (header_key h) ≡ true = subst (λ (k : Key). is_below k (header_key h) ≡ true) (λ i. one.0 i ∷ one.1 i ∷ last.number ∷ []) below in
-          let second : is_below (header_key h) (s ∷ a ∷ x.number ∷ []) ≡ true = subst (λ (k : Key). is_below (header_key h) k ≡ true) (λ i. two.0 i ∷ two.1 i ∷ x.number ∷ []) up.0 in
+          let first : is_below (s ∷ a ∷ last.number ∷ []) (header_key h) ≡ true =
+          subst (λ (k : Key). is_below k (header_key h) ≡ true) (λ i. one.0 i ∷ one.1 i ∷ last.number ∷ []) below in
+          let second : is_below (header_key h) (s ∷ a ∷ x.number ∷ []) ≡ true =
+          subst (λ (k : Key). is_below (header_key h) k ≡ true) (λ i. two.0 i ∷ two.1 i ∷ x.number ∷ []) up.0 in
           absurd (true≢false (sym (between s a last.number h.source h.addressee h.number x.number first second) ∙ q))
 
 pair_moves : (s a : ℕ) (h last : Header) → is_pair s a h ≡ true → is_pair h.source h.addressee last ≡ is_pair s a last
 pair_moves s a h last e = let it = pair_is s a h e in (λ i. is_pair (it.0 i) (it.1 i) last)
 
-pub goes_from : (last : Header) (hs : List Header) → climbs_above (header_key last) (map header_key hs) ≡ true → pairs_follow_from last hs ≡ true → (s a : ℕ) → goes s a last hs ≡ true
+pub goes_from : (last : Header) (hs : List Header) → climbs_above (header_key last) (map header_key hs) ≡ true
+    → pairs_follow_from last hs ≡ true → (s a : ℕ) → goes s a last hs ≡ true
 goes_from last [] up f s a = go (is_pair s a last)
   where
     go : (t : Bool) → cond t true true ≡ true
@@ -120,22 +132,29 @@ goes_from last (h ∷ hs) up f s a =
     let fs = both (follows last h) (pairs_follow_from h hs) f in
     go (is_pair s a last) (is_pair s a h) refl refl ups.0 (above_all (header_key h) (map header_key hs) ups.1) fs.0 (goes_from h hs ups.1 fs.1 s a)
   where
-    open_follows : (t u : Bool) → is_pair h.source h.addressee last ≡ t → follows last h ≡ true → cond t (h.number == last.number + 1 && nat_lt last.place h.place) (h.number == 1) ≡ true
+    open_follows : (t u : Bool) → is_pair h.source h.addressee last ≡ t → follows last h ≡ true
+        → cond t (h.number == last.number + 1 && nat_lt last.place h.place) (h.number == 1) ≡ true
     open_follows t u e g = subst (λ (b : Bool). cond b (h.number == last.number + 1 && nat_lt last.place h.place) (h.number == 1) ≡ true) e g
 
-    go : (t u : Bool) → is_pair s a last ≡ t → is_pair s a h ≡ u → is_below (header_key last) (header_key h) ≡ true → AllByRecursion (λ k. is_below (header_key h) k ≡ true) (map header_key hs)
+    go : (t u : Bool) → is_pair s a last ≡ t → is_pair s a h ≡ u → is_below (header_key last) (header_key h) ≡ true
+        → AllByRecursion (λ k. is_below (header_key h) k ≡ true) (map header_key hs)
         → follows last h ≡ true → cond (is_pair s a h) (goes_on h.number h.place (filter (is_pair s a) hs)) (begins (filter (is_pair s a) hs)) ≡ true
-        → cond t (goes_on last.number last.place (cond u (h ∷ filter (is_pair s a) hs) (filter (is_pair s a) hs))) (begins (cond u (h ∷ filter (is_pair s a) hs) (filter (is_pair s a) hs))) ≡ true
+        → cond t (goes_on last.number last.place (cond u (h ∷ filter (is_pair s a) hs) (filter (is_pair s a) hs)))
+        (begins (cond u (h ∷ filter (is_pair s a) hs) (filter (is_pair s a) hs)))
+        ≡ true
     go true true e g below up g1 more =
         let first = open_follows true true (pair_moves s a h last g ∙ e) g1 in
-        let rest : goes_on h.number h.place (filter (is_pair s a) hs) ≡ true = subst (λ (b : Bool). cond b (goes_on h.number h.place (filter (is_pair s a) hs)) (begins (filter (is_pair s a) hs)) ≡ true) g more in
+        let rest : goes_on h.number h.place (filter (is_pair s a) hs) ≡ true =
+        subst (λ (b : Bool). cond b (goes_on h.number h.place (filter (is_pair s a) hs)) (begins (filter (is_pair s a) hs)) ≡ true) g more in
         (λ i. first i && rest i)
     go true false e g below up g1 more = ap (goes_on last.number last.place) (no_more s a last h hs below up e g)
     go false true e g below up g1 more =
         let first = open_follows false true (pair_moves s a h last g ∙ e) g1 in
-        let rest : goes_on h.number h.place (filter (is_pair s a) hs) ≡ true = subst (λ (b : Bool). cond b (goes_on h.number h.place (filter (is_pair s a) hs)) (begins (filter (is_pair s a) hs)) ≡ true) g more in
+        let rest : goes_on h.number h.place (filter (is_pair s a) hs) ≡ true =
+        subst (λ (b : Bool). cond b (goes_on h.number h.place (filter (is_pair s a) hs)) (begins (filter (is_pair s a) hs)) ≡ true) g more in
         (λ i. first i && rest i)
-    go false false e g below up g1 more = subst (λ (b : Bool). cond b (goes_on h.number h.place (filter (is_pair s a) hs)) (begins (filter (is_pair s a) hs)) ≡ true) g more
+    go false false e g below up g1 more =
+        subst (λ (b : Bool). cond b (goes_on h.number h.place (filter (is_pair s a) hs)) (begins (filter (is_pair s a) hs)) ≡ true) g more
 
 module _ (last h : Header) (hs : List Header) (s a : ℕ) where
   abbrev others : List Header
@@ -148,19 +167,25 @@ module _ (last h : Header) (hs : List Header) (s a : ℕ) where
   is_next true it = (both (h.number == last.number + 1 && nat_lt last.place h.place) (goes_on h.number h.place others) it).0
   is_next false it = (both (h.number == 1) (goes_on h.number h.place others) it).0
 
-  still_goes : (t u : Bool) → is_pair s a last ≡ t → is_pair s a h ≡ u → is_below (header_key last) (header_key h) ≡ true → AllByRecursion (λ k. is_below (header_key h) k ≡ true) (map header_key hs)
+  still_goes : (t u : Bool) → is_pair s a last ≡ t → is_pair s a h ≡ u → is_below (header_key last) (header_key h) ≡ true
+      → AllByRecursion (λ k. is_below (header_key h) k ≡ true) (map header_key hs)
       → Goes t u → cond u (goes_on h.number h.place others) (begins others) ≡ true
   still_goes true true e g below up it = (both (h.number == last.number + 1 && nat_lt last.place h.place) (goes_on h.number h.place others) it).1
   still_goes false true e g below up it = (both (h.number == 1) (goes_on h.number h.place others) it).1
   still_goes true false e g below up it = ap begins (no_more s a last h hs below up e g)
   still_goes false false e g below up it = it
 
-pub follows_from : (last : Header) (hs : List Header) → climbs_above (header_key last) (map header_key hs) ≡ true → ((s a : ℕ) → goes s a last hs ≡ true) → pairs_follow_from last hs ≡ true
+pub follows_from : (last : Header) (hs : List Header) → climbs_above (header_key last) (map header_key hs) ≡ true
+    → ((s a : ℕ) → goes s a last hs ≡ true) → pairs_follow_from last hs ≡ true
 follows_from last [] up all = refl
 follows_from last (h ∷ hs) up all =
     let ups = both (is_below (header_key last) (header_key h)) (climbs_above (header_key h) (map header_key hs)) up in
-    let rest = follows_from h hs ups.1 (λ s a. still_goes last h hs s a (is_pair s a last) (is_pair s a h) refl refl ups.0 (above_all (header_key h) (map header_key hs) ups.1) (all s a)) in
-    let first = is_next last h hs h.source h.addressee (is_pair h.source h.addressee last) (subst (Goes last h hs h.source h.addressee (is_pair h.source h.addressee last)) (is_own h) (all h.source h.addressee)) in
+    let rest =
+    follows_from h hs ups.1
+    (λ s a. still_goes last h hs s a (is_pair s a last) (is_pair s a h) refl refl ups.0 (above_all (header_key h) (map header_key hs) ups.1) (all s a)) in
+    let first =
+    is_next last h hs h.source h.addressee (is_pair h.source h.addressee last)
+    (subst (Goes last h hs h.source h.addressee (is_pair h.source h.addressee last)) (is_own h) (all h.source h.addressee)) in
     (λ i. first i && rest i)
 
 pub pairs_hold : (hs : List Header) → climbs (map header_key hs) ≡ true → pairs_follow hs ≡ true → (s a : ℕ) → begins (filter (is_pair s a) hs) ≡ true
@@ -169,19 +194,23 @@ pairs_hold (h ∷ hs) up f s a =
     let fs = both (h.number == 1) (pairs_follow_from h hs) f in
     go (is_pair s a h) fs.0 (goes_from h hs up fs.1 s a)
   where
-    go : (t : Bool) → (h.number == 1) ≡ true → cond t (goes_on h.number h.place (filter (is_pair s a) hs)) (begins (filter (is_pair s a) hs)) ≡ true → begins (cond t (h ∷ filter (is_pair s a) hs) (filter (is_pair s a) hs)) ≡ true
+    go : (t : Bool) → (h.number == 1) ≡ true → cond t (goes_on h.number h.place (filter (is_pair s a) hs)) (begins (filter (is_pair s a) hs)) ≡ true
+        → begins (cond t (h ∷ filter (is_pair s a) hs) (filter (is_pair s a) hs)) ≡ true
     go true e it = (λ i. e i && it i)
     go false e it = it
 
 pub hold_pairs : (hs : List Header) → climbs (map header_key hs) ≡ true → ((s a : ℕ) → begins (filter (is_pair s a) hs) ≡ true) → pairs_follow hs ≡ true
 hold_pairs [] up all = refl
 hold_pairs (h ∷ hs) up all =
-    let own = subst (λ (t : Bool). begins (cond t (h ∷ filter (is_pair h.source h.addressee) hs) (filter (is_pair h.source h.addressee) hs)) ≡ true) (is_own h) (all h.source h.addressee) in
+    let own =
+    subst (λ (t : Bool). begins (cond t (h ∷ filter (is_pair h.source h.addressee) hs) (filter (is_pair h.source h.addressee) hs)) ≡ true)
+    (is_own h) (all h.source h.addressee) in
     let first = (both (h.number == 1) (goes_on h.number h.place (filter (is_pair h.source h.addressee) hs)) own).0 in
     let rest = follows_from h hs up (λ s a. go s a (is_pair s a h) (all s a)) in
     (λ i. first i && rest i)
   where
-    go : (s a : ℕ) (t : Bool) → begins (cond t (h ∷ filter (is_pair s a) hs) (filter (is_pair s a) hs)) ≡ true → cond t (goes_on h.number h.place (filter (is_pair s a) hs)) (begins (filter (is_pair s a) hs)) ≡ true
+    go : (s a : ℕ) (t : Bool) → begins (cond t (h ∷ filter (is_pair s a) hs) (filter (is_pair s a) hs)) ≡ true
+        → cond t (goes_on h.number h.place (filter (is_pair s a) hs)) (begins (filter (is_pair s a) hs)) ≡ true
     go s a true it = (both (h.number == 1) (goes_on h.number h.place (filter (is_pair s a) hs)) it).1
     go s a false it = it
 
@@ -197,7 +226,8 @@ lower : (p q : ℕ) → p < q → (hs : List Header) → AllByRecursion (λ x. q
 lower p q h [] all = tt
 lower p q h (x ∷ hs) all = (omega (arith, h, all.0), lower p q h hs all.1)
 
-goes_counts : (n p : ℕ) (hs : List Header) → goes_on n p hs ≡ true → IsCounted (n + 1) (map (λ h. h.number) hs) × PlacesRise hs × AllByRecursion (λ x. p < x.place) hs
+goes_counts : (n p : ℕ) (hs : List Header) → goes_on n p hs ≡ true
+    → IsCounted (n + 1) (map (λ h. h.number) hs) × PlacesRise hs × AllByRecursion (λ x. p < x.place) hs
 goes_counts n p [] g = (tt, tt, tt)
 goes_counts n p (h ∷ hs) g =
     let rest = both (h.number == n + 1 && nat_lt p h.place) (goes_on h.number h.place hs) g in
@@ -218,7 +248,8 @@ begins_counts (h ∷ hs) g =
 less_is : (m n : ℕ) → m < n → nat_lt m n ≡ true
 less_is m n h = grind (arith, nat_tests)
 
-counts_go : (n p : ℕ) (hs : List Header) → IsCounted (n + 1) (map (λ h. h.number) hs) → PlacesRise hs → AllByRecursion (λ x. p < x.place) hs → goes_on n p hs ≡ true
+counts_go : (n p : ℕ) (hs : List Header) → IsCounted (n + 1) (map (λ h. h.number) hs)
+    → PlacesRise hs → AllByRecursion (λ x. p < x.place) hs → goes_on n p hs ≡ true
 counts_go n p [] c up low = refl
 counts_go n p (h ∷ hs) c up low =
     let number = equal_test h.number (n + 1) c.0 in
@@ -247,11 +278,13 @@ within_pair : (s a m n : ℕ) → is_below (s ∷ a ∷ m ∷ []) (s ∷ a ∷ n
 within_pair s a m n h = grind (arith, nat_tests)
 
 module _ (s a : ℕ) where
-  numbers_above : (h : Header) (hs : List Header) → is_pair s a h ≡ true → AllByRecursion (λ x. is_below (header_key h) (header_key x) ≡ true) hs → AllByRecursion (λ x. h.number < x.number) (filter (is_pair s a) hs)
+  numbers_above : (h : Header) (hs : List Header) → is_pair s a h ≡ true → AllByRecursion (λ x. is_below (header_key h) (header_key x) ≡ true) hs
+      → AllByRecursion (λ x. h.number < x.number) (filter (is_pair s a) hs)
   numbers_above h [] p below = tt
   numbers_above h (x ∷ hs) p below = go (is_pair s a x) refl (numbers_above h hs p below.1)
     where
-      go : (t : Bool) → is_pair s a x ≡ t → AllByRecursion (λ y. h.number < y.number) (filter (is_pair s a) hs) → AllByRecursion (λ y. h.number < y.number) (cond t (x ∷ filter (is_pair s a) hs) (filter (is_pair s a) hs))
+      go : (t : Bool) → is_pair s a x ≡ t → AllByRecursion (λ y. h.number < y.number) (filter (is_pair s a) hs)
+          → AllByRecursion (λ y. h.number < y.number) (cond t (x ∷ filter (is_pair s a) hs) (filter (is_pair s a) hs))
       go false e more = more
       go true e more =
           let one = pair_is s a h p in
@@ -261,16 +294,19 @@ module _ (s a : ℕ) where
             more,
           )
 
-  numbers_rise : (hs : List Header) → IsAscending (λ g h. is_below (header_key g) (header_key h) ≡ true) hs → IsAscending (λ x y. x.number < y.number) (filter (is_pair s a) hs)
+  numbers_rise : (hs : List Header) → IsAscending (λ g h. is_below (header_key g) (header_key h) ≡ true) hs
+      → IsAscending (λ x y. x.number < y.number) (filter (is_pair s a) hs)
   numbers_rise [] up = tt
   numbers_rise (h ∷ hs) up = go (is_pair s a h) refl (numbers_rise hs up.1)
     where
-      go : (t : Bool) → is_pair s a h ≡ t → IsAscending (λ x y. x.number < y.number) (filter (is_pair s a) hs) → IsAscending (λ x y. x.number < y.number) (cond t (h ∷ filter (is_pair s a) hs) (filter (is_pair s a) hs))
+      go : (t : Bool) → is_pair s a h ≡ t → IsAscending (λ x y. x.number < y.number) (filter (is_pair s a) hs)
+          → IsAscending (λ x y. x.number < y.number) (cond t (h ∷ filter (is_pair s a) hs) (filter (is_pair s a) hs))
       go false e more = more
       go true e more = (numbers_above h hs e up.0, more)
 
 -- if consignments are numbered in the order of their places, then in the order of the keys each pair's consignments follow each other
-module _ (hs js : List Header) (bag : IsPermutation hs js) (up : climbs (map header_key hs) ≡ true) (placed : IsCounted 1 (map (λ (h : Header). h.place) js)) where
+module _ (hs js : List Header) (bag : IsPermutation hs js) (up : climbs (map header_key hs) ≡ true)
+    (placed : IsCounted 1 (map (λ (h : Header). h.place) js)) where
   own_bag : (s a : ℕ) → IsPermutation (filter (is_pair s a) hs) (filter (is_pair s a) js)
   own_bag s a = IsPermutation-filter (is_pair s a) hs js bag
 
@@ -281,13 +317,17 @@ module _ (hs js : List Header) (bag : IsPermutation hs js) (up : climbs (map hea
   numbered_from_pairs f s a =
       let known = begins_counts (filter (is_pair s a) hs) (pairs_hold hs up f s a) in
       let same : filter (is_pair s a) js ≡ filter (is_pair s a) hs
-      = sorted_unique (λ (x y : Header). nat_cmp x.place y.place) (on_total (λ (x : Header). x.place) nat_cmp_total) (filter (is_pair s a) hs) (filter (is_pair s a) js) (strictly_less _ known.1) (own_bag s a) (sorted_from_rising (λ (x : Header). x.place) _ (own_rise s a)) in
+      =
+      sorted_unique (λ (x y : Header). nat_cmp x.place y.place) (on_total (λ (x : Header). x.place) nat_cmp_total) (filter (is_pair s a) hs)
+      (filter (is_pair s a) js) (strictly_less _ known.1) (own_bag s a) (sorted_from_rising (λ (x : Header). x.place) _ (own_rise s a)) in
       subst (λ (xs : List Header). IsCounted 1 (map (λ (h : Header). h.number) xs)) (sym same) known.0
 
   pub pairs_from_numbered : ((s a : ℕ) → IsCounted 1 (map (λ (h : Header). h.number) (filter (is_pair s a) js))) → pairs_follow hs ≡ true
   pairs_from_numbered all =
       hold_pairs hs up (λ s a. (
       let same : filter (is_pair s a) hs ≡ filter (is_pair s a) js
-      = one_rising (λ (x : Header). x.number) (filter (is_pair s a) hs) (filter (is_pair s a) js) (IsPermutation-sym _ _ (own_bag s a)) (all s a) (numbers_rise s a hs (ascending_from_climbs header_key hs up)) in
+      =
+      one_rising (λ (x : Header). x.number) (filter (is_pair s a) hs) (filter (is_pair s a) js)
+      (IsPermutation-sym _ _ (own_bag s a)) (all s a) (numbers_rise s a hs (ascending_from_climbs header_key hs up)) in
       subst (λ (xs : List Header). begins xs ≡ true) (sym same) (counts_begin _ (all s a) (own_rise s a))
       ))

@@ -1,5 +1,8 @@
 -- If no two copies have the same key, what custody asks of each mark holds of all tests of marks, and each mark has an origin.
-use Rattle.shop_types.proofs.Common.{◌≡◌, ◌&&◌, ◌||◌, ◌+◌, ◌==◌, ◌≤◌, ℕ, nat_lt, List, [], ◌∷◌, ◌++◌, map, not, Bool, true, false, cond, refl, sym, ap, ◌∙◌, arith, true≢false, IsPermutation, list_any, list_all, bytes_eq, IsPermutation-map, IsPermutation-append, Row, Here, Scrapped, BookCopy, Mark, Line, UnderWay, Missing, are_different, one, is_mark, is_origin, copy_is, line_is, rows_made, is_made_as}
+use Rattle.shop_types.proofs.Common.{◌≡◌, ◌&&◌, ◌||◌, ◌+◌, ◌==◌, ◌≤◌, ℕ, nat_lt, List, [], ◌∷◌, ◌++◌, map, not, Bool, true, false, cond, refl, sym, ap, ◌∙◌}
+use Rattle.shop_types.proofs.Common.{arith, true≢false, IsPermutation, list_any, list_all, bytes_eq, IsPermutation-map, IsPermutation-append, Row, Here}
+use Rattle.shop_types.proofs.Common.{Scrapped, BookCopy, Mark, Line, UnderWay, Missing, are_different, one, is_mark, is_origin, copy_is, line_is, rows_made}
+use Rattle.shop_types.proofs.Common.{is_made_as}
 use Rattle.audit_rows.specs.Lists.{count, climbs}
 use Rattle.audit_rows.specs.Canons.{row_key}
 use Rattle.audit_rows.specs.Marked.{Marked, AreInCustody, marked, marked_row, marked_line, places_in}
@@ -7,7 +10,8 @@ use Rattle.audit_rows.proofs.Keys.{both, different-map, different_from_climbs}
 use Rattle.audit_rows.proofs.Maps.{all-map}
 use Rattle.audit_rows.proofs.Tests.{all_congr, any_congr, different_congr}
 use Rattle.audit_rows.proofs.Transfer.{all_along, total_along}
-use Rattle.audit_rows.proofs.MarkLemmas.{Looked, all_from, all_both, all_append, some_counted, both_found, not_true, same_marks, mark_itself, mark_test, made_of, placed_of, lines_of, count_made, count_places, looked_of_asked, is_asked, within_all, one_some}
+use Rattle.audit_rows.proofs.MarkLemmas.{Looked, all_from, all_both, all_append, some_counted, both_found, not_true, same_marks, mark_itself, mark_test}
+use Rattle.audit_rows.proofs.MarkLemmas.{made_of, placed_of, lines_of, count_made, count_places, looked_of_asked, is_asked, within_all, one_some}
 
 -- ---- if one list has each mark once, and another list has all its marks, the first list has no more of any mark
 
@@ -15,7 +19,8 @@ none_all : {X : Type 0} (p : X → Bool) (xs : List X) → list_any p xs ≡ fal
 none_all p [] h = refl
 none_all p (x ∷ xs) h = go (p x) h (none_all p xs)
   where
-    go : (t : Bool) → (t || list_any p xs) ≡ false → (list_any p xs ≡ false → list_all (λ y. not (p y)) xs ≡ true) → (not t && list_all (λ y. not (p y)) xs) ≡ true
+    go : (t : Bool) → (t || list_any p xs) ≡ false → (list_any p xs ≡ false → list_all (λ y. not (p y)) xs ≡ true)
+        → (not t && list_all (λ y. not (p y)) xs) ≡ true
     go true h more = absurd (true≢false h)
     go false h more = more h
 
@@ -27,7 +32,8 @@ module _ {Y : Type 0} (mark : Y → Mark) where
   abbrev has : Mark → List Y → Bool
   has m ys = list_any (λ y. is_mark m (mark y)) ys
 
-  one_less : (test : Mark → Bool) (m : Mark) (ys : List Y) → has m ys ≡ true → count (λ y. test (mark y)) ys ≡ one (test m) + count (λ y. test (mark y)) (without m ys)
+  one_less : (test : Mark → Bool) (m : Mark) (ys : List Y) → has m ys ≡ true
+      → count (λ y. test (mark y)) ys ≡ one (test m) + count (λ y. test (mark y)) (without m ys)
   unfolding without
   one_less test m [] h = absurd (true≢false (sym h))
   one_less test m (y ∷ ys) h = go (is_mark m (mark y)) refl h (one_less test m ys)
@@ -46,7 +52,8 @@ module _ {Y : Type 0} (mark : Y → Mark) where
       clash : is_mark m (mark y) ≡ true → is_mark n (mark y) ≡ true → true ≡ false
       clash e f = sym (mark_itself m) ∙ ap (is_mark m) (sym (same_marks m (mark y) e) ∙ same_marks n (mark y) f) ∙ apart
 
-      go : (s t : Bool) → is_mark m (mark y) ≡ s → is_mark n (mark y) ≡ t → (t || has n ys) ≡ true → (has n ys ≡ true → has n (without m ys) ≡ true) → has n (cond s ys (y ∷ without m ys)) ≡ true
+      go : (s t : Bool) → is_mark m (mark y) ≡ s → is_mark n (mark y) ≡ t → (t || has n ys) ≡ true
+          → (has n ys ≡ true → has n (without m ys) ≡ true) → has n (cond s ys (y ∷ without m ys)) ≡ true
       go true true e f h more = absurd (true≢false (clash e f))
       go true false e f h more = h
       go false true e f h more = ap (λ b. b || has n (without m ys)) f
@@ -83,7 +90,8 @@ not_made m [] h = refl
 not_made m (row ∷ rows) h = go (is_origin row) (is_mark m (own row)) refl refl h (not_made m rows)
   where
     go : (s t : Bool) → is_origin row ≡ s → is_mark m (own row) ≡ t → (t || list_any (λ it. is_mark m (own it)) rows) ≡ false
-        → (list_any (λ it. is_mark m (own it)) rows ≡ false → list_any (is_mark m) (made_of rows) ≡ false) → list_any (is_mark m) (cond s (row.it.mark ∷ made_of rows) (made_of rows)) ≡ false
+        → (list_any (λ it. is_mark m (own it)) rows ≡ false → list_any (is_mark m) (made_of rows) ≡ false)
+        → list_any (is_mark m) (cond s (row.it.mark ∷ made_of rows) (made_of rows)) ≡ false
     go s true e f h more = absurd (true≢false h)
     go true false e f h more = (λ i. (ap (is_mark m) (origin_own row e) ∙ f) i || more h i)
     go false false e f h more = more h
@@ -92,22 +100,27 @@ made_once : (rows : List (Row BookCopy)) → are_different (λ a b. is_mark (own
 unfolding made_of
 made_once [] h = refl
 made_once (row ∷ rows) h =
-    go (is_origin row) refl (both (not (list_any (λ b. is_mark (own row) (own b)) rows)) (are_different (λ a b. is_mark (own a) (own b)) rows) h) (made_once rows)
+    go (is_origin row) refl
+    (both (not (list_any (λ b. is_mark (own row) (own b)) rows)) (are_different (λ a b. is_mark (own a) (own b)) rows) h) (made_once rows)
   where
-    go : (t : Bool) → is_origin row ≡ t → (not (list_any (λ b. is_mark (own row) (own b)) rows) ≡ true) × (are_different (λ a b. is_mark (own a) (own b)) rows ≡ true)
+    go : (t : Bool) → is_origin row ≡ t
+        → (not (list_any (λ b. is_mark (own row) (own b)) rows) ≡ true) × (are_different (λ a b. is_mark (own a) (own b)) rows ≡ true)
         → (are_different (λ a b. is_mark (own a) (own b)) rows ≡ true → are_different is_mark (made_of rows) ≡ true)
         → are_different is_mark (cond t (row.it.mark ∷ made_of rows) (made_of rows)) ≡ true
     go true e h more =
-        let none : list_any (is_mark row.it.mark) (made_of rows) ≡ false = ap (λ m. list_any (is_mark m) (made_of rows)) (origin_own row e) ∙ not_made (own row) rows (not_true _ h.0) in
+        let none : list_any (is_mark row.it.mark) (made_of rows) ≡ false =
+        ap (λ m. list_any (is_mark m) (made_of rows)) (origin_own row e) ∙ not_made (own row) rows (not_true _ h.0) in
         (λ i. not (none i) && more h.1 i)
     go false e h more = more h.1
 
-made_within : (p : Mark → Bool) (rows : List (Row BookCopy)) → list_all (λ (it : Marked). p it.1) (map marked_row rows) ≡ true → list_all p (made_of rows) ≡ true
+made_within : (p : Mark → Bool) (rows : List (Row BookCopy))
+    → list_all (λ (it : Marked). p it.1) (map marked_row rows) ≡ true → list_all p (made_of rows) ≡ true
 unfolding made_of
 made_within p [] h = refl
 made_within p (row ∷ rows) h = go (is_origin row) (both (p row.it.mark) (list_all (λ (it : Marked). p it.1) (map marked_row rows)) h) (made_within p rows)
   where
-    go : (t : Bool) → (p row.it.mark ≡ true) × (list_all (λ (it : Marked). p it.1) (map marked_row rows) ≡ true) → (list_all (λ (it : Marked). p it.1) (map marked_row rows) ≡ true → list_all p (made_of rows) ≡ true)
+    go : (t : Bool) → (p row.it.mark ≡ true) × (list_all (λ (it : Marked). p it.1) (map marked_row rows) ≡ true)
+        → (list_all (λ (it : Marked). p it.1) (map marked_row rows) ≡ true → list_all p (made_of rows) ≡ true)
         → list_all p (cond t (row.it.mark ∷ made_of rows) (made_of rows)) ≡ true
     go true h more = λ i. h.0 i && more h.1 i
     go false h more = more h.1
@@ -127,9 +140,11 @@ weaker : (o s f : Bool) → (not s || f) ≡ true → (not (o && s) || f) ≡ tr
 weaker true s f h = h
 weaker false s f h = refl
 
-has_origin : (film : ℕ) (m : Mark) (rows : List (Row BookCopy)) → nat_lt 0 (rows_made (is_mark m) rows) ≡ true → list_all (λ (row : Row BookCopy). not (is_mark m row.it.mark) || row.it.film == film) rows ≡ true → is_made_as rows film m ≡ true
+has_origin : (film : ℕ) (m : Mark) (rows : List (Row BookCopy)) → nat_lt 0 (rows_made (is_mark m) rows) ≡ true
+    → list_all (λ (row : Row BookCopy). not (is_mark m row.it.mark) || row.it.film == film) rows ≡ true → is_made_as rows film m ≡ true
 has_origin film m rows a b =
-    sym (any_congr _ _ (λ (row : Row BookCopy). regroup (is_origin row) (row.it.mark.branch == m.branch) (row.it.mark.copy == m.copy) (row.it.film == film)) rows)
+    sym
+    (any_congr _ _ (λ (row : Row BookCopy). regroup (is_origin row) (row.it.mark.branch == m.branch) (row.it.mark.copy == m.copy) (row.it.film == film)) rows)
     ∙ both_found (λ (row : Row BookCopy). is_origin row && is_mark m row.it.mark) (λ (row : Row BookCopy). row.it.film == film) rows (some_counted _ rows ∙ a)
     (all_from _ _ rows b (λ row e. weaker (is_origin row) (is_mark m row.it.mark) (row.it.film == film) e))
 
@@ -139,7 +154,8 @@ module _ (copies : List (Row BookCopy)) (lines : List Line) (up : climbs (map ro
   apart : are_different is_mark (made_of copies) ≡ true
   apart =
       made_once copies
-      (sym (different_congr (λ (x y : Row BookCopy). bytes_eq (row_key x) (row_key y)) (λ (x y : Row BookCopy). is_mark (own x) (own y)) (λ x y. mark_test (own x) (own y)) copies)
+      (sym (different_congr (λ (x y : Row BookCopy). bytes_eq (row_key x) (row_key y))
+      (λ (x y : Row BookCopy). is_mark (own x) (own y)) (λ x y. mark_test (own x) (own y)) copies)
       ∙ sym (different-map bytes_eq row_key copies) ∙ different_from_climbs (map row_key copies) up)
 
   abbrev places : List Marked
@@ -149,12 +165,14 @@ module _ (copies : List (Row BookCopy)) (lines : List Line) (up : climbs (map ro
   looked = looked_of_asked (made_of copies) places (marked copies lines) (within_all copies lines) (is_asked copies lines a)
 
   all_placed : list_all (λ (it : Marked). has (λ (q : Marked). q.1) it.1 places) (marked copies lines) ≡ true
-  all_placed = all_from _ _ (marked copies lines) (is_asked copies lines a).place (λ it e. some_counted (λ (q : Marked). is_mark it.1 q.1) places ∙ one_some _ e)
+  all_placed =
+      all_from _ _ (marked copies lines) (is_asked copies lines a).place (λ it e. some_counted (λ (q : Marked). is_mark it.1 q.1) places ∙ one_some _ e)
 
   made_placed : list_all (λ m. has (λ (q : Marked). q.1) m places) (made_of copies) ≡ true
   made_placed =
       made_within (λ (m : Mark). has (λ (q : Marked). q.1) m places) copies
-      (both (list_all (λ (it : Marked). has (λ (q : Marked). q.1) it.1 places) (map marked_row copies)) (list_all (λ (it : Marked). has (λ (q : Marked). q.1) it.1 places) (map marked_line lines))
+      (both (list_all (λ (it : Marked). has (λ (q : Marked). q.1) it.1 places) (map marked_row copies))
+      (list_all (λ (it : Marked). has (λ (q : Marked). q.1) it.1 places) (map marked_line lines))
       (sym (all_append _ (map marked_row copies) (map marked_line lines)) ∙ all_placed)).0
 
   -- what was made is what has a place, whatever marks are asked of
@@ -166,19 +184,29 @@ module _ (copies : List (Row BookCopy)) (lines : List Line) (up : climbs (map ro
       let placed = count_places test copies lines in
       omega (arith, below, above, made, placed)
 
-  origin : (it : Marked) → (nat_lt 0 (rows_made (is_mark it.1) copies) ≡ true) × (list_all (λ (other : Marked). not (is_mark it.1 other.1) || other.0 == it.0) (marked copies lines) ≡ true) → is_made_as copies it.0 it.1 ≡ true
+  origin : (it : Marked)
+      → (nat_lt 0 (rows_made (is_mark it.1) copies) ≡ true)
+      × (list_all (λ (other : Marked). not (is_mark it.1 other.1) || other.0 == it.0) (marked copies lines) ≡ true)
+      → is_made_as copies it.0 it.1 ≡ true
   origin it h =
-      let parts = both (list_all (λ (other : Marked). not (is_mark it.1 other.1) || other.0 == it.0) (map marked_row copies)) (list_all (λ (other : Marked). not (is_mark it.1 other.1) || other.0 == it.0) (map marked_line lines))
+      let parts =
+      both (list_all (λ (other : Marked). not (is_mark it.1 other.1) || other.0 == it.0) (map marked_row copies))
+      (list_all (λ (other : Marked). not (is_mark it.1 other.1) || other.0 == it.0) (map marked_line lines))
       (sym (all_append _ (map marked_row copies) (map marked_line lines)) ∙ h.1) in
       has_origin it.0 it.1 copies h.0 (sym (all-map (λ (other : Marked). not (is_mark it.1 other.1) || other.0 == it.0) marked_row copies) ∙ parts.0)
 
   origins : list_all (λ (it : Marked). is_made_as copies it.0 it.1) (marked copies lines) ≡ true
   origins = all_from _ _ (marked copies lines) (all_both _ _ (marked copies lines) a.is_made a.film)
-      (λ it e. origin it (both (nat_lt 0 (rows_made (is_mark it.1) copies)) (list_all (λ (other : Marked). not (is_mark it.1 other.1) || other.0 == it.0) (marked copies lines)) e))
+      (λ it e.
+      origin it
+      (both (nat_lt 0 (rows_made (is_mark it.1) copies))
+      (list_all (λ (other : Marked). not (is_mark it.1 other.1) || other.0 == it.0) (marked copies lines)) e))
 
-  split_origins : (list_all (λ (it : Marked). is_made_as copies it.0 it.1) (map marked_row copies) ≡ true) × (list_all (λ (it : Marked). is_made_as copies it.0 it.1) (map marked_line lines) ≡ true)
+  split_origins : (list_all (λ (it : Marked). is_made_as copies it.0 it.1) (map marked_row copies) ≡ true)
+      × (list_all (λ (it : Marked). is_made_as copies it.0 it.1) (map marked_line lines) ≡ true)
   split_origins =
-      both (list_all (λ (it : Marked). is_made_as copies it.0 it.1) (map marked_row copies)) (list_all (λ (it : Marked). is_made_as copies it.0 it.1) (map marked_line lines))
+      both (list_all (λ (it : Marked). is_made_as copies it.0 it.1) (map marked_row copies))
+      (list_all (λ (it : Marked). is_made_as copies it.0 it.1) (map marked_line lines))
       (sym (all_append (λ (it : Marked). is_made_as copies it.0 it.1) (map marked_row copies) (map marked_line lines)) ∙ origins)
 
   pub origins_of_rows : list_all (λ (row : Row BookCopy). is_made_as copies row.it.film row.it.mark) copies ≡ true

@@ -1,5 +1,6 @@
 -- If rows are in the order of their branches, the rows of the first branch come first.
-use Rattle.shop_types.proofs.Common.{◌≡◌, ◌+◌, ◌<◌, ◌≤◌, ◌==◌, ◌++◌, ℕ, List, [], ◌∷◌, filter, Bool, true, false, cond, refl, sym, ap, subst, ◌∙◌, arith, AllByRecursion, nat_tests}
+use Rattle.shop_types.proofs.Common.{◌≡◌, ◌+◌, ◌<◌, ◌≤◌, ◌==◌, ◌++◌, ℕ, List, [], ◌∷◌, filter, Bool, true, false, cond, refl, sym, ap, subst, ◌∙◌, arith}
+use Rattle.shop_types.proofs.Common.{AllByRecursion, nat_tests}
 use Rattle.sqlite_trees.specs.Tree.{IsAscending}
 use Rattle.audit_rows.specs.Lists.{front_of, back_of}
 
@@ -86,7 +87,8 @@ module _ {X : Type 0} (owner : X → ℕ) (all : List X) where
   rest_begins up low = record { rise = up; low = low; same = λ c h. refl }
 
   -- the leading rows are the next branch's
-  pub rest_own : (b : ℕ) (rest front : List X) → IsRest owner all rest b → front ≡ front_of (λ x. owner x == b + 1) rest → front ≡ filter (λ x. owner x == b + 1) all
+  pub rest_own : (b : ℕ) (rest front : List X) → IsRest owner all rest b
+      → front ≡ front_of (λ x. owner x == b + 1) rest → front ≡ filter (λ x. owner x == b + 1) all
   rest_own b rest front r e = e ∙ own_in_front owner (b + 1) rest r.rise r.low ∙ r.same (b + 1) (omega arith)
 
   pub rest_step : (b : ℕ) (rest back : List X) → IsRest owner all rest b → back ≡ back_of (λ x. owner x == b + 1) rest → IsRest owner all back (b + 1)

@@ -1,5 +1,7 @@
 -- Keys in order: if each key is above the one before it, no two keys of the list are the same, in any order of the list.
-use Rattle.shop_types.proofs.Common.{◌≡◌, ◌&&◌, ◌||◌, suc, List, [], ◌∷◌, map, not, Bool, true, false, refl, sym, ap, subst, ◌∙◌, arith, true≢false, IsPermutation, Ordering, Less, Equal, Greater, is_lt, add-one, nat_cmp, ordering_reverse, IsTotalOrder, slice_cmp, bytes_eq, list_any, IsSortedByKey, nat_list_cmp_total, tied_itself, exact_bytes, bytes_eq-Decides, are_different}
+use Rattle.shop_types.proofs.Common.{◌≡◌, ◌&&◌, ◌||◌, suc, List, [], ◌∷◌, map, not, Bool, true, false, refl, sym, ap, subst, ◌∙◌, arith, true≢false}
+use Rattle.shop_types.proofs.Common.{IsPermutation, Ordering, Less, Equal, Greater, is_lt, add-one, nat_cmp, ordering_reverse, IsTotalOrder, slice_cmp}
+use Rattle.shop_types.proofs.Common.{bytes_eq, list_any, IsSortedByKey, nat_list_cmp_total, tied_itself, exact_bytes, bytes_eq-Decides, are_different}
 use native.Mathlib.Numerals.{unary_clauses}
 use Rattle.sqlite_keyed.proofs.ListLemmas.{along_permutation}
 use Rattle.audit_rows.specs.Lists.{Key, is_below, climbs, climbs_above}
@@ -111,12 +113,14 @@ climbs_decides_from low (k ∷ ks) up = go (climbs_decides_from k ks up.1) (is_b
     stays below true false e f = refl
     stays below false false e f = refl
 
-    go : climbs_above k ks ≡ (not (list_any (bytes_eq k) ks) && are_different bytes_eq ks) → (t : Bool) → is_below low k ≡ t → (t && climbs_above k ks) ≡ (not (bytes_eq low k || list_any (bytes_eq low) ks) && (not (list_any (bytes_eq k) ks) && are_different bytes_eq ks))
+    go : climbs_above k ks ≡ (not (list_any (bytes_eq k) ks) && are_different bytes_eq ks) → (t : Bool) → is_below low k ≡ t
+        → (t && climbs_above k ks) ≡ (not (bytes_eq low k || list_any (bytes_eq low) ks) && (not (list_any (bytes_eq k) ks) && are_different bytes_eq ks))
     go more true e =
         stays e (climbs_above k ks) (list_any (bytes_eq low) ks) refl refl
         ∙ (λ i. not (list_any (bytes_eq low) ks) && more i)
         ∙ ap (λ b. not (b || list_any (bytes_eq low) ks) && (not (list_any (bytes_eq k) ks) && are_different bytes_eq ks)) (sym (below_apart low k e))
-    go more false e = sym (ap (λ b. not (b || list_any (bytes_eq low) ks) && (not (list_any (bytes_eq k) ks) && are_different bytes_eq ks)) (neither_below low k e up.0))
+    go more false e =
+        sym (ap (λ b. not (b || list_any (bytes_eq low) ks) && (not (list_any (bytes_eq k) ks) && are_different bytes_eq ks)) (neither_below low k e up.0))
 
 pub any-map : {X Y : Type 0} (p : Y → Bool) (f : X → Y) (xs : List X) → list_any p (map f xs) ≡ list_any (λ x. p (f x)) xs
 any-map p f [] = refl

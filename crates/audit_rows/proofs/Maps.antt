@@ -17,7 +17,8 @@ pub filter-map : {X Y : Type 0} (p : Y → Bool) (f : X → Y) (xs : List X) →
 filter-map p f [] = refl
 filter-map p f (x ∷ xs) = go (p (f x)) (filter-map p f xs)
   where
-    go : (t : Bool) → filter p (map f xs) ≡ map f (filter (λ y. p (f y)) xs) → cond t (f x ∷ filter p (map f xs)) (filter p (map f xs)) ≡ map f (cond t (x ∷ filter (λ y. p (f y)) xs) (filter (λ y. p (f y)) xs))
+    go : (t : Bool) → filter p (map f xs) ≡ map f (filter (λ y. p (f y)) xs)
+        → cond t (f x ∷ filter p (map f xs)) (filter p (map f xs)) ≡ map f (cond t (x ∷ filter (λ y. p (f y)) xs) (filter (λ y. p (f y)) xs))
     go true more = ap (λ l. f x ∷ l) more
     go false more = more
 
@@ -26,6 +27,8 @@ length-map f [] = refl
 length-map f (x ∷ xs) = ap suc (length-map f xs)
 
 -- there are as many rows as there are mapped rows
-pub many_kept : {X Y A : Type 0} (f : X → Y) (g : X → A) (q : Y → Bool) (xs : List X) (ys : List Y) → map f xs ≡ ys → length (map g (filter (λ x. q (f x)) xs)) ≡ length (filter q ys)
+pub many_kept : {X Y A : Type 0} (f : X → Y) (g : X → A) (q : Y → Bool) (xs : List X) (ys : List Y)
+    → map f xs ≡ ys → length (map g (filter (λ x. q (f x)) xs)) ≡ length (filter q ys)
 many_kept f g q xs ys e =
-    length-map g (filter (λ x. q (f x)) xs) ∙ sym (length-map f (filter (λ x. q (f x)) xs)) ∙ ap length (sym (filter-map q f xs)) ∙ ap (λ l. length (filter q l)) e
+    length-map g (filter (λ x. q (f x)) xs) ∙ sym (length-map f (filter (λ x. q (f x)) xs))
+    ∙ ap length (sym (filter-map q f xs)) ∙ ap (λ l. length (filter q l)) e

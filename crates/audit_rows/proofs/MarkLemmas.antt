@@ -1,8 +1,12 @@
 -- Marks as keys: searching for keys answers what custody asks of marks.
-use Rattle.shop_types.proofs.Common.{◌≡◌, ◌&&◌, ◌||◌, ◌+◌, ◌==◌, ℕ, nat_lt, nat_le, List, [], ◌∷◌, ◌++◌, map, not, Bool, true, false, cond, refl, sym, ap, subst, ◌∙◌, arith, true≢false, IsPermutation, bytes_eq, list_any, list_all, nat_eq_equiv, nat_tests, list_any-IsPermutation, IsPermutation-map, Row, CopyState, Here, Sent, Scrapped, BookCopy, Mark, Line, LineState, UnderWay, Arrived, Missing, are_different, one, is_mark, is_origin, rows_made, rows_in, lines_in, copy_is, line_is}
+use Rattle.shop_types.proofs.Common.{◌≡◌, ◌&&◌, ◌||◌, ◌+◌, ◌==◌, ℕ, nat_lt, nat_le, List, [], ◌∷◌, ◌++◌, map, not, Bool, true, false, cond, refl, sym, ap}
+use Rattle.shop_types.proofs.Common.{subst, ◌∙◌, arith, true≢false, IsPermutation, bytes_eq, list_any, list_all, nat_eq_equiv, nat_tests}
+use Rattle.shop_types.proofs.Common.{list_any-IsPermutation, IsPermutation-map, Row, CopyState, Here, Sent, Scrapped, BookCopy, Mark, Line, LineState, UnderWay}
+use Rattle.shop_types.proofs.Common.{Arrived, Missing, are_different, one, is_mark, is_origin, rows_made, rows_in, lines_in, copy_is, line_is}
 use Rattle.sqlite_keyed.proofs.ListLemmas.{map-map}
 use Rattle.audit_rows.specs.Lists.{Key, count}
-use Rattle.audit_rows.specs.Marked.{mark_key, film_key, made_keys, is_copy_placed, is_line_placed, Marked, AreInCustody, marked, marked_row, marked_line, places_in, rows_placed, lines_placed, places_are_single}
+use Rattle.audit_rows.specs.Marked.{mark_key, film_key, made_keys, is_copy_placed, is_line_placed, Marked, AreInCustody, marked, marked_row, marked_line}
+use Rattle.audit_rows.specs.Marked.{places_in, rows_placed, lines_placed, places_are_single}
 use Rattle.audit_rows.proofs.Keys.{both, any-map, different-map}
 use Rattle.audit_rows.proofs.Maps.{all-map}
 use Rattle.audit_rows.proofs.Tests.{all_congr, any_congr, different_congr, all_and}
@@ -50,12 +54,14 @@ some_counted p (x ∷ xs) = go (p x) (some_counted p xs)
 none_counted : {X : Type 0} (p : X → Bool) (xs : List X) → list_any p xs ≡ false → count p xs ≡ 0
 none_counted p xs h = let e : nat_lt 0 (count p xs) ≡ false = sym (some_counted p xs) ∙ h in grind (arith, nat_tests)
 
-pub both_found : {X : Type 0} (p r : X → Bool) (xs : List X) → list_any p xs ≡ true → list_all (λ x. not (p x) || r x) xs ≡ true → list_any (λ x. p x && r x) xs ≡ true
+pub both_found : {X : Type 0} (p r : X → Bool) (xs : List X) → list_any p xs ≡ true
+    → list_all (λ x. not (p x) || r x) xs ≡ true → list_any (λ x. p x && r x) xs ≡ true
 both_found p r [] a b = absurd (true≢false (sym a))
 both_found p r (x ∷ xs) a b = go (p x) (r x) a (both (not (p x) || r x) (list_all (λ y. not (p y) || r y) xs) b) (both_found p r xs)
   where
     go : (s t : Bool) → (s || list_any p xs) ≡ true → ((not s || t) ≡ true) × (list_all (λ y. not (p y) || r y) xs ≡ true)
-        → (list_any p xs ≡ true → list_all (λ y. not (p y) || r y) xs ≡ true → list_any (λ y. p y && r y) xs ≡ true) → ((s && t) || list_any (λ y. p y && r y) xs) ≡ true
+        → (list_any p xs ≡ true → list_all (λ y. not (p y) || r y) xs ≡ true → list_any (λ y. p y && r y) xs ≡ true)
+        → ((s && t) || list_any (λ y. p y && r y) xs) ≡ true
     go true true a b more = refl
     go true false a b more = absurd (true≢false (sym b.0))
     go false t a b more = more a b.1
@@ -64,7 +70,8 @@ none_with : {X : Type 0} (p r : X → Bool) (xs : List X) → list_any p xs ≡ 
 none_with p r [] h = refl
 none_with p r (x ∷ xs) h = go (p x) h (none_with p r xs)
   where
-    go : (t : Bool) → (t || list_any p xs) ≡ false → (list_any p xs ≡ false → list_any (λ y. p y && r y) xs ≡ false) → ((t && r x) || list_any (λ y. p y && r y) xs) ≡ false
+    go : (t : Bool) → (t || list_any p xs) ≡ false → (list_any p xs ≡ false → list_any (λ y. p y && r y) xs ≡ false)
+        → ((t && r x) || list_any (λ y. p y && r y) xs) ≡ false
     go true e more = absurd (true≢false e)
     go false e more = more e
 
@@ -80,7 +87,8 @@ same_marks m n h =
     (λ i. record { branch = branch i; copy = copy i })
 
 pub mark_itself : (m : Mark) → is_mark m m ≡ true
-mark_itself m = let a : (m.branch == m.branch) ≡ true = grind (arith, nat_tests) in let b : (m.copy == m.copy) ≡ true = grind (arith, nat_tests) in (λ i. a i && b i)
+mark_itself m =
+    let a : (m.branch == m.branch) ≡ true = grind (arith, nat_tests) in let b : (m.copy == m.copy) ≡ true = grind (arith, nat_tests) in (λ i. a i && b i)
 
 abbrev same : Marked → Marked → Bool
 same a b = is_mark a.1 b.1
@@ -105,7 +113,8 @@ count_one it (q ∷ qs) d a = go (is_mark it.1 q.1) refl a (both (not (list_any 
 abbrev with_film : Mark → ℕ → Marked → Bool
 with_film m film q = is_mark m q.1 && q.0 == film
 
-one_film : (it : Marked) (a b : ℕ) (qs : List Marked) → are_different same qs ≡ true → list_any (with_film it.1 a) qs ≡ true → list_any (with_film it.1 b) qs ≡ true → a ≡ b
+one_film : (it : Marked) (a b : ℕ) (qs : List Marked) → are_different same qs ≡ true
+    → list_any (with_film it.1 a) qs ≡ true → list_any (with_film it.1 b) qs ≡ true → a ≡ b
 one_film it a b [] d f g = absurd (true≢false (sym f))
 one_film it a b (q ∷ qs) d f g = go (is_mark it.1 q.1) refl f g (both (not (list_any (same q) qs)) (are_different same qs) d) (one_film it a b qs)
   where
@@ -119,7 +128,8 @@ one_film it a b (q ∷ qs) d f g = go (is_mark it.1 q.1) refl f g (both (not (li
         first true e h = grind (arith, nat_tests)
         first false e h = absurd (true≢false (sym h))
 
-    go : (t : Bool) → is_mark it.1 q.1 ≡ t → ((t && q.0 == a) || list_any (with_film it.1 a) qs) ≡ true → ((t && q.0 == b) || list_any (with_film it.1 b) qs) ≡ true
+    go : (t : Bool) → is_mark it.1 q.1 ≡ t → ((t && q.0 == a) || list_any (with_film it.1 a) qs) ≡ true
+        → ((t && q.0 == b) || list_any (with_film it.1 b) qs) ≡ true
         → (not (list_any (same q) qs) ≡ true) × (are_different same qs ≡ true)
         → (are_different same qs ≡ true → list_any (with_film it.1 a) qs ≡ true → list_any (with_film it.1 b) qs ≡ true → a ≡ b) → a ≡ b
     go true e f g d more = let none = none_left it q e qs (not_true _ d.0) in sym (only a none f) ∙ only b none g
@@ -129,18 +139,23 @@ found_mark : (m : Mark) (film : ℕ) (qs : List Marked) → list_any (with_film 
 found_mark m film [] h = absurd (true≢false (sym h))
 found_mark m film (q ∷ qs) h = go (is_mark m q.1) (q.0 == film) h (found_mark m film qs)
   where
-    go : (s t : Bool) → ((s && t) || list_any (with_film m film) qs) ≡ true → (list_any (with_film m film) qs ≡ true → list_any (λ (x : Marked). is_mark m x.1) qs ≡ true) → (s || list_any (λ (x : Marked). is_mark m x.1) qs) ≡ true
+    go : (s t : Bool) → ((s && t) || list_any (with_film m film) qs) ≡ true
+        → (list_any (with_film m film) qs ≡ true → list_any (λ (x : Marked). is_mark m x.1) qs ≡ true)
+        → (s || list_any (λ (x : Marked). is_mark m x.1) qs) ≡ true
     go true t h more = refl
     go false t h more = more h
 
 distinct_from : (qs : List Marked) → list_all (λ (q : Marked). nat_le (count (same q) qs) 1) qs ≡ true → are_different same qs ≡ true
 distinct_from [] h = refl
 distinct_from (q ∷ qs) h =
-    let parts = both (nat_le (one (is_mark q.1 q.1) + count (same q) qs) 1) (list_all (λ (x : Marked). nat_le (one (is_mark x.1 q.1) + count (same x) qs) 1) qs) h in
+    let parts =
+    both (nat_le (one (is_mark q.1 q.1) + count (same q) qs) 1) (list_all (λ (x : Marked). nat_le (one (is_mark x.1 q.1) + count (same x) qs) 1) qs) h in
     let own : nat_le (one true + count (same q) qs) 1 ≡ true = ap (λ t. nat_le (one t + count (same q) qs) 1) (sym (mark_itself q.1)) ∙ parts.0 in
     let none : nat_lt 0 (count (same q) qs) ≡ false = grind (arith, nat_tests) in
     let apart : list_any (same q) qs ≡ false = some_counted (same q) qs ∙ none in
-    let less = all_from (λ (x : Marked). nat_le (one (is_mark x.1 q.1) + count (same x) qs) 1) (λ (x : Marked). nat_le (count (same x) qs) 1) qs parts.1 (λ x e. fewer (one (is_mark x.1 q.1)) (count (same x) qs) e) in
+    let less =
+    all_from (λ (x : Marked). nat_le (one (is_mark x.1 q.1) + count (same x) qs) 1)
+    (λ (x : Marked). nat_le (count (same x) qs) 1) qs parts.1 (λ x e. fewer (one (is_mark x.1 q.1)) (count (same x) qs) e) in
     (λ i. not (apart i) && distinct_from qs less i)
   where
     fewer : (m n : ℕ) → nat_le (m + n) 1 ≡ true → nat_le n 1 ≡ true
@@ -164,7 +179,8 @@ module _ (made : List Mark) (qs all : List Marked) (within : (p : Marked → Boo
       any_where (same it) (λ (q : Marked). list_any (is_mark q.1) made) qs (found_mark it.1 it.0 qs f) l.single
       (λ q e h. sym (some_counted (is_mark it.1) made) ∙ subst (λ m. list_any (is_mark m) made ≡ true) (same_marks it.1 q.1 e) h)
 
-  asked_film : Looked → (it other : Marked) → list_any (with_film it.1 it.0) qs ≡ true → list_any (with_film other.1 other.0) qs ≡ true → (not (is_mark it.1 other.1) || other.0 == it.0) ≡ true
+  asked_film : Looked → (it other : Marked) → list_any (with_film it.1 it.0) qs ≡ true
+      → list_any (with_film other.1 other.0) qs ≡ true → (not (is_mark it.1 other.1) || other.0 == it.0) ≡ true
   asked_film l it other f g = go (is_mark it.1 other.1) refl
     where
       equal : other.0 ≡ it.0 → (other.0 == it.0) ≡ true
@@ -180,23 +196,36 @@ module _ (made : List Mark) (qs all : List Marked) (within : (p : Marked → Boo
   pub asked_of_looked : Looked → Asked
   asked_of_looked l = record {
     is_made = all_from (λ (it : Marked). list_any (with_film it.1 it.0) qs) (λ (it : Marked). nat_lt 0 (count (is_mark it.1) made)) all l.found (asked_made l);
-    place = all_from (λ (it : Marked). list_any (with_film it.1 it.0) qs) (λ (it : Marked). count (same it) qs == 1) all l.found (λ it f. one_is _ (count_one it qs l.apart (found_mark it.1 it.0 qs f)));
-    film = all_from (λ (it : Marked). list_any (with_film it.1 it.0) qs) (λ (it : Marked). list_all (λ (other : Marked). not (is_mark it.1 other.1) || other.0 == it.0) all) all l.found
-        (λ it f. all_from (λ (other : Marked). list_any (with_film other.1 other.0) qs) (λ (other : Marked). not (is_mark it.1 other.1) || other.0 == it.0) all l.found (λ other g. asked_film l it other f g));
+    place =
+        all_from (λ (it : Marked). list_any (with_film it.1 it.0) qs) (λ (it : Marked). count (same it) qs == 1) all l.found
+        (λ it f. one_is _ (count_one it qs l.apart (found_mark it.1 it.0 qs f)));
+    film =
+        all_from (λ (it : Marked). list_any (with_film it.1 it.0) qs)
+        (λ (it : Marked). list_all (λ (other : Marked). not (is_mark it.1 other.1) || other.0 == it.0) all) all l.found
+        (λ it f.
+        all_from (λ (other : Marked). list_any (with_film other.1 other.0) qs)
+        (λ (other : Marked). not (is_mark it.1 other.1) || other.0 == it.0) all l.found (λ other g. asked_film l it other f g));
   }
 
   at_most : (n : ℕ) → (n == 1) ≡ true → nat_le n 1 ≡ true
   at_most n h = grind (arith, nat_tests)
 
-  looked_found : Asked → (it : Marked) → ((count (same it) qs == 1) && list_all (λ (other : Marked). not (is_mark it.1 other.1) || other.0 == it.0) all) ≡ true → list_any (with_film it.1 it.0) qs ≡ true
+  looked_found : Asked → (it : Marked) → ((count (same it) qs == 1) && list_all (λ (other : Marked). not (is_mark it.1 other.1) || other.0 == it.0) all) ≡ true
+      → list_any (with_film it.1 it.0) qs ≡ true
   looked_found a it h =
       let parts = both (count (same it) qs == 1) (list_all (λ (other : Marked). not (is_mark it.1 other.1) || other.0 == it.0) all) h in
-      both_found (same it) (λ (q : Marked). q.0 == it.0) qs (some_counted (same it) qs ∙ one_some (count (same it) qs) parts.0) (within (λ (other : Marked). not (is_mark it.1 other.1) || other.0 == it.0) parts.1)
+      both_found (same it) (λ (q : Marked). q.0 == it.0) qs (some_counted (same it) qs ∙ one_some (count (same it) qs) parts.0)
+      (within (λ (other : Marked). not (is_mark it.1 other.1) || other.0 == it.0) parts.1)
 
   pub looked_of_asked : Asked → Looked
   looked_of_asked a = record {
-    single = all_from (λ (q : Marked). nat_lt 0 (count (is_mark q.1) made)) (λ (q : Marked). list_any (is_mark q.1) made) qs (within _ a.is_made) (λ q e. some_counted (is_mark q.1) made ∙ e);
-    apart = distinct_from qs (all_from (λ (q : Marked). count (same q) qs == 1) (λ (q : Marked). nat_le (count (same q) qs) 1) qs (within _ a.place) (λ q e. at_most (count (same q) qs) e));
+    single =
+        all_from (λ (q : Marked). nat_lt 0 (count (is_mark q.1) made)) (λ (q : Marked). list_any (is_mark q.1) made) qs
+        (within _ a.is_made) (λ q e. some_counted (is_mark q.1) made ∙ e);
+    apart =
+        distinct_from qs
+        (all_from (λ (q : Marked). count (same q) qs == 1) (λ (q : Marked). nat_le (count (same q) qs) 1) qs
+        (within _ a.place) (λ q e. at_most (count (same q) qs) e));
     found = all_from _ (λ (it : Marked). list_any (with_film it.1 it.0) qs) all (all_both _ _ all a.place a.film) (looked_found a);
   }
 
@@ -222,7 +251,8 @@ unfolding made_of
 made_are [] = refl
 made_are (row ∷ rows) = go (is_origin row) (made_are rows)
   where
-    go : (t : Bool) → made_keys rows ≡ map mark_key (made_of rows) → cond t (mark_key row.it.mark ∷ made_keys rows) (made_keys rows) ≡ map mark_key (cond t (row.it.mark ∷ made_of rows) (made_of rows))
+    go : (t : Bool) → made_keys rows ≡ map mark_key (made_of rows)
+        → cond t (mark_key row.it.mark ∷ made_keys rows) (made_keys rows) ≡ map mark_key (cond t (row.it.mark ∷ made_of rows) (made_of rows))
     go true more = ap (λ ks. mark_key row.it.mark ∷ ks) more
     go false more = more
 
@@ -231,7 +261,9 @@ unfolding placed_of
 placed_are [] = refl
 placed_are (row ∷ rows) = go (is_copy_placed row.it.state) (placed_are rows)
   where
-    go : (t : Bool) → rows_placed rows ≡ map marked_key (placed_of rows) → cond t (film_key row.it.film row.it.mark ∷ rows_placed rows) (rows_placed rows) ≡ map marked_key (cond t (marked_row row ∷ placed_of rows) (placed_of rows))
+    go : (t : Bool) → rows_placed rows ≡ map marked_key (placed_of rows)
+        → cond t (film_key row.it.film row.it.mark ∷ rows_placed rows) (rows_placed rows)
+        ≡ map marked_key (cond t (marked_row row ∷ placed_of rows) (placed_of rows))
     go true more = ap (λ ks. film_key row.it.film row.it.mark ∷ ks) more
     go false more = more
 
@@ -240,7 +272,9 @@ unfolding lines_of
 lines_are [] = refl
 lines_are (line ∷ lines) = go (is_line_placed line.state) (lines_are lines)
   where
-    go : (t : Bool) → lines_placed lines ≡ map marked_key (lines_of lines) → cond t (film_key line.film line.mark ∷ lines_placed lines) (lines_placed lines) ≡ map marked_key (cond t (marked_line line ∷ lines_of lines) (lines_of lines))
+    go : (t : Bool) → lines_placed lines ≡ map marked_key (lines_of lines)
+        → cond t (film_key line.film line.mark ∷ lines_placed lines) (lines_placed lines)
+        ≡ map marked_key (cond t (marked_line line ∷ lines_of lines) (lines_of lines))
     go true more = ap (λ ks. film_key line.film line.mark ∷ ks) more
     go false more = more
 
@@ -250,7 +284,8 @@ module _ (test : Mark → Bool) where
   count_made [] = refl
   count_made (row ∷ rows) = go (is_origin row) (count_made rows)
     where
-      go : (b : Bool) → count test (made_of rows) ≡ rows_made test rows → count test (cond b (row.it.mark ∷ made_of rows) (made_of rows)) ≡ one (b && test row.it.mark) + rows_made test rows
+      go : (b : Bool) → count test (made_of rows) ≡ rows_made test rows
+          → count test (cond b (row.it.mark ∷ made_of rows) (made_of rows)) ≡ one (b && test row.it.mark) + rows_made test rows
       go true more = ap (λ n. one (test row.it.mark) + n) more
       go false more = omega (arith, more)
 
@@ -276,7 +311,8 @@ module _ (test : Mark → Bool) where
     where
       go : (s : LineState) → count of_mark (lines_of lines) ≡ lines_in UnderWay test lines + lines_in Missing test lines
           → count of_mark (cond (is_line_placed s) (marked_line line ∷ lines_of lines) (lines_of lines))
-          ≡ (one (line_is s UnderWay && test line.mark) + lines_in UnderWay test lines) + (one (line_is s Missing && test line.mark) + lines_in Missing test lines)
+          ≡ (one (line_is s UnderWay && test line.mark) + lines_in UnderWay test lines)
+          + (one (line_is s Missing && test line.mark) + lines_in Missing test lines)
       go UnderWay more = omega (arith, more)
       go Arrived more = omega (arith, more)
       go Missing more = omega (arith, more)
@@ -293,7 +329,9 @@ unfolding placed_of
 rows_within p [] h = refl
 rows_within p (row ∷ rows) h = go (is_copy_placed row.it.state) (both (p (marked_row row)) (list_all p (map marked_row rows)) h) (rows_within p rows)
   where
-    go : (t : Bool) → (p (marked_row row) ≡ true) × (list_all p (map marked_row rows) ≡ true) → (list_all p (map marked_row rows) ≡ true → list_all p (placed_of rows) ≡ true) → list_all p (cond t (marked_row row ∷ placed_of rows) (placed_of rows)) ≡ true
+    go : (t : Bool) → (p (marked_row row) ≡ true) × (list_all p (map marked_row rows) ≡ true)
+        → (list_all p (map marked_row rows) ≡ true → list_all p (placed_of rows) ≡ true)
+        → list_all p (cond t (marked_row row ∷ placed_of rows) (placed_of rows)) ≡ true
     go true h more = λ i. h.0 i && more h.1 i
     go false h more = more h.1
 
@@ -302,7 +340,9 @@ unfolding lines_of
 lines_within p [] h = refl
 lines_within p (line ∷ lines) h = go (is_line_placed line.state) (both (p (marked_line line)) (list_all p (map marked_line lines)) h) (lines_within p lines)
   where
-    go : (t : Bool) → (p (marked_line line) ≡ true) × (list_all p (map marked_line lines) ≡ true) → (list_all p (map marked_line lines) ≡ true → list_all p (lines_of lines) ≡ true) → list_all p (cond t (marked_line line ∷ lines_of lines) (lines_of lines)) ≡ true
+    go : (t : Bool) → (p (marked_line line) ≡ true) × (list_all p (map marked_line lines) ≡ true)
+        → (list_all p (map marked_line lines) ≡ true → list_all p (lines_of lines) ≡ true)
+        → list_all p (cond t (marked_line line ∷ lines_of lines) (lines_of lines)) ≡ true
     go true h more = λ i. h.0 i && more h.1 i
     go false h more = more h.1
 
@@ -337,7 +377,8 @@ cut_marks : (qs : List Marked) → map cut (map marked_key qs) ≡ map (λ (q : 
 unfolding cut
 cut_marks qs = map-map cut marked_key qs
 
-pub cut_rows : {X : Type 0} (film : X → ℕ) (mark : X → Mark) (rows : List X) (ks : List Key) → map (λ row. film_key (film row) (mark row)) rows ≡ ks → map (λ row. mark_key (mark row)) rows ≡ map cut ks
+pub cut_rows : {X : Type 0} (film : X → ℕ) (mark : X → Mark) (rows : List X) (ks : List Key)
+    → map (λ row. film_key (film row) (mark row)) rows ≡ ks → map (λ row. mark_key (mark row)) rows ≡ map cut ks
 unfolding cut
 cut_rows film mark rows ks h = sym (map-map cut (λ row. film_key (film row) (mark row)) rows) ∙ ap (map cut) h
 
@@ -350,7 +391,9 @@ module _ (copies : List (Row BookCopy)) (lines : List Line) where
 
   pub within_all : (p : Marked → Bool) → list_all p (marked copies lines) ≡ true → list_all p places ≡ true
   within_all p h =
-      let parts = both (list_all p (map marked_row copies)) (list_all p (map marked_line lines)) (sym (all_append p (map marked_row copies) (map marked_line lines)) ∙ h) in
+      let parts =
+      both (list_all p (map marked_row copies)) (list_all p (map marked_line lines))
+      (sym (all_append p (map marked_row copies) (map marked_line lines)) ∙ h) in
       all_append p (placed_of copies) (lines_of lines) ∙ (λ i. rows_within p copies parts.0 i && lines_within p lines parts.1 i)
 
   map_append : (us vs : List Marked) → map marked_key (us ++ vs) ≡ map marked_key us ++ map marked_key vs
@@ -363,7 +406,8 @@ module _ (copies : List (Row BookCopy)) (lines : List Line) where
   marks_are : map cut keys ≡ map (λ (q : Marked). mark_key q.1) places
   marks_are = ap (map cut) keys_are ∙ cut_marks places
 
-  single_is : places_are_single (made_keys copies) (map cut keys) ≡ (list_all (λ (q : Marked). list_any (is_mark q.1) (made_of copies)) places && are_different same places)
+  single_is : places_are_single (made_keys copies) (map cut keys)
+      ≡ (list_all (λ (q : Marked). list_any (is_mark q.1) (made_of copies)) places && are_different same places)
   single_is =
       (λ i. places_are_single (made_are copies i) (marks_are i))
       ∙ (λ i. (all-map (λ (k : Key). list_any (bytes_eq k) (map mark_key (made_of copies))) (λ (q : Marked). mark_key q.1) places ∙ all_congr _ _ each places) i
@@ -373,7 +417,8 @@ module _ (copies : List (Row BookCopy)) (lines : List Line) where
       each q = any-map (bytes_eq (mark_key q.1)) mark_key (made_of copies) ∙ any_congr _ _ (mark_test q.1) (made_of copies)
 
   found_is : (film : ℕ) (m : Mark) → list_any (bytes_eq (film_key film m)) keys ≡ list_any (with_film m film) places
-  found_is film m = ap (list_any (bytes_eq (film_key film m))) keys_are ∙ any-map (bytes_eq (film_key film m)) marked_key places ∙ any_congr _ _ (film_test film m) places
+  found_is film m =
+      ap (list_any (bytes_eq (film_key film m))) keys_are ∙ any-map (bytes_eq (film_key film m)) marked_key places ∙ any_congr _ _ (film_test film m) places
 
   abbrev pub rows_found : Bool
   rows_found = list_all (λ (row : Row BookCopy). list_any (bytes_eq (film_key row.it.film row.it.mark)) keys) copies
@@ -384,8 +429,13 @@ module _ (copies : List (Row BookCopy)) (lines : List Line) where
   all_found : list_all (λ (it : Marked). list_any (with_film it.1 it.0) places) (marked copies lines) ≡ (rows_found && lines_found)
   all_found =
       all_append _ (map marked_row copies) (map marked_line lines)
-      ∙ (λ i. (all-map (λ (it : Marked). list_any (with_film it.1 it.0) places) marked_row copies ∙ all_congr _ _ (λ (row : Row BookCopy). sym (found_is row.it.film row.it.mark)) copies) i
-      && (all-map (λ (it : Marked). list_any (with_film it.1 it.0) places) marked_line lines ∙ all_congr _ _ (λ (line : Line). sym (found_is line.film line.mark)) lines) i)
+      ∙ (λ i.
+      (all-map (λ (it : Marked). list_any (with_film it.1 it.0) places) marked_row copies
+      ∙ all_congr _ _ (λ (row : Row BookCopy). sym (found_is row.it.film row.it.mark)) copies)
+      i
+      && (all-map (λ (it : Marked). list_any (with_film it.1 it.0) places) marked_line lines
+      ∙ all_congr _ _ (λ (line : Line). sym (found_is line.film line.mark)) lines)
+      i)
 
   asked_is : Asked (made_of copies) places (marked copies lines) within_all → AreInCustody copies lines
   asked_is a = record {
@@ -414,13 +464,15 @@ module _ (copies : List (Row BookCopy)) (lines : List Line) where
 -- ---- rows that have the keys, in another order
 
 module _ {X : Type 0} (key : X → Key) where
-  pub any_sorted : (rows sorted : List X) (ks : List Key) → map key rows ≡ ks → IsPermutation rows sorted → (k : Key) → list_any (bytes_eq k) (map key sorted) ≡ list_any (bytes_eq k) ks
+  pub any_sorted : (rows sorted : List X) (ks : List Key) → map key rows ≡ ks → IsPermutation rows sorted
+      → (k : Key) → list_any (bytes_eq k) (map key sorted) ≡ list_any (bytes_eq k) ks
   any_sorted rows sorted ks e p k = sym (list_any-IsPermutation (bytes_eq k) _ _ (IsPermutation-map key rows sorted p)) ∙ ap (list_any (bytes_eq k)) e
 
   pub all_made : (marks made sorted : List X) (ks ms : List Key) → map key made ≡ ks → IsPermutation made sorted → map key marks ≡ ms
       → list_all (λ row. list_any (bytes_eq (key row)) (map key sorted)) marks ≡ list_all (λ (k : Key). list_any (bytes_eq k) ks) ms
   all_made marks made sorted ks ms e p f =
-      all_congr _ _ (λ row. any_sorted made sorted ks e p (key row)) marks ∙ sym (all-map (λ (k : Key). list_any (bytes_eq k) ks) key marks) ∙ ap (list_all (λ (k : Key). list_any (bytes_eq k) ks)) f
+      all_congr _ _ (λ row. any_sorted made sorted ks e p (key row)) marks
+      ∙ sym (all-map (λ (k : Key). list_any (bytes_eq k) ks) key marks) ∙ ap (list_all (λ (k : Key). list_any (bytes_eq k) ks)) f
 
   pub all_apart : (marks : List X) (ms : List Key) → map key marks ≡ ms → are_different (λ a b. bytes_eq (key a) (key b)) marks ≡ are_different bytes_eq ms
   all_apart marks ms f = sym (different-map bytes_eq key marks) ∙ ap (are_different bytes_eq) f

@@ -1,5 +1,6 @@
 -- The books that have rows in order are in order themselves.
-use Rattle.shop_types.proofs.Common.{◌≡◌, ◌↔◌, ◌&&◌, List, [], ◌∷◌, map, Bool, true, refl, sym, ap, ◌∙◌, IsTrue, AllByRecursion, flat_map, list_all, Row, Books, BookCopy, Table, CopyRows, Rentals, RowOf, rows_of}
+use Rattle.shop_types.proofs.Common.{◌≡◌, ◌↔◌, ◌&&◌, List, [], ◌∷◌, map, Bool, true, refl, sym, ap, ◌∙◌, IsTrue, AllByRecursion, flat_map, list_all, Row, Books}
+use Rattle.shop_types.proofs.Common.{BookCopy, Table, CopyRows, Rentals, RowOf, rows_of}
 use Rattle.audit_rows.specs.declared.books.OrderedBooks.{OrderedBooks}
 use Rattle.audit_rows.specs.declared.rows.CheckedCast.{CheckedCast}
 use Rattle.audit_rows.specs.declared.rows.CheckedLot.{CheckedLot}
@@ -12,7 +13,8 @@ use Rattle.audit_rows.specs.Joins.{header, placed, header_key, placed_key}
 use Rattle.audit_rows.specs.Seen.{seen_book_copy, seen_copy, seen_rental_row, seen_header, seen_placed}
 use Rattle.audit_rows.specs.States.{state_again}
 use Rattle.audit_rows.specs.Tables.{CheckedOf, checked_columns, checked_row, checked_key, checked_rows, all_tables, each}
-use Rattle.audit_rows.specs.Ordered.{AreOrdered, are_shared_ordered, are_rows_ordered, are_others_ordered, are_consignments_ordered, is_ordered, HaveOrderedRows}
+use Rattle.audit_rows.specs.Ordered.{AreOrdered, are_shared_ordered, are_rows_ordered, are_others_ordered, are_consignments_ordered, is_ordered}
+use Rattle.audit_rows.specs.Ordered.{HaveOrderedRows}
 use Rattle.audit_rows.proofs.Keys.{both}
 use Rattle.audit_rows.proofs.Maps.{map-twice, map-undone}
 use Rattle.audit_rows.proofs.Tests.{moved, all_parts}
@@ -35,14 +37,24 @@ all_passing p h (x ∷ xs) = λ i. h x i && all_passing p h xs i
 -- ---- tests of order
 
 pub ordered_is : (books : OrderedBooks) → IsTrue (is_ordered books) ↔ AreOrdered books
-ordered_is books = (from, λ o i. (o.office_keys i && o.casts i) && all_passing (λ t. climbs (map checked_key (checked_rows books t))) o.rows all_tables i && (o.lots i && o.kept i) && (o.headers i && o.lines i))
+ordered_is books = (
+  from,
+  λ o i.
+      (o.office_keys i && o.casts i) && all_passing (λ t. climbs (map checked_key (checked_rows books t))) o.rows all_tables i
+      && (o.lots i && o.kept i) && (o.headers i && o.lines i),
+)
   where
     from : IsTrue (is_ordered books) → AreOrdered books
     from h =
-        let all = all_parts (are_shared_ordered books) (are_rows_ordered (checked_rows books) ∷ are_others_ordered books ∷ are_consignments_ordered books ∷ []) h in
+        let all =
+        all_parts (are_shared_ordered books) (are_rows_ordered (checked_rows books) ∷ are_others_ordered books ∷ are_consignments_ordered books ∷ []) h in
         let shared = both (climbs books.office_keys.items) (climbs (map (λ (row : CheckedCast). row.film ∷ row.actor ∷ []) books.casts.items)) all.0 in
-        let others = both (climbs (map (λ (row : CheckedLot). row.branch ∷ row.name) books.lots.items)) (climbs (map (λ (row : CheckedKept). row.branch ∷ row.key) books.kept.items)) all.1.1.0 in
-        let sent = both (climbs (map (λ (row : CheckedHeader). row.source ∷ row.addressee ∷ row.number ∷ []) books.headers.items)) (climbs (map (λ (row : CheckedLine). row.source ∷ row.addressee ∷ row.number ∷ row.line ∷ []) books.lines.items)) all.1.1.1.0 in
+        let others =
+        both (climbs (map (λ (row : CheckedLot). row.branch ∷ row.name) books.lots.items))
+        (climbs (map (λ (row : CheckedKept). row.branch ∷ row.key) books.kept.items)) all.1.1.0 in
+        let sent =
+        both (climbs (map (λ (row : CheckedHeader). row.source ∷ row.addressee ∷ row.number ∷ []) books.headers.items))
+        (climbs (map (λ (row : CheckedLine). row.source ∷ row.addressee ∷ row.number ∷ row.line ∷ []) books.lines.items)) all.1.1.1.0 in
         record {
           office_keys = shared.0;
           casts = shared.1;
@@ -63,7 +75,8 @@ copy_again row = λ i. record row { it = book_copy_again row.it i }
 
 module _ (rows : OrderedBooks) (c : Books) (s : HaveOrderedRows rows c) where
   -- if `seen` recovers a row from what is checked of it, the books have the rows that `seen` recovers
-  pub rows_seen : (t : Table) (seen : CheckedOf t → Row (RowOf t)) → ((row : Row (RowOf t)) → seen (checked_row t row) ≡ row) → rows_of c t ≡ map seen (checked_rows rows t)
+  pub rows_seen : (t : Table) (seen : CheckedOf t → Row (RowOf t))
+      → ((row : Row (RowOf t)) → seen (checked_row t row) ≡ row) → rows_of c t ≡ map seen (checked_rows rows t)
   rows_seen t seen again = sym (map-undone seen (checked_row t) again (rows_of c t)) ∙ ap (map seen) (s.rows t)
 
   pub copies_seen : c.copies ≡ map seen_copy rows.copies.items
@@ -73,7 +86,8 @@ module _ (rows : OrderedBooks) (c : Books) (s : HaveOrderedRows rows c) where
   rentals_seen = rows_seen Rentals seen_rental_row (λ row. refl)
 
   -- a test of a table's rows is one of what is checked of them
-  pub rows_test : (t : Table) (p : Row (RowOf t) → Bool) (q : CheckedOf t → Bool) → ((row : Row (RowOf t)) → p row ≡ q (checked_row t row)) → list_all p (rows_of c t) ≡ list_all q (checked_rows rows t)
+  pub rows_test : (t : Table) (p : Row (RowOf t) → Bool) (q : CheckedOf t → Bool)
+      → ((row : Row (RowOf t)) → p row ≡ q (checked_row t row)) → list_all p (rows_of c t) ≡ list_all q (checked_rows rows t)
   rows_test t = moved (checked_row t) (rows_of c t) (checked_rows rows t) (s.rows t)
 
   pub rows_climb : AreOrdered rows → (t : Table) → climbs (map row_key (rows_of c t)) ≡ true
@@ -81,8 +95,10 @@ module _ (rows : OrderedBooks) (c : Books) (s : HaveOrderedRows rows c) where
 
   pub headers_climb : AreOrdered rows → climbs (map header_key (map header s.consignments.by_key)) ≡ true
   headers_climb o =
-      ap climbs (ap (map header_key) (join_sound _ _ s.consignments.by_key s.consignments.joined).0 ∙ map-twice header_key seen_header rows.headers.items) ∙ o.headers
+      ap climbs (ap (map header_key) (join_sound _ _ s.consignments.by_key s.consignments.joined).0 ∙ map-twice header_key seen_header rows.headers.items)
+      ∙ o.headers
 
   pub lines_climb : AreOrdered rows → climbs (map placed_key (flat_map placed s.consignments.by_key)) ≡ true
   lines_climb o =
-      ap climbs (ap (map placed_key) (join_sound _ _ s.consignments.by_key s.consignments.joined).1 ∙ map-twice placed_key seen_placed rows.lines.items) ∙ o.lines
+      ap climbs (ap (map placed_key) (join_sound _ _ s.consignments.by_key s.consignments.joined).1 ∙ map-twice placed_key seen_placed rows.lines.items)
+      ∙ o.lines

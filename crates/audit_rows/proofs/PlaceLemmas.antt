@@ -1,5 +1,6 @@
 -- The places of consignments, in their order.
-use Rattle.shop_types.proofs.Common.{◌≡◌, ℕ, zero, suc, List, [], ◌∷◌, map, sym, ap, subst, ◌∙◌, arith, IsPermutation, IsSorted, Ordering, add-one, nat_cmp, IsPermutation-map, Consignment}
+use Rattle.shop_types.proofs.Common.{◌≡◌, ℕ, zero, suc, List, [], ◌∷◌, map, sym, ap, subst, ◌∙◌, arith, IsPermutation, IsSorted, Ordering, add-one, nat_cmp}
+use Rattle.shop_types.proofs.Common.{IsPermutation-map, Consignment}
 use native.Mathlib.Numerals.{unary_clauses}
 use Rattle.audit_rows.specs.declared.books.OrderedBooks.{OrderedBooks}
 use Rattle.audit_rows.specs.declared.rows.CheckedHeader.{CheckedHeader}
@@ -32,7 +33,9 @@ module _ (rows : OrderedBooks) (its : List Consignment) (o : AreConsignmentsOf r
       ∙ map-twice (λ (h : Header). h.place) seen_header rows.headers.items
 
   pub places_of_rows : IsPermutation (map (λ (row : CheckedHeader). row.place) rows.headers.items) (map (λ (it : Consignment). it.place) its)
-  places_of_rows = subst (λ (ns : List ℕ). IsPermutation ns (map (λ (it : Consignment). it.place) its)) places_are (IsPermutation-map (λ (it : Consignment). it.place) o.by_key its o.all)
+  places_of_rows =
+      subst (λ (ns : List ℕ). IsPermutation ns (map (λ (it : Consignment). it.place) its)) places_are
+      (IsPermutation-map (λ (it : Consignment). it.place) o.by_key its o.all)
 
   pub sorted_places : IsSorted nat_cmp (map (λ (it : Consignment). it.place) its)
   sorted_places = sorted-map nat_cmp (λ (it : Consignment). it.place) its o.in_order

@@ -1,6 +1,8 @@
 -- What a binary search finds among rows that are in the order of their keys.
 use Rattle.std.proofs.Common.{Result}
-use Rattle.shop_types.proofs.Common.{◌≡◌, ◌<◌, ℕ, List, [], ◌∷◌, map, length, Bool, true, false, refl, sym, ap, ◌∙◌, arith, Ok, Err, Less, Equal, Greater, get_or, is_lt, nat_lt, is_ok, nat_cmp, ordering_reverse, nat_tests, bytes_eq-Decides, slice_cmp, bytes_eq, list_any, IsSortedByKey, IsBinarySearchResult, IsSearchInRange, IsPartitionPoint, searchable_from_sorted, exact_bytes}
+use Rattle.shop_types.proofs.Common.{◌≡◌, ◌<◌, ℕ, List, [], ◌∷◌, map, length, Bool, true, false, refl, sym, ap, ◌∙◌, arith, Ok, Err, Less, Equal, Greater}
+use Rattle.shop_types.proofs.Common.{get_or, is_lt, nat_lt, is_ok, nat_cmp, ordering_reverse, nat_tests, bytes_eq-Decides, slice_cmp, bytes_eq, list_any}
+use Rattle.shop_types.proofs.Common.{IsSortedByKey, IsBinarySearchResult, IsSearchInRange, IsPartitionPoint, searchable_from_sorted, exact_bytes}
 use Rattle.std.proofs.lemmas.List.Recursion.{or_at, or_from_places}
 use Rattle.audit_rows.specs.Lists.{Key}
 use Rattle.audit_rows.proofs.Keys.{key_total, any-map, below_apart, bytes_eq_symm}
@@ -28,7 +30,8 @@ module _ {X : Type 0} (key : X → Key) (k : Key) where
       sym (or_from_places any_has (λ y. bytes_eq k (key y)) refl (λ _ _. refl) (x ∷ xs) x (λ j in'. apart j in' (nat_lt j i) refl parts))
     where
       apart : (j : ℕ) → j < length (x ∷ xs) → (b : Bool) → nat_lt j i ≡ b
-          → IsPartitionPoint (λ y. slice_cmp nat_cmp (key y) k ≡ Less) (λ y. slice_cmp nat_cmp (key y) k ≡ Greater) (x ∷ xs) i → bytes_eq k (key (get_or (x ∷ xs) j x)) ≡ false
+          → IsPartitionPoint (λ y. slice_cmp nat_cmp (key y) k ≡ Less) (λ y. slice_cmp nat_cmp (key y) k ≡ Greater) (x ∷ xs) i
+          → bytes_eq k (key (get_or (x ∷ xs) j x)) ≡ false
       apart j in' true t parts = less _ k (parts.0 j x (omega arith) (grind (arith, nat_tests)))
       apart j in' false t parts = greater _ k (parts.1 j x (grind (arith, nat_tests)) in')
 

@@ -1,6 +1,9 @@
 -- The tests of one branch's rows mean what the definitions say.
 use Rattle.std.proofs.Common.{is_none}
-use Rattle.shop_types.proofs.Common.{◌<◌, ◌≡◌, ◌&&◌, ◌||◌, ◌+◌, ◌-◌, ◌≤◌, ◌==◌, ℕ, suc, List, [], ◌∷◌, map, filter, length, not, Bool, true, false, cond, refl, sym, ap, subst, ◌∙◌, arith, true≢false, nat_le, get_or, bytes_eq, list_any, list_all, AllByRecursion, nat_tests, bytes_eq-Decides, nat_eq_equiv, Moment, IsMoment, moment_text, same_moment, at, is_empty, Rental, Copy, is_here, keeps_out, in_stock, rises, are_apart, same_rental, has_row, are_different, one, same_if, same_test}
+use Rattle.shop_types.proofs.Common.{◌<◌, ◌≡◌, ◌&&◌, ◌||◌, ◌+◌, ◌-◌, ◌≤◌, ◌==◌, ℕ, suc, List, [], ◌∷◌, map, filter, length, not, Bool, true, false, cond, refl}
+use Rattle.shop_types.proofs.Common.{sym, ap, subst, ◌∙◌, arith, true≢false, nat_le, get_or, bytes_eq, list_any, list_all, AllByRecursion, nat_tests}
+use Rattle.shop_types.proofs.Common.{bytes_eq-Decides, nat_eq_equiv, Moment, IsMoment, moment_text, same_moment, at, is_empty, Rental, Copy, is_here, keeps_out}
+use Rattle.shop_types.proofs.Common.{in_stock, rises, are_apart, same_rental, has_row, are_different, one, same_if, same_test}
 use Rattle.shop_model.specs.Calendar.{seconds_of}
 use Rattle.audit_rows.specs.Lists.{Key, rises_from, count}
 use Rattle.audit_rows.specs.Shops.{is_among, rental_key, open_keys, is_held_here}
@@ -31,7 +34,8 @@ rises_decides low (n ∷ ns) = go (rises_decides n ns) (nat_le low n) refl
     stays h false b true p q r = refl
     stays h false b false p q r = refl
 
-    go : rises_from n ns ≡ (list_all (nat_le n) ns && rising ns) → (t : Bool) → nat_le low n ≡ t → (t && rises_from n ns) ≡ ((t && list_all (nat_le low) ns) && (list_all (nat_le n) ns && rising ns))
+    go : rises_from n ns ≡ (list_all (nat_le n) ns && rising ns) → (t : Bool) → nat_le low n ≡ t
+        → (t && rises_from n ns) ≡ ((t && list_all (nat_le low) ns) && (list_all (nat_le n) ns && rising ns))
     go more true h = more ∙ stays h _ _ _ refl refl refl
     go more false h = refl
 
@@ -63,7 +67,8 @@ pub has_row_is : {A : Type 0} (xs : List A) (n : ℕ) → has_row xs n ≡ is_am
 has_row_is [] n = sym (nothing n)
 has_row_is (x ∷ xs) n = go (n == 1) refl (has_row_is xs (n - 1))
   where
-    go : (b : Bool) → (n == 1) ≡ b → has_row xs (n - 1) ≡ is_among (length xs) (n - 1) → not (is_empty (cond b (x ∷ []) (at (n - 1) xs))) ≡ is_among (suc (length xs)) n
+    go : (b : Bool) → (n == 1) ≡ b → has_row xs (n - 1) ≡ is_among (length xs) (n - 1)
+        → not (is_empty (cond b (x ∷ []) (at (n - 1) xs))) ≡ is_among (suc (length xs)) n
     go true h more = sym (is_one n (length xs) h)
     go false h more = more ∙ one_less n (length xs) h
 
@@ -81,7 +86,8 @@ none_counts : (k : Key) (ks : List Key) → list_any (bytes_eq k) ks ≡ false �
 none_counts k [] h = refl
 none_counts k (j ∷ ks) h = go (bytes_eq k j) h (none_counts k ks)
   where
-    go : (b : Bool) → (b || list_any (bytes_eq k) ks) ≡ false → (list_any (bytes_eq k) ks ≡ false → count (bytes_eq k) ks ≡ 0) → one b + count (bytes_eq k) ks ≡ 0
+    go : (b : Bool) → (b || list_any (bytes_eq k) ks) ≡ false
+        → (list_any (bytes_eq k) ks ≡ false → count (bytes_eq k) ks ≡ 0) → one b + count (bytes_eq k) ks ≡ 0
     go true t more = absurd (true≢false t)
     go false t more = let m = more t in omega (arith, m)
 
@@ -121,13 +127,16 @@ length_open x (r ∷ rentals) = go (is_none r.returned) (length_open x rentals)
     turned = nat_eq_equiv.symm r.copy x
 
     now : (b : Bool) → length (filter (keeps_out x) rentals) ≡ count (bytes_eq (x ∷ [])) (open_keys rentals)
-        → length (cond (b && true) (r ∷ filter (keeps_out x) rentals) (filter (keeps_out x) rentals)) ≡ one (b && true) + count (bytes_eq (x ∷ [])) (open_keys rentals)
+        → length (cond (b && true) (r ∷ filter (keeps_out x) rentals) (filter (keeps_out x) rentals))
+        ≡ one (b && true) + count (bytes_eq (x ∷ [])) (open_keys rentals)
     now true more = omega (arith, more)
     now false more = omega (arith, more)
 
     go : (b : Bool) → length (filter (keeps_out x) rentals) ≡ count (bytes_eq (x ∷ [])) (open_keys rentals)
         → length (cond (r.copy == x && b) (r ∷ filter (keeps_out x) rentals) (filter (keeps_out x) rentals))
-        ≡ count (bytes_eq (x ∷ [])) (map (λ (s : Rental). s.copy ∷ []) (cond b (r ∷ filter (λ (s : Rental). is_none s.returned) rentals) (filter (λ (s : Rental). is_none s.returned) rentals)))
+        ≡ count (bytes_eq (x ∷ []))
+        (map (λ (s : Rental). s.copy ∷ [])
+        (cond b (r ∷ filter (λ (s : Rental). is_none s.returned) rentals) (filter (λ (s : Rental). is_none s.returned) rentals)))
     go true more = ap (λ b. length (cond (b && true) (r ∷ filter (keeps_out x) rentals) (filter (keeps_out x) rentals))) turned ∙ now (x == r.copy) more
     go false more = shut (r.copy == x) more
       where
@@ -136,7 +145,8 @@ length_open x (r ∷ rentals) = go (is_none r.returned) (length_open x rentals)
         shut true m = m
         shut false m = m
 
-other_length : (k : Key) → ((n : ℕ) → bytes_eq k (n ∷ []) ≡ false) → (rentals : List Rental) → count (bytes_eq k) (map (λ (r : Rental). r.copy ∷ []) rentals) ≡ 0
+other_length : (k : Key) → ((n : ℕ) → bytes_eq k (n ∷ []) ≡ false) → (rentals : List Rental)
+    → count (bytes_eq k) (map (λ (r : Rental). r.copy ∷ []) rentals) ≡ 0
 other_length k h [] = refl
 other_length k h (r ∷ rentals) = let here = h r.copy in let more = other_length k h rentals in (λ i. one (here i) + more i)
 
@@ -166,7 +176,8 @@ module _ (rentals : List Rental) where
 -- ---- an open rental's copy is here
 
 module _ (copies : List Copy) where
-  here_of : (x : ℕ) (rentals : List Rental) → list_all (is_held_here copies) rentals ≡ true → list_any (keeps_out x) rentals ≡ true → list_any is_here (at x copies) ≡ true
+  here_of : (x : ℕ) (rentals : List Rental) → list_all (is_held_here copies) rentals ≡ true
+      → list_any (keeps_out x) rentals ≡ true → list_any is_here (at x copies) ≡ true
   here_of x [] all some = absurd (true≢false (sym some))
   here_of x (r ∷ rentals) all some =
       let parts = both (is_held_here copies r) (list_all (is_held_here copies) rentals) all in
@@ -182,10 +193,12 @@ module _ (copies : List Copy) where
   turned true h = refl
   turned false h = absurd (true≢false h)
 
-  pub here_from_all : (rentals : List Rental) → list_all (is_held_here copies) rentals ≡ true → (x : ℕ) → in_stock x rentals ≡ false → list_any is_here (at x copies) ≡ true
+  pub here_from_all : (rentals : List Rental) → list_all (is_held_here copies) rentals ≡ true
+      → (x : ℕ) → in_stock x rentals ≡ false → list_any is_here (at x copies) ≡ true
   here_from_all rentals all x out = here_of x rentals all (turned _ out)
 
-  pub all_from_here : (rentals : List Rental) → ((x : ℕ) → in_stock x rentals ≡ false → list_any is_here (at x copies) ≡ true) → list_all (is_held_here copies) rentals ≡ true
+  pub all_from_here : (rentals : List Rental) → ((x : ℕ) → in_stock x rentals ≡ false → list_any is_here (at x copies) ≡ true)
+      → list_all (is_held_here copies) rentals ≡ true
   all_from_here [] h = refl
   all_from_here (r ∷ rentals) h = go (is_none r.returned) refl (all_from_here rentals (λ x out. h x (wider x out)))
     where
@@ -199,7 +212,8 @@ module _ (copies : List Copy) where
       same : (r.copy == r.copy) ≡ true
       same = grind (arith, nat_tests)
 
-      go : (t : Bool) → is_none r.returned ≡ t → list_all (is_held_here copies) rentals ≡ true → ((not t || list_any is_here (at r.copy copies)) && list_all (is_held_here copies) rentals) ≡ true
+      go : (t : Bool) → is_none r.returned ≡ t → list_all (is_held_here copies) rentals ≡ true
+          → ((not t || list_any is_here (at r.copy copies)) && list_all (is_held_here copies) rentals) ≡ true
       go false e more = more
       go true e more = (λ i. h r.copy (λ j. not ((same j && e j) || list_any (keeps_out r.copy) rentals)) i && more i)
 
@@ -244,7 +258,9 @@ module _ (one_text : (a b : Moment) → IsMoment a → IsMoment b → moment_tex
       let customer = both (same_moment s.rented r.rented && s.copy == r.copy) (s.customer == r.customer) h in
       let copy = both (same_moment s.rented r.rented) (s.copy == r.copy) customer.0 in
       opened_key r
-      ∙ (λ i. sym (same_if s.copy r.copy copy.1) i ∷ sym (same_if s.customer r.customer customer.1) i ∷ moment_text (sym (moment_equal s.rented r.rented copy.0) i))
+      ∙ (λ i.
+      sym (same_if s.copy r.copy copy.1) i ∷ sym (same_if s.customer r.customer customer.1) i
+      ∷ moment_text (sym (moment_equal s.rented r.rented copy.0) i))
       ∙ sym (opened_key s)
 
   same_key : (r s : Rental) → IsMoment r.rented → IsMoment s.rented → bytes_eq (rental_key r) (rental_key s) ≡ same_rental r s
@@ -256,20 +272,24 @@ module _ (one_text : (a b : Moment) → IsMoment a → IsMoment b → moment_tex
       go true false e f = sym (key_is r s p q ((bytes_eq-Decides (rental_key r) (rental_key s)).0 e)) ∙ f
       go false true e f = sym e ∙ (bytes_eq-Decides (rental_key r) (rental_key s)).1 (is_key r s f)
 
-  any_same : (r : Rental) (rentals : List Rental) → IsMoment r.rented → AllByRecursion (λ (s : Rental). IsMoment s.rented) rentals → list_any (bytes_eq (rental_key r)) (map rental_key rentals) ≡ list_any (same_rental r) rentals
+  any_same : (r : Rental) (rentals : List Rental) → IsMoment r.rented → AllByRecursion (λ (s : Rental). IsMoment s.rented) rentals
+      → list_any (bytes_eq (rental_key r)) (map rental_key rentals) ≡ list_any (same_rental r) rentals
   any_same r [] p all = refl
   any_same r (s ∷ rentals) p all = λ i. same_key r s p all.0 i || any_same r rentals p all.1 i
 
   -- rentals are apart exactly if their keys are different
-  pub apart_is : (rentals : List Rental) → AllByRecursion (λ (r : Rental). IsMoment r.rented) rentals → are_different bytes_eq (map rental_key rentals) ≡ are_apart rentals
+  pub apart_is : (rentals : List Rental) → AllByRecursion (λ (r : Rental). IsMoment r.rented) rentals
+      → are_different bytes_eq (map rental_key rentals) ≡ are_apart rentals
   apart_is [] all = refl
   apart_is (r ∷ rentals) all = λ i. not (any_same r rentals all.0 all.1 i) && apart_is rentals all.1 i
 
-  unmapped : {X : Type 0} (f : X → Rental) (xs : List X) → AllByRecursion (λ x. IsMoment (f x).rented) xs → AllByRecursion (λ (r : Rental). IsMoment r.rented) (map f xs)
+  unmapped : {X : Type 0} (f : X → Rental) (xs : List X) → AllByRecursion (λ x. IsMoment (f x).rented) xs
+      → AllByRecursion (λ (r : Rental). IsMoment r.rented) (map f xs)
   unmapped f [] all = tt
   unmapped f (x ∷ xs) all = (all.0, unmapped f xs all.1)
 
-  pub apart_of_rows : {X : Type 0} (f : X → Rental) (xs : List X) → AllByRecursion (λ x. IsMoment (f x).rented) xs → are_different bytes_eq (map (λ x. rental_key (f x)) xs) ≡ are_apart (map f xs)
+  pub apart_of_rows : {X : Type 0} (f : X → Rental) (xs : List X) → AllByRecursion (λ x. IsMoment (f x).rented) xs
+      → are_different bytes_eq (map (λ x. rental_key (f x)) xs) ≡ are_apart (map f xs)
   apart_of_rows f xs all = ap (are_different bytes_eq) (sym (map-twice rental_key f xs)) ∙ apart_is (map f xs) (unmapped f xs all)
 
 -- ---- the row of a number is at its place
@@ -284,7 +304,8 @@ pub at_place : {A : Type 0} (n : ℕ) → 1 ≤ n → (xs : List A) (y : A) → 
 at_place n low [] y h e = absurd (omega (arith, h))
 at_place {A} n low (x ∷ xs) y h e = go (n == 1) refl (λ p q r. at_place (n - 1) p xs y q r)
   where
-    go : (b : Bool) → (n == 1) ≡ b → (1 ≤ n - 1 → n - 1 - 1 < length xs → y ≡ get_or xs (n - 1 - 1) y → at (n - 1) xs ≡ y ∷ []) → cond b (x ∷ []) (at (n - 1) xs) ≡ y ∷ []
+    go : (b : Bool) → (n == 1) ≡ b → (1 ≤ n - 1 → n - 1 - 1 < length xs → y ≡ get_or xs (n - 1 - 1) y → at (n - 1) xs ≡ y ∷ [])
+        → cond b (x ∷ []) (at (n - 1) xs) ≡ y ∷ []
     go true t more =
         let same : y ≡ x = e ∙ ap (λ k. get_or (x ∷ xs) k y) (is_first n t) in
         (λ i. sym same i ∷ [])

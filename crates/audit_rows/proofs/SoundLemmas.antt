@@ -1,5 +1,10 @@
 -- Rows in order pass the checks exactly if the books that have the rows are sound.
-use Rattle.shop_types.proofs.Common.{◌≡◌, ◌&&◌, ◌+◌, ◌≤◌, ◌==◌, ◌++◌, inl, inr, ℕ, suc, zero, List, [], ◌∷◌, map, filter, length, not, Bool, true, false, cond, refl, sym, ap, subst, ◌∙◌, arith, nat_lt, nat_le, IsPermutation, None, list_all, flat_map, bytes_eq, nat_tests, IsPermutation-map, IsPermutation-refl, IsPermutation-sym, Moment, Row, Owned, at, is_empty, owned_by, numbered_from, IsCounted, AreNumbered, Text, Arrival, Rules, Kept, has_row, are_different, is_parcel, Books, BookCopy, Line, UnderWay, Consignment, shop_of, as_arrival, as_parcel, head, HasOwners, IsSound, widest, all_lines, is_settled, line_is, at_zero, Table, CopyRows, RowOf, rows_of}
+use Rattle.shop_types.proofs.Common.{◌≡◌, ◌&&◌, ◌+◌, ◌≤◌, ◌==◌, ◌++◌, inl, inr, ℕ, suc, zero, List, [], ◌∷◌, map, filter, length, not, Bool, true, false, cond}
+use Rattle.shop_types.proofs.Common.{refl, sym, ap, subst, ◌∙◌, arith, nat_lt, nat_le, IsPermutation, None, list_all, flat_map, bytes_eq, nat_tests}
+use Rattle.shop_types.proofs.Common.{IsPermutation-map, IsPermutation-refl, IsPermutation-sym, Moment, Row, Owned, at, is_empty, owned_by, numbered_from}
+use Rattle.shop_types.proofs.Common.{IsCounted, AreNumbered, Text, Arrival, Rules, Kept, has_row, are_different, is_parcel, Books, BookCopy, Line, UnderWay}
+use Rattle.shop_types.proofs.Common.{Consignment, shop_of, as_arrival, as_parcel, head, HasOwners, IsSound, widest, all_lines, is_settled, line_is, at_zero}
+use Rattle.shop_types.proofs.Common.{Table, CopyRows, RowOf, rows_of}
 use Rattle.sqlite_keyed.proofs.ListLemmas.{IsPermutation-flat_map}
 use Rattle.audit_rows.specs.declared.books.OrderedBooks.{OrderedBooks}
 use Rattle.audit_rows.specs.declared.rows.CheckedBranch.{CheckedBranch}
@@ -56,9 +61,13 @@ abbrev has_films : ℕ → Consignment → Bool
 has_films n it = list_all (λ (line : Line). is_among n line.film) it.lines
 
 good_is : (n : ℕ) (it : Consignment) → is_good_consignment n it ≡ (is_filled it && (is_settled it && has_films n it))
-good_is n it = ap (λ b. is_filled it && b) (all_and (λ (line : Line). cond it.received (not (line_is line.state UnderWay)) (line_is line.state UnderWay)) (λ (line : Line). is_among n line.film) it.lines)
+good_is n it =
+    ap (λ b. is_filled it && b)
+    (all_and (λ (line : Line). cond it.received (not (line_is line.state UnderWay)) (line_is line.state UnderWay))
+    (λ (line : Line). is_among n line.film) it.lines)
 
-all_good : (n : ℕ) (its : List Consignment) → list_all (is_good_consignment n) its ≡ (list_all is_filled its && (list_all is_settled its && list_all (has_films n) its))
+all_good : (n : ℕ) (its : List Consignment)
+    → list_all (is_good_consignment n) its ≡ (list_all is_filled its && (list_all is_settled its && list_all (has_films n) its))
 all_good n its =
     all_congr _ _ (good_is n) its ∙ all_and is_filled (λ it. is_settled it && has_films n it) its
     ∙ ap (λ b. list_all is_filled its && b) (all_and is_settled (has_films n) its)
@@ -78,29 +87,38 @@ module _ (rows : OrderedBooks) (books : Books) (o : AreOrdered rows) (s : HaveOr
 
   -- ---- branch columns
 
-  own_rows : (t : Table) → list_all (λ (row : Row (RowOf t)). has_row books.catalogue.branches row.branch) (rows_of books t) ≡ list_all (λ (row : CheckedOf t). is_among count row.branch) (checked_rows rows t)
+  own_rows : (t : Table)
+      → list_all (λ (row : Row (RowOf t)). has_row books.catalogue.branches row.branch) (rows_of books t)
+      ≡ list_all (λ (row : CheckedOf t). is_among count row.branch) (checked_rows rows t)
   own_rows t = rows_test rows books s t _ _ (λ row. branch_is row.branch)
 
-  own_lots : list_all (λ (row : Owned Text). has_row books.catalogue.branches row.owner) books.lots ≡ list_all (λ (row : CheckedLot). is_among count row.branch) rows.lots.items
+  own_lots : list_all (λ (row : Owned Text). has_row books.catalogue.branches row.owner) books.lots
+      ≡ list_all (λ (row : CheckedLot). is_among count row.branch) rows.lots.items
   own_lots = moved lot_row books.lots rows.lots.items s.lots _ _ (λ row. branch_is row.owner)
 
-  own_kept : list_all (λ (row : Owned Kept). has_row books.catalogue.branches row.owner) books.kept ≡ list_all (λ (row : CheckedKept). is_among count row.branch) rows.kept.items
+  own_kept : list_all (λ (row : Owned Kept). has_row books.catalogue.branches row.owner) books.kept
+      ≡ list_all (λ (row : CheckedKept). is_among count row.branch) rows.kept.items
   own_kept = moved kept_row books.kept rows.kept.items s.kept _ _ (λ row. branch_is row.owner)
 
   -- a test of consignments is one of their headers
-  of_headers : (p : Consignment → Bool) (q : Header → Bool) → ((it : Consignment) → p it ≡ q (header it)) → list_all p its ≡ list_all (λ (row : CheckedHeader). q (seen_header row)) rows.headers.items
+  of_headers : (p : Consignment → Bool) (q : Header → Bool) → ((it : Consignment) → p it ≡ q (header it))
+      → list_all p its ≡ list_all (λ (row : CheckedHeader). q (seen_header row)) rows.headers.items
   of_headers p q h =
-      sym (all_along p by_key its s.consignments.all) ∙ moved header by_key (map seen_header rows.headers.items) (headers_are rows its s.consignments) p q h ∙ all-map q seen_header rows.headers.items
+      sym (all_along p by_key its s.consignments.all)
+      ∙ moved header by_key (map seen_header rows.headers.items) (headers_are rows its s.consignments) p q h ∙ all-map q seen_header rows.headers.items
 
-  own_sources : list_all (λ (it : Consignment). has_row books.catalogue.branches it.source) its ≡ list_all (λ (row : CheckedHeader). is_among count row.source) rows.headers.items
+  own_sources : list_all (λ (it : Consignment). has_row books.catalogue.branches it.source) its
+      ≡ list_all (λ (row : CheckedHeader). is_among count row.source) rows.headers.items
   own_sources = of_headers _ (λ (h : Header). is_among count h.source) (λ it. branch_is it.source)
 
-  own_addressees : list_all (λ (it : Consignment). has_row books.catalogue.branches it.addressee) its ≡ list_all (λ (row : CheckedHeader). is_among count row.addressee) rows.headers.items
+  own_addressees : list_all (λ (it : Consignment). has_row books.catalogue.branches it.addressee) its
+      ≡ list_all (λ (row : CheckedHeader). is_among count row.addressee) rows.headers.items
   own_addressees = of_headers _ (λ (h : Header). is_among count h.addressee) (λ it. branch_is it.addressee)
 
   own_lasts : list_all (λ (row : Owned Moment). has_row books.catalogue.branches row.owner) books.lasts ≡ true
   own_lasts =
-      ap (list_all (λ (row : Owned Moment). has_row books.catalogue.branches row.owner)) s.lasts ∙ all_congr _ _ (λ row. branch_is row.owner) (lasts_from 1 rows.branches.items)
+      ap (list_all (λ (row : Owned Moment). has_row books.catalogue.branches row.owner)) s.lasts
+      ∙ all_congr _ _ (λ row. branch_is row.owner) (lasts_from 1 rows.branches.items)
       ∙ lasts_owned count 1 (omega arith) rows.branches.items (omega arith)
 
   pub record Owners : Type 0 where
@@ -113,8 +131,12 @@ module _ (rows : OrderedBooks) (books : Books) (o : AreOrdered rows) (s : HaveOr
   owners_open : is_owned rows ≡ true → Owners
   owners_open h =
       let all = all_parts (are_rows_owned rows) (are_others_owned rows ∷ are_consignments_owned rows ∷ []) h in
-      let others = both (list_all (λ (row : CheckedLot). is_among count row.branch) rows.lots.items) (list_all (λ (row : CheckedKept). is_among count row.branch) rows.kept.items) all.1.0 in
-      let sent = both (list_all (λ (row : CheckedHeader). is_among count row.source) rows.headers.items) (list_all (λ (row : CheckedHeader). is_among count row.addressee) rows.headers.items) all.1.1.0 in
+      let others =
+      both (list_all (λ (row : CheckedLot). is_among count row.branch) rows.lots.items)
+      (list_all (λ (row : CheckedKept). is_among count row.branch) rows.kept.items) all.1.0 in
+      let sent =
+      both (list_all (λ (row : CheckedHeader). is_among count row.source) rows.headers.items)
+      (list_all (λ (row : CheckedHeader). is_among count row.addressee) rows.headers.items) all.1.1.0 in
       record {
         tables = each_passes (λ t. list_all (λ (row : CheckedOf t). is_among count row.branch) (checked_rows rows t)) all.0;
         lots = others.0;
@@ -126,7 +148,14 @@ module _ (rows : OrderedBooks) (books : Books) (o : AreOrdered rows) (s : HaveOr
   owners_from_rows : is_owned rows ≡ true → HasOwners books.catalogue.branches books
   owners_from_rows h =
       let p = owners_open h in
-      record { rows = λ t. own_rows t ∙ p.tables t; lots = own_lots ∙ p.lots; kept = own_kept ∙ p.kept; sources = own_sources ∙ p.sources; addressees = own_addressees ∙ p.addressees; lasts = own_lasts }
+      record {
+        rows = λ t. own_rows t ∙ p.tables t;
+        lots = own_lots ∙ p.lots;
+        kept = own_kept ∙ p.kept;
+        sources = own_sources ∙ p.sources;
+        addressees = own_addressees ∙ p.addressees;
+        lasts = own_lasts;
+      }
 
   rows_from_owners : HasOwners books.catalogue.branches books → is_owned rows ≡ true
   rows_from_owners g =
@@ -141,19 +170,24 @@ module _ (rows : OrderedBooks) (books : Books) (o : AreOrdered rows) (s : HaveOr
 
   lines_are : flat_map (λ (it : Consignment). it.lines) by_key ≡ map seen_line rows.lines.items
   lines_are =
-      sym (lines_of by_key) ∙ ap (map (λ (p : Placed). p.line)) (join_sound _ _ by_key s.consignments.joined).1 ∙ map-twice (λ (p : Placed). p.line) seen_placed rows.lines.items
+      sym (lines_of by_key) ∙ ap (map (λ (p : Placed). p.line)) (join_sound _ _ by_key s.consignments.joined).1
+      ∙ map-twice (λ (p : Placed). p.line) seen_placed rows.lines.items
 
   lines_bag : IsPermutation (map seen_line rows.lines.items) (all_lines books)
-  lines_bag = subst (λ (lines : List Line). IsPermutation lines (all_lines books)) lines_are (IsPermutation-flat_map (λ (it : Consignment). it.lines) by_key its s.consignments.all)
+  lines_bag =
+      subst (λ (lines : List Line). IsPermutation lines (all_lines books)) lines_are
+      (IsPermutation-flat_map (λ (it : Consignment). it.lines) by_key its s.consignments.all)
 
   books_from_rows : AreInCustody (map seen_copy rows.copies.items) (map seen_line rows.lines.items) → AreInCustody books.copies (all_lines books)
   books_from_rows h =
       subst (λ (copies : List (Row BookCopy)). AreInCustody copies (all_lines books)) (sym (copies_seen rows books s))
-      (custody_moved (map seen_copy rows.copies.items) (map seen_copy rows.copies.items) (map seen_line rows.lines.items) (all_lines books) (IsPermutation-refl _) lines_bag h)
+      (custody_moved (map seen_copy rows.copies.items) (map seen_copy rows.copies.items)
+      (map seen_line rows.lines.items) (all_lines books) (IsPermutation-refl _) lines_bag h)
 
   rows_from_books : AreInCustody books.copies (all_lines books) → AreInCustody (map seen_copy rows.copies.items) (map seen_line rows.lines.items)
   rows_from_books h =
-      custody_moved (map seen_copy rows.copies.items) (map seen_copy rows.copies.items) (all_lines books) (map seen_line rows.lines.items) (IsPermutation-refl _) (IsPermutation-sym _ _ lines_bag)
+      custody_moved (map seen_copy rows.copies.items) (map seen_copy rows.copies.items) (all_lines books)
+      (map seen_line rows.lines.items) (IsPermutation-refl _) (IsPermutation-sym _ _ lines_bag)
       (subst (λ (copies : List (Row BookCopy)). AreInCustody copies (all_lines books)) (copies_seen rows books s) h)
 
   -- ---- consignments
@@ -161,19 +195,27 @@ module _ (rows : OrderedBooks) (books : Books) (o : AreOrdered rows) (s : HaveOr
   settled_is : are_settled (length rows.films.items) (map seen_header rows.headers.items) (map seen_placed rows.lines.items)
       ≡ (list_all is_filled its && (list_all is_settled its && list_all (has_films (length rows.films.items)) its))
   settled_is =
-      settled_join (length rows.films.items) (map seen_header rows.headers.items) (map seen_placed rows.lines.items) by_key s.consignments.joined ∙ all_along (is_good_consignment (length rows.films.items)) by_key its s.consignments.all
+      settled_join (length rows.films.items) (map seen_header rows.headers.items) (map seen_placed rows.lines.items) by_key s.consignments.joined
+      ∙ all_along (is_good_consignment (length rows.films.items)) by_key its s.consignments.all
       ∙ all_good (length rows.films.items) its
 
   parcel_is : (b : ℕ) → list_all is_parcel (shop_of b books).sent ≡ list_all is_filled (filter (λ (it : Consignment). it.source == b) its)
   parcel_is b =
       all-map is_parcel as_parcel (filter (λ (it : Consignment). it.source == b) its)
-      ∙ all_congr _ is_filled (λ it i. nat_lt 0 (length-map (λ (line : Line). line.film) it.lines i) && nat_le (length-map (λ (line : Line). line.film) it.lines i) 100) (filter (λ (it : Consignment). it.source == b) its)
+      ∙ all_congr _ is_filled
+      (λ it i. nat_lt 0 (length-map (λ (line : Line). line.film) it.lines i) && nat_le (length-map (λ (line : Line). line.film) it.lines i) 100)
+      (filter (λ (it : Consignment). it.source == b) its)
 
-  arrival_is : (b : ℕ) → list_all (λ (a : Arrival). list_all (has_row books.catalogue.films) a.films) (shop_of b books).arrivals ≡ list_all (has_films (length rows.films.items)) (filter (λ (it : Consignment). it.addressee == b) its)
+  arrival_is : (b : ℕ)
+      → list_all (λ (a : Arrival). list_all (has_row books.catalogue.films) a.films) (shop_of b books).arrivals
+      ≡ list_all (has_films (length rows.films.items)) (filter (λ (it : Consignment). it.addressee == b) its)
   arrival_is b =
       all-map (λ (a : Arrival). list_all (has_row books.catalogue.films) a.films) as_arrival (filter (λ (it : Consignment). it.addressee == b) its)
       ∙ all_congr _ (has_films (length rows.films.items))
-      (λ it. all-map (has_row books.catalogue.films) (λ (line : Line). line.film) it.lines ∙ all_congr _ _ (λ line. film_named rows books o s.shared line.film) it.lines) (filter (λ (it : Consignment). it.addressee == b) its)
+      (λ it.
+      all-map (has_row books.catalogue.films) (λ (line : Line). line.film) it.lines
+      ∙ all_congr _ _ (λ line. film_named rows books o s.shared line.film) it.lines)
+      (filter (λ (it : Consignment). it.addressee == b) its)
 
   abbrev headers : List Header
   headers = map header by_key
@@ -184,21 +226,27 @@ module _ (rows : OrderedBooks) (books : Books) (o : AreOrdered rows) (s : HaveOr
   placed_so : IsCounted 1 (map (λ (it : Consignment). it.place) its) → IsCounted 1 (map (λ (h : Header). h.place) (map header its))
   placed_so c = subst (IsCounted 1) (sym (map-twice (λ (h : Header). h.place) header its)) c
 
-  numbers_are : (a b : ℕ) → map (λ (h : Header). h.number) (filter (is_pair a b) (map header its)) ≡ map (λ (it : Consignment). it.number) (filter (λ (it : Consignment). it.source == a && it.addressee == b) its)
+  numbers_are : (a b : ℕ)
+      → map (λ (h : Header). h.number) (filter (is_pair a b) (map header its))
+      ≡ map (λ (it : Consignment). it.number) (filter (λ (it : Consignment). it.source == a && it.addressee == b) its)
   numbers_are a b =
-      ap (map (λ (h : Header). h.number)) (filter-map (is_pair a b) header its) ∙ map-twice (λ (h : Header). h.number) header (filter (λ (it : Consignment). it.source == a && it.addressee == b) its)
+      ap (map (λ (h : Header). h.number)) (filter-map (is_pair a b) header its)
+      ∙ map-twice (λ (h : Header). h.number) header (filter (λ (it : Consignment). it.source == a && it.addressee == b) its)
 
   numbers_from_rows : IsCounted 1 (map (λ (it : Consignment). it.place) its) → pairs_follow (map seen_header rows.headers.items) ≡ true
       → (a b : ℕ) → AreNumbered (λ (it : Consignment). it.source == a && it.addressee == b) (λ it. it.number) its
   numbers_from_rows c h a b =
       subst (IsCounted 1) (numbers_are a b)
-      (numbered_from_pairs headers (map header its) headers_bag (headers_climb rows books s o) (placed_so c) (ap pairs_follow (headers_are rows its s.consignments) ∙ h) a b)
+      (numbered_from_pairs headers (map header its) headers_bag (headers_climb rows books s o)
+      (placed_so c) (ap pairs_follow (headers_are rows its s.consignments) ∙ h) a b)
 
-  rows_from_numbers : IsCounted 1 (map (λ (it : Consignment). it.place) its) → ((a b : ℕ) → AreNumbered (λ (it : Consignment). it.source == a && it.addressee == b) (λ it. it.number) its)
+  rows_from_numbers : IsCounted 1 (map (λ (it : Consignment). it.place) its)
+      → ((a b : ℕ) → AreNumbered (λ (it : Consignment). it.source == a && it.addressee == b) (λ it. it.number) its)
       → pairs_follow (map seen_header rows.headers.items) ≡ true
   rows_from_numbers c h =
       sym (ap pairs_follow (headers_are rows its s.consignments))
-      ∙ pairs_from_numbered headers (map header its) headers_bag (headers_climb rows books s o) (placed_so c) (λ a b. subst (IsCounted 1) (sym (numbers_are a b)) (h a b))
+      ∙ pairs_from_numbered headers (map header its) headers_bag (headers_climb rows books s o)
+      (placed_so c) (λ a b. subst (IsCounted 1) (sym (numbers_are a b)) (h a b))
 
   -- ---- lots and keys of a branch
 
@@ -208,14 +256,16 @@ module _ (rows : OrderedBooks) (books : Books) (o : AreOrdered rows) (s : HaveOr
       ∙ own_different (λ (t : Text). t) b books.lots
       (sym (different-map (λ (x y : CheckedLot). bytes_eq (x.branch ∷ x.name) (y.branch ∷ y.name)) lot_row books.lots)
       ∙ ap (are_different (λ (x y : CheckedLot). bytes_eq (x.branch ∷ x.name) (y.branch ∷ y.name))) s.lots
-      ∙ sym (different-map bytes_eq (λ (x : CheckedLot). x.branch ∷ x.name) rows.lots.items) ∙ different_from_climbs (map (λ (x : CheckedLot). x.branch ∷ x.name) rows.lots.items) o.lots)
+      ∙ sym (different-map bytes_eq (λ (x : CheckedLot). x.branch ∷ x.name) rows.lots.items)
+      ∙ different_from_climbs (map (λ (x : CheckedLot). x.branch ∷ x.name) rows.lots.items) o.lots)
 
   keys_differ : (b : ℕ) → are_different (λ (earlier later : Kept). bytes_eq earlier.command.key later.command.key) (owned_by b books.kept) ≡ true
   keys_differ b =
       own_different (λ (k : Kept). k.command.key) b books.kept
       (sym (different-map (λ (x y : CheckedKept). bytes_eq (x.branch ∷ x.key) (y.branch ∷ y.key)) kept_row books.kept)
       ∙ ap (are_different (λ (x y : CheckedKept). bytes_eq (x.branch ∷ x.key) (y.branch ∷ y.key))) s.kept
-      ∙ sym (different-map bytes_eq (λ (x : CheckedKept). x.branch ∷ x.key) rows.kept.items) ∙ different_from_climbs (map (λ (x : CheckedKept). x.branch ∷ x.key) rows.kept.items) o.kept)
+      ∙ sym (different-map bytes_eq (λ (x : CheckedKept). x.branch ∷ x.key) rows.kept.items)
+      ∙ different_from_climbs (map (λ (x : CheckedKept). x.branch ∷ x.key) rows.kept.items) o.kept)
 
   -- ---- each branch
 
@@ -261,7 +311,8 @@ module _ (rows : OrderedBooks) (books : Books) (o : AreOrdered rows) (s : HaveOr
   facts : is_owned rows ≡ true → are_good_from rows 1 rows.branches.items ≡ true → ((b : ℕ) → BranchLinks b books) → (b : ℕ) → BranchFacts rules b books
   facts owned good more b = elim (at_case b rows.branches.items) [
     | inl e ↦
-        facts_from_part rows books o s b None (last_is b ∙ ap last_in e) rules (more b) (ap (is_good_part rows b None) (nothing_owned owned b (not_there b e)) ∙ nothing_is_good b)
+        facts_from_part rows books o s b None (last_is b ∙ ap last_in e) rules (more b)
+        (ap (is_good_part rows b None) (nothing_owned owned b (not_there b e)) ∙ nothing_is_good b)
     | inr it ↦
         facts_from_part rows books o s b it.0.last (last_is b ∙ ap last_in it.1) rules (more b)
         (both (good_at b it.0) true (subst (λ (xs : List CheckedBranch). list_all (good_at b) xs ≡ true) it.1
@@ -269,7 +320,9 @@ module _ (rows : OrderedBooks) (books : Books) (o : AreOrdered rows) (s : HaveOr
   ]
 
   goods : ((b : ℕ) → BranchFacts rules b books) → are_good_from rows 1 rows.branches.items ≡ true
-  goods all = parts_are 1 rows.branches.items ∙ at_all_from good_at 1 rows.branches.items (λ n m e low. subst (λ j. list_all (good_at j) (at n rows.branches.items) ≡ true) (same n m e) (here n))
+  goods all =
+      parts_are 1 rows.branches.items
+      ∙ at_all_from good_at 1 rows.branches.items (λ n m e low. subst (λ j. list_all (good_at j) (at n rows.branches.items) ≡ true) (same n m e) (here n))
     where
       same : (n m : ℕ) → m + 1 ≡ n + 1 → n ≡ m
       same n m e = omega (arith, e)
@@ -277,7 +330,8 @@ module _ (rows : OrderedBooks) (books : Books) (o : AreOrdered rows) (s : HaveOr
       here : (n : ℕ) → list_all (good_at n) (at n rows.branches.items) ≡ true
       here n = elim (at_case n rows.branches.items) [
         | inl e ↦ ap (list_all (good_at n)) e
-        | inr it ↦ ap (list_all (good_at n)) it.1 ∙ alone (good_at n it.0) (part_from_facts rows books o s n it.0.last (last_is n ∙ ap last_in it.1) rules (all n))
+        | inr it ↦
+            ap (list_all (good_at n)) it.1 ∙ alone (good_at n it.0) (part_from_facts rows books o s n it.0.last (last_is n ∙ ap last_in it.1) rules (all n))
       ]
 
   -- ---- all of it
@@ -305,7 +359,10 @@ module _ (rows : OrderedBooks) (books : Books) (o : AreOrdered rows) (s : HaveOr
         numbers = record { rows = λ t b. (each b).numbers t; consignments = numbers_from_rows places sent.1.0 };
         places = places;
         custody = custody_of_all books.copies (all_lines books) up custody;
-        origins = record { rows = origins_of_rows books.copies (all_lines books) up custody; lines = origins_of_lines books.copies (all_lines books) up custody };
+        origins = record {
+          rows = origins_of_rows books.copies (all_lines books) up custody;
+          lines = origins_of_lines books.copies (all_lines books) up custody;
+        };
         settled = settled.0;
         lasts = ap (are_different (λ (earlier later : Owned Moment). earlier.owner == later.owner)) s.lasts ∙ lasts_apart 1 rows.branches.items;
         held = λ b. (each b).held;
@@ -317,8 +374,11 @@ module _ (rows : OrderedBooks) (books : Books) (o : AreOrdered rows) (s : HaveOr
   pub checks_from_sound : IsSound (widest rules) books → AreChecked rows books.consignments
   checks_from_sound g =
       let filled = all_from_owners is_filled (λ (it : Consignment). it.source) its (λ b. sym (parcel_is b) ∙ (g.links b).parcels) in
-      let films = all_from_owners (has_films (length rows.films.items)) (λ (it : Consignment). it.addressee) its (λ b. sym (arrival_is b) ∙ (g.links b).arrival_films) in
-      let settled : are_settled (length rows.films.items) (map seen_header rows.headers.items) (map seen_placed rows.lines.items) ≡ true = settled_is ∙ (λ i. filled i && (g.settled i && films i)) in
+      let films =
+      all_from_owners (has_films (length rows.films.items)) (λ (it : Consignment). it.addressee) its
+      (λ b. sym (arrival_is b) ∙ (g.links b).arrival_films) in
+      let settled : are_settled (length rows.films.items) (map seen_header rows.headers.items) (map seen_placed rows.lines.items) ≡ true =
+      settled_is ∙ (λ i. filled i && (g.settled i && films i)) in
       let pairs = rows_from_numbers g.places g.numbers.consignments in
       let places = is_counted 1 _ g.places in
       record {

@@ -1,5 +1,7 @@
 -- Tests of lists of rows, and of what the rows are of.
-use Rattle.shop_types.proofs.Common.{◌≡◌, ◌&&◌, ◌||◌, ◌+◌, ◌-◌, ◌≤◌, ◌==◌, ℕ, List, [], ◌∷◌, map, not, Bool, true, false, cond, refl, sym, ap, subst, ◌∙◌, arith, true≢false, nat_le, list_any, list_all, AllByRecursion, nat_tests, at, IsCounted, are_different, same_if, equal_test}
+use Rattle.shop_types.proofs.Common.{◌≡◌, ◌&&◌, ◌||◌, ◌+◌, ◌-◌, ◌≤◌, ◌==◌, ℕ, List, [], ◌∷◌, map, not, Bool, true, false, cond, refl, sym, ap, subst, ◌∙◌}
+use Rattle.shop_types.proofs.Common.{arith, true≢false, nat_le, list_any, list_all, AllByRecursion, nat_tests, at, IsCounted, are_different, same_if}
+use Rattle.shop_types.proofs.Common.{equal_test}
 use Rattle.audit_rows.proofs.Keys.{both}
 use Rattle.audit_rows.proofs.Maps.{all-map}
 use Rattle.audit_rows.specs.Lists.{counts_from}
@@ -35,7 +37,8 @@ all_and p q [] = refl
 all_and p q (x ∷ xs) = (λ i. p x && q x && all_and p q xs i) ∙ shuffled (p x) (q x) (list_all p xs) (list_all q xs)
 
 -- a test of rows is one of what they are the rows of
-pub moved : {A B : Type 0} (row : A → B) (xs : List A) (ys : List B) → map row xs ≡ ys → (p : A → Bool) (q : B → Bool) → ((x : A) → p x ≡ q (row x)) → list_all p xs ≡ list_all q ys
+pub moved : {A B : Type 0} (row : A → B) (xs : List A) (ys : List B) → map row xs ≡ ys
+    → (p : A → Bool) (q : B → Bool) → ((x : A) → p x ≡ q (row x)) → list_all p xs ≡ list_all q ys
 moved row xs ys e p q h = all_congr p (λ x. q (row x)) h xs ∙ sym (all-map q row xs) ∙ ap (list_all q) e
 
 pub different_congr : {X : Type 0} (s t : X → X → Bool) → ((x y : X) → s x y ≡ t x y) → (xs : List X) → are_different s xs ≡ are_different t xs
@@ -81,7 +84,8 @@ module _ {A : Type 0} (P : ℕ → A → Bool) where
       let parts = both (P k x) (all_from P (k + 1) xs) h in
       go (n == 1) refl parts.0 (λ q. all_from_at (k + 1) xs parts.1 (n - 1) m (let low2 = q in omega (arith, e, low2)) q)
     where
-      go : (t : Bool) → (n == 1) ≡ t → P k x ≡ true → (1 ≤ n - 1 → list_all (P m) (at (n - 1) xs) ≡ true) → list_all (P m) (cond t (x ∷ []) (at (n - 1) xs)) ≡ true
+      go : (t : Bool) → (n == 1) ≡ t → P k x ≡ true → (1 ≤ n - 1 → list_all (P m) (at (n - 1) xs) ≡ true)
+          → list_all (P m) (cond t (x ∷ []) (at (n - 1) xs)) ≡ true
       go true t here more = alone (P m x) (subst (λ j. P j x ≡ true) (first_place n m k t e) here)
       go false t here more = more (later_place n t low)
 
@@ -100,4 +104,5 @@ module _ {A : Type 0} (P : ℕ → A → Bool) where
     where
       next : (n m : ℕ) → list_all (P m) (at (n + 1) (x ∷ xs)) ≡ true → 1 ≤ n → list_all (P m) (at n xs) ≡ true
       next n m it low =
-          subst (λ j. list_all (P m) (at j xs) ≡ true) (less_one n) (subst (λ t. list_all (P m) (cond t (x ∷ []) (at (n + 1 - 1) xs)) ≡ true) (not_first n low) it)
+          subst (λ j. list_all (P m) (at j xs) ≡ true) (less_one n)
+          (subst (λ t. list_all (P m) (cond t (x ∷ []) (at (n + 1 - 1) xs)) ≡ true) (not_first n low) it)

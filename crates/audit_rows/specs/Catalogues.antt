@@ -21,7 +21,8 @@ managers_from b staff (row ∷ rows) = list_all (is_staff_row b staff) (option_t
 abbrev pub is_named : OrderedBooks → Bool
 is_named rows =
     list_all (λ (row : CheckedCity). is_among (length rows.countries.items) row.country) rows.cities.items
-    && list_all (λ (row : CheckedFilm). is_among (length rows.languages.items) row.language && is_among (length rows.categories.items) row.category) rows.films.items
+    && list_all
+    (λ (row : CheckedFilm). is_among (length rows.languages.items) row.language && is_among (length rows.categories.items) row.category) rows.films.items
     && list_all (λ (row : CheckedCast). is_among (length rows.films.items) row.film && is_among rows.actors row.actor) rows.casts.items
     && list_all (λ (row : CheckedBranch). is_among (length rows.cities.items) row.city) rows.branches.items
     && list_all (λ (row : CheckedStaff). is_among (length rows.branches.items) row.branch && is_among (length rows.cities.items) row.city) rows.staff.items

@@ -11,7 +11,8 @@ use Rattle.audit_rows.specs.Parts.{are_good_from, is_owned}
 
 abbrev pub are_good_consignments : OrderedBooks → List Consignment → Bool
 are_good_consignments rows its =
-    are_settled (length rows.films.items) (map seen_header rows.headers.items) (map seen_placed rows.lines.items) && pairs_follow (map seen_header rows.headers.items)
+    are_settled (length rows.films.items) (map seen_header rows.headers.items) (map seen_placed rows.lines.items)
+    && pairs_follow (map seen_header rows.headers.items)
     && counts_from 1 (map (λ (it : Consignment). it.place) its)
 
 -- the rows pass all checks; `its` are the consignments of the rows, in the order of their places

@@ -20,7 +20,8 @@ is_good_consignment films it = are_good_lines films it.received it.lines
 -- each header with the lines that stand in front
 abbrev pub are_settled : ℕ → List Header → List Placed → Bool
 are_settled films [] ps = true
-are_settled films (h ∷ hs) ps = are_good_lines films h.received (map (λ p. p.line) (front_of (is_line_of h) ps)) && are_settled films hs (back_of (is_line_of h) ps)
+are_settled films (h ∷ hs) ps =
+    are_good_lines films h.received (map (λ p. p.line) (front_of (is_line_of h) ps)) && are_settled films hs (back_of (is_line_of h) ps)
 
 -- ---- numbers of a sender and an addressee
 

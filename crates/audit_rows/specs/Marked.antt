@@ -30,7 +30,9 @@ places_in test copies lines = rows_in Here test copies + lines_in UnderWay test 
 pub record AreInCustody (copies : List (Row BookCopy)) (lines : List Line) : Type 0 where
   pub is_made : list_all (λ (it : Marked). nat_lt 0 (rows_made (is_mark it.1) copies)) (marked copies lines) ≡ true
   pub place : list_all (λ (it : Marked). places_in (is_mark it.1) copies lines == 1) (marked copies lines) ≡ true
-  pub film : list_all (λ (it : Marked). list_all (λ (other : Marked). not (is_mark it.1 other.1) || other.0 == it.0) (marked copies lines)) (marked copies lines) ≡ true
+  pub film :
+      list_all (λ (it : Marked). list_all (λ (other : Marked). not (is_mark it.1 other.1) || other.0 == it.0) (marked copies lines)) (marked copies lines)
+      ≡ true
 
 abbrev pub any_mark : Mark → Bool
 any_mark mark = true

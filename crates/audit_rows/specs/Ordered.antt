@@ -84,7 +84,8 @@ abbrev pub are_rows_ordered : ((t : Table) → List (CheckedOf t)) → Bool
 are_rows_ordered rows = list_all (λ t. climbs (map checked_key (rows t))) all_tables
 
 abbrev pub are_others_ordered : OrderedBooks → Bool
-are_others_ordered rows = climbs (map (λ (row : CheckedLot). row.branch ∷ row.name) rows.lots.items) && climbs (map (λ (row : CheckedKept). row.branch ∷ row.key) rows.kept.items)
+are_others_ordered rows =
+    climbs (map (λ (row : CheckedLot). row.branch ∷ row.name) rows.lots.items) && climbs (map (λ (row : CheckedKept). row.branch ∷ row.key) rows.kept.items)
 
 abbrev pub are_consignments_ordered : OrderedBooks → Bool
 are_consignments_ordered rows =

@@ -42,16 +42,19 @@ is_termed part = length (part.rows TermRows) == length (part.rows Rentals)
 
 abbrev pub is_sized : PartRows → Bool
 is_sized part =
-    nat_le part.kept 1000000 && nat_le (length (part.rows CopyRows)) 1000000 && nat_le (length (part.rows Customers)) part.kept && nat_le (length (part.rows Rentals)) part.kept
+    nat_le part.kept 1000000 && nat_le (length (part.rows CopyRows)) 1000000
+    && nat_le (length (part.rows Customers)) part.kept && nat_le (length (part.rows Rentals)) part.kept
     && nat_le (length (part.rows Payments)) part.kept && nat_le part.lots part.kept && nat_le part.sent part.kept
 
 -- ---- moments
 
 abbrev pub is_timely : Option Moment → PartRows → Bool
 is_timely last part =
-    list_all (λ (row : CheckedOf Customers). is_within last row.it.created) (part.rows Customers) && list_all (λ (row : CheckedOf Rentals). rental_by last (seen_rental row.it)) (part.rows Rentals)
+    list_all (λ (row : CheckedOf Customers). is_within last row.it.created) (part.rows Customers)
+    && list_all (λ (row : CheckedOf Rentals). rental_by last (seen_rental row.it)) (part.rows Rentals)
     && list_all (λ (row : CheckedOf Payments). is_within last row.it.paid) (part.rows Payments)
-    && rises_from 0 (map (λ (row : CheckedOf Rentals). seconds_of row.it.rented) (part.rows Rentals)) && rises_from 0 (map (λ (row : CheckedOf Payments). seconds_of row.it.paid) (part.rows Payments))
+    && rises_from 0 (map (λ (row : CheckedOf Rentals). seconds_of row.it.rented) (part.rows Rentals))
+    && rises_from 0 (map (λ (row : CheckedOf Payments). seconds_of row.it.paid) (part.rows Payments))
 
 -- ---- references
 
@@ -60,11 +63,14 @@ is_staff_row b staff s = list_any (λ (row : CheckedStaff). row.branch == b) (at
 
 abbrev pub has_places : OrderedBooks → PartRows → Bool
 has_places books part =
-    list_all (λ (row : CheckedOf Customers). is_among (length books.cities.items) row.it.city) (part.rows Customers) && list_all (λ (row : CheckedOf CopyRows). is_among (length books.films.items) row.it.film) (part.rows CopyRows)
+    list_all (λ (row : CheckedOf Customers). is_among (length books.cities.items) row.it.city) (part.rows Customers)
+    && list_all (λ (row : CheckedOf CopyRows). is_among (length books.films.items) row.it.film) (part.rows CopyRows)
 
 abbrev pub has_people : ℕ → List CheckedStaff → PartRows → Bool
 has_people b staff part =
-    list_all (λ (row : CheckedOf Rentals). is_among (length (part.rows CopyRows)) row.it.copy && is_among (length (part.rows Customers)) row.it.customer && is_staff_row b staff row.it.staff) (part.rows Rentals)
+    list_all (λ (row : CheckedOf Rentals).
+    is_among (length (part.rows CopyRows)) row.it.copy && is_among (length (part.rows Customers)) row.it.customer && is_staff_row b staff row.it.staff)
+    (part.rows Rentals)
 
 abbrev pub has_payers : ℕ → List CheckedStaff → PartRows → Bool
 has_payers b staff part =

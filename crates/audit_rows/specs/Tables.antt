@@ -67,7 +67,13 @@ with_all its books = record books { customers = its Customers; copies = its Copy
 
 -- a shop with the rows in each table
 abbrev pub shop_with : ((t : Table) → List (RowOf t)) → Shop → Shop
-shop_with its shop = record shop { customers = its Customers; copies = map unmarked (its CopyRows); rentals = its Rentals; terms = its TermRows; payments = its Payments }
+shop_with its shop = record shop {
+  customers = its Customers;
+  copies = map unmarked (its CopyRows);
+  rentals = its Rentals;
+  terms = its TermRows;
+  payments = its Payments;
+}
 
 -- ---- all tables
 

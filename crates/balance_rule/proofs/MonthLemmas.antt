@@ -13,7 +13,8 @@ pub record IsMonth (year month : ℕ) : Type 0 where
   pub month_low : 1 ≤ month
   pub month_high : month ≤ 12
 
-day_number_is : (year month day : ℕ) → IsMonth year month → 1 ≤ day → day ≤ days_in_month year month → days_from_civil (pos year) month day ≡ pos (day_number year month day)
+day_number_is : (year month day : ℕ) → IsMonth year month → 1 ≤ day → day ≤ days_in_month year month
+    → days_from_civil (pos year) month day ≡ pos (day_number year month day)
 unfolding day_of
 day_number_is year month day is low high =
     let m : Moment = record { year = year; month = month; day = day; hour = 0; minute = 0; second = 0 } in

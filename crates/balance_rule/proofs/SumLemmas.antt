@@ -1,5 +1,7 @@
 -- The sums over a customer's rows are the model's sums over the shop.
-use Rattle.shop_types.proofs.Common.{◌≡◌, ◌∙◌, refl, sym, ap, ℕ, ℤ, pos, ◌+◌, List, [], ◌∷◌, Bool, length, map, filter, inl, inr, ◌-ℤ◌, sum_by, and_assoc, length-map, cases_Bool, sum_by-cons, total, Moment, is_by, Rental, Terms, Payment, Rule, ByCode, ByComment, Shop, termed, fee_by, balance, paid_within}
+use Rattle.shop_types.proofs.Common.{◌≡◌, ◌∙◌, refl, sym, ap, ℕ, ℤ, pos, ◌+◌, List, [], ◌∷◌, Bool, length, map, filter, inl, inr, ◌-ℤ◌, sum_by, and_assoc}
+use Rattle.shop_types.proofs.Common.{length-map, cases_Bool, sum_by-cons, total, Moment, is_by, Rental, Terms, Payment, Rule, ByCode, ByComment, Shop, termed}
+use Rattle.shop_types.proofs.Common.{fee_by, balance, paid_within}
 use Rattle.std.specs.Prelude.{◌==◌, ◌&&◌, nat_lt, nat_le}
 use Rattle.shop_model.specs.Calendar.{day_of}
 use Rattle.balance_rule.specs.declared.rows.RentalTerms.{RentalTerms}
@@ -39,9 +41,11 @@ fees_are : (rule : Rule) (customer : ℕ) (at : Moment) (rentals : List (Rental 
     → fees_by rule at (map terms_of (filter (λ (it : Rental × Terms). it.0.customer == customer) rentals))
     ≡ total (fee_by rule at) (filter (λ (it : Rental × Terms). it.0.customer == customer && is_by it.0.rented at) rentals)
 fees_are rule customer at rentals =
-    ap (λ rows. sum_by (fee_of rule at) rows) (filter_made (λ (it : Rental × Terms). it.0.customer == customer) (λ (it : RentalTerms). is_by it.rented at) terms_of rentals)
+    ap (λ rows. sum_by (fee_of rule at) rows)
+    (filter_made (λ (it : Rental × Terms). it.0.customer == customer) (λ (it : RentalTerms). is_by it.rented at) terms_of rentals)
     ∙ sum_by-map (fee_of rule at) terms_of (filter (λ (it : Rental × Terms). it.0.customer == customer && is_by it.0.rented at) rentals)
-    ∙ total_same (λ (it : Rental × Terms). fee_of rule at (terms_of it)) (fee_by rule at) (filter (λ (it : Rental × Terms). it.0.customer == customer && is_by it.0.rented at) rentals) (fee_is rule at)
+    ∙ total_same (λ (it : Rental × Terms). fee_of rule at (terms_of it)) (fee_by rule at)
+    (filter (λ (it : Rental × Terms). it.0.customer == customer && is_by it.0.rented at) rentals) (fee_is rule at)
 
 -- ---- payments
 
@@ -62,7 +66,8 @@ owed_is rule shop customer at rentals payments of by =
 
 -- the payments on the days of a month
 on_days : (days : ℕ × ℕ) (customer : ℕ) (payments : List Payment)
-    → filter (is_on (seen_days days)) (map paid_of (filter (λ (payment : Payment). payment.customer == customer) payments)) ≡ map paid_of (paid_within days customer payments)
+    → filter (is_on (seen_days days)) (map paid_of (filter (λ (payment : Payment). payment.customer == customer) payments))
+    ≡ map paid_of (paid_within days customer payments)
 on_days days customer payments =
     let low = λ (payment : Payment). nat_le days.0 (day_of payment.paid) in
     let high = λ (payment : Payment). nat_le (day_of payment.paid) days.1 in

@@ -1,5 +1,7 @@
 -- The parts of each act match its form, in both directions.
-use Rattle.shop_schema.proofs.Common.{◌↔◌, ◌≤◌, ℕ, List, map, length, Option, Some, None, refl, sym, subst, arith, leb-true, le-leb, IfSome, Act, AddCustomer, SetActive, Rent, TakeBack, Pay, Import, Dispatch, Receive, Scrap, act_form, IsNumber, IsNumberList, IsAct, AreNumbers, AreBytes}
+use Rattle.shop_schema.proofs.Common.{◌↔◌, ◌≤◌, ℕ, List, map, length, Option, Some, None, refl, sym, subst, arith, leb-true, le-leb, IfSome, Act, AddCustomer}
+use Rattle.shop_schema.proofs.Common.{SetActive, Rent, TakeBack, Pay, Import, Dispatch, Receive, Scrap, act_form, IsNumber, IsNumberList, IsAct, AreNumbers}
+use Rattle.shop_schema.proofs.Common.{AreBytes}
 use Rattle.shop_schema.specs.Forms.{IsStockFile}
 use Rattle.books_audit.specs.declared.parts.Part.{Part}
 use Rattle.books_audit.specs.declared.acts.TheConstants.{ACTS}

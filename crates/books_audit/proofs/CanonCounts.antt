@@ -1,5 +1,8 @@
 -- The tables of counts are the same for rows in order, for the books that have the rows, and for all other books for which the tables stand.
-use Rattle.shop_schema.proofs.Common.{◌≡◌, ◌==◌, ℕ, List, [], ◌∷◌, map, filter, length, sym, ap, subst, ◌∙◌, Bool, IsPermutation, flat_map, flat_map_same_on, IsPermutation-map, IsPermutation-sym, IsPermutation-trans, length_permutation, IsPermutation-filter, Row, Owned, is_of, numbered, Branch, Customer, Rental, Terms, Payment, Kept, Books, BookCopy, Customers, CopyRows, Rentals, TermRows, Payments, counter_columns, out_columns, pair_columns, Count, branch_counts, counts_of, is_open, out_of}
+use Rattle.shop_schema.proofs.Common.{◌≡◌, ◌==◌, ℕ, List, [], ◌∷◌, map, filter, length, sym, ap, subst, ◌∙◌, Bool, IsPermutation, flat_map, flat_map_same_on}
+use Rattle.shop_schema.proofs.Common.{IsPermutation-map, IsPermutation-sym, IsPermutation-trans, length_permutation, IsPermutation-filter, Row, Owned, is_of}
+use Rattle.shop_schema.proofs.Common.{numbered, Branch, Customer, Rental, Terms, Payment, Kept, Books, BookCopy, Customers, CopyRows, Rentals, TermRows}
+use Rattle.shop_schema.proofs.Common.{Payments, counter_columns, out_columns, pair_columns, Count, branch_counts, counts_of, is_open, out_of}
 use Rattle.audit_rows.specs.Canons.{IsCanonOf, office_key, row_key}
 use Rattle.audit_rows.specs.Ordered.{AreOrdered, HaveOrderedRows}
 use Rattle.audit_rows.specs.declared.books.OrderedBooks.{OrderedBooks}
@@ -57,7 +60,9 @@ module _ (c b : Books) (canon : IsCanonOf c b) where
   counters : (counts_of c).counters ≡ (counts_of b).counters
   counters = λ i.
       record { caller = 0; kind = 4; last = office_many i }
-      ∷ (flat_map_same_on (branch_counts c) (branch_counts b) one_branch (numbered c.catalogue.branches) ∙ ap (λ bs. flat_map (branch_counts b) (numbered bs)) (λ j. (canon.shared j).branches)) i
+      ∷ (flat_map_same_on (branch_counts c) (branch_counts b) one_branch (numbered c.catalogue.branches)
+      ∙ ap (λ bs. flat_map (branch_counts b) (numbered bs)) (λ j. (canon.shared j).branches))
+      i
 
   outs : IsPermutation (counts_of b).outs (counts_of c).outs
   outs = IsPermutation-map out_of _ _ (IsPermutation-filter is_open b.rentals c.rentals (canon.rows Rentals))
@@ -67,7 +72,9 @@ module _ (c b : Books) (canon : IsCanonOf c b) where
     counters = subst (λ (l : List Count). IsPermutation (rows_in tables COUNTERS) (map counter_columns l)) (sym counters) h.counters;
     outs = IsPermutation-trans _ _ _ h.outs (IsPermutation-map out_columns _ _ outs);
     pairs = IsPermutation-trans _ _ _ h.pairs (IsPermutation-map pair_columns _ _ (pairs_along b.consignments c.consignments canon.consignments));
-    terms = IsPermutation-trans _ _ _ (IsPermutation-sym _ _ (IsPermutation-map (row_key {A = Terms}) _ _ (canon.rows TermRows))) (IsPermutation-trans _ _ _ h.terms (IsPermutation-map (row_key {A = Rental}) _ _ (canon.rows Rentals)));
+    terms =
+        IsPermutation-trans _ _ _ (IsPermutation-sym _ _ (IsPermutation-map (row_key {A = Terms}) _ _ (canon.rows TermRows)))
+        (IsPermutation-trans _ _ _ h.terms (IsPermutation-map (row_key {A = Rental}) _ _ (canon.rows Rentals)));
   }
 
 -- what tables that stand for any books say of the counts is what the rows have

@@ -1,6 +1,9 @@
 -- From tables that were read, books in the order of their keys for which the tables stand.
 use Rattle.std.proofs.Common.{nat_le}
-use Rattle.shop_schema.proofs.Common.{◌≡◌, ◌≤◌, ◌+◌, ◌==◌, ◌&&◌, ◌||◌, ℕ, List, [], ◌∷◌, ◌++◌, map, length, not, Bool, true, false, refl, sym, ap, ◌∙◌, arith, cond, zero, suc, add-one, Ordering, is_lt, IsPermutation, IsSorted, AllByRecursion, flat_map, list_any, bytes_eq, nat_cmp, nat_eq_equiv, nat_tests, IsPermutation-refl, IsPermutation-trans, IsPermutation-sym, IsPermutation-middle, IsPermutation-cons, IsAscending, map-map, Row, numbered_from, are_different, Line, Consignment, IsLine, IsConsignment}
+use Rattle.shop_schema.proofs.Common.{◌≡◌, ◌≤◌, ◌+◌, ◌==◌, ◌&&◌, ◌||◌, ℕ, List, [], ◌∷◌, ◌++◌, map, length, not, Bool, true, false, refl, sym, ap, ◌∙◌, arith}
+use Rattle.shop_schema.proofs.Common.{cond, zero, suc, add-one, Ordering, is_lt, IsPermutation, IsSorted, AllByRecursion, flat_map, list_any, bytes_eq, nat_cmp}
+use Rattle.shop_schema.proofs.Common.{nat_eq_equiv, nat_tests, IsPermutation-refl, IsPermutation-trans, IsPermutation-sym, IsPermutation-middle}
+use Rattle.shop_schema.proofs.Common.{IsPermutation-cons, IsAscending, map-map, Row, numbered_from, are_different, Line, Consignment, IsLine, IsConsignment}
 use Rattle.audit_rows.specs.Lists.{Key, climbs, is_below}
 use Rattle.audit_rows.specs.Joins.{Header, header, placed, put_line, header_key}
 use Rattle.audit_rows.proofs.Keys.{below_apart, different_along}
@@ -46,14 +49,16 @@ consignment_test x y = three (x.source == y.source) (x.addressee == y.addressee)
 consignment_symm : (x y : Consignment) → same_consignment x y ≡ same_consignment y x
 consignment_symm x y = λ i. nat_eq_equiv.symm x.source y.source i && nat_eq_equiv.symm x.addressee y.addressee i && nat_eq_equiv.symm x.number y.number i
 
-pub consignments_apart : (by_key its : List Consignment) → IsPermutation by_key its → climbs (map header_key (map header by_key)) ≡ true → are_different same_consignment its ≡ true
+pub consignments_apart : (by_key its : List Consignment) → IsPermutation by_key its
+    → climbs (map header_key (map header by_key)) ≡ true → are_different same_consignment its ≡ true
 consignments_apart by_key its p h =
     sym (different_along same_consignment consignment_symm by_key its p)
     ∙ apart same_consignment (λ x. header_key (header x)) consignment_test by_key (ap climbs (sym (map-map header_key header by_key)) ∙ h)
 
 -- ---- consignments
 
-few_from : (h : Header) (k : ℕ) (ls : List Line) → k ≤ 4_294_967_296 → AllByRecursion IsPlaced (map (put_line h) (numbered_from k ls)) → k + length ls ≤ 4_294_967_296
+few_from : (h : Header) (k : ℕ) (ls : List Line) → k ≤ 4_294_967_296
+    → AllByRecursion IsPlaced (map (put_line h) (numbered_from k ls)) → k + length ls ≤ 4_294_967_296
 few_from h k [] low all = omega (arith, low)
 few_from h k (l ∷ ls) low all =
     let high = (in_range k all.0.at).1 in
@@ -68,12 +73,20 @@ all_front : {X : Type 0} (P : X → Type 0) (xs ys : List X) → AllByRecursion 
 all_front P [] ys h = (tt, h)
 all_front P (x ∷ xs) ys h = let more = all_front P xs ys h.1 in ((h.0, more.0), more.1)
 
-pub consignments_fit : (its : List Consignment) → AllByRecursion IsHeader (map header its) → AllByRecursion IsPlaced (flat_map placed its) → AllByRecursion IsConsignment its
+pub consignments_fit : (its : List Consignment) → AllByRecursion IsHeader (map header its)
+    → AllByRecursion IsPlaced (flat_map placed its) → AllByRecursion IsConsignment its
 consignments_fit [] a b = tt
 consignments_fit (it ∷ its) a b =
     let parts = all_front IsPlaced (placed it) (flat_map placed its) b in
     let few = few_from (header it) 1 it.lines (omega arith) parts.0 in (
-      record { source = a.0.source; addressee = a.0.addressee; number = a.0.number; place = a.0.place; few = omega (arith, few); lines = lines_fit (header it) 1 it.lines parts.0 },
+      record {
+        source = a.0.source;
+        addressee = a.0.addressee;
+        number = a.0.number;
+        place = a.0.place;
+        few = omega (arith, few);
+        lines = lines_fit (header it) 1 it.lines parts.0;
+      },
       consignments_fit its a.1 parts.1,
     )
 

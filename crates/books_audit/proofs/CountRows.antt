@@ -1,6 +1,8 @@
 -- The counts of books are the counts of their rows in order.
 use Rattle.std.proofs.Common.{is_none}
-use Rattle.shop_schema.proofs.Common.{◌≡◌, ◌+◌, ◌==◌, ℕ, List, [], ◌∷◌, ◌++◌, map, filter, length, Bool, refl, sym, ap, subst, ◌∙◌, arith, IsPermutation, flat_map, fold, map-map, Row, Owned, of, numbered_from, Branch, Kept, OfficeKept, Books, Customers, CopyRows, Rentals, Payments, rows_of, Consignment, Pair, count_pair, pairs_of, branch_counts, counts_of, is_open, out_of}
+use Rattle.shop_schema.proofs.Common.{◌≡◌, ◌+◌, ◌==◌, ℕ, List, [], ◌∷◌, ◌++◌, map, filter, length, Bool, refl, sym, ap, subst, ◌∙◌, arith, IsPermutation}
+use Rattle.shop_schema.proofs.Common.{flat_map, fold, map-map, Row, Owned, of, numbered_from, Branch, Kept, OfficeKept, Books, Customers, CopyRows, Rentals}
+use Rattle.shop_schema.proofs.Common.{Payments, rows_of, Consignment, Pair, count_pair, pairs_of, branch_counts, counts_of, is_open, out_of}
 use Rattle.shop_model.specs.Books.{Table, RowOf}
 use Rattle.shop_types.specs.declared.rental.Rental.{Rental}
 use Rattle.audit_rows.specs.Ordered.{HaveOrderedRows, kept_row, branch_row, without_last}
@@ -17,14 +19,16 @@ use Rattle.books_audit.specs.Read.{counters_in, outs_in, pairs_in, counts_of_bra
 use Rattle.books_audit.proofs.PairLemmas.{pairs_along}
 use Rattle.std.specs.Prelude.{None}
 
-by_numbers : {X Y C : Type 0} (f : ℕ × X → List C) (g : ℕ × Y → List C) → ((n : ℕ) (x : X) (y : Y) → f (n, x) ≡ g (n, y)) → (k : ℕ) (xs : List X) (ys : List Y) → length xs ≡ length ys → flat_map f (numbered_from k xs) ≡ flat_map g (numbered_from k ys)
+by_numbers : {X Y C : Type 0} (f : ℕ × X → List C) (g : ℕ × Y → List C) → ((n : ℕ) (x : X) (y : Y) → f (n, x) ≡ g (n, y))
+    → (k : ℕ) (xs : List X) (ys : List Y) → length xs ≡ length ys → flat_map f (numbered_from k xs) ≡ flat_map g (numbered_from k ys)
 by_numbers f g h k [] [] e = refl
 by_numbers f g h k [] (y ∷ ys) e = absurd (omega (arith, e))
 by_numbers f g h k (x ∷ xs) [] e = absurd (omega (arith, e))
 by_numbers f g h k (x ∷ xs) (y ∷ ys) e = λ i. h k x y i ++ by_numbers f g h (k + 1) xs ys (omega (arith, e)) i
 
 counted_headers : (pairs : List Pair) (its : List Consignment) (headers : List CheckedHeader) → map header its ≡ map seen_header headers
-    → fold (λ pairs it. count_pair it.source it.addressee pairs) pairs its ≡ fold (λ pairs (it : CheckedHeader). count_pair it.source it.addressee pairs) pairs headers
+    → fold (λ pairs it. count_pair it.source it.addressee pairs) pairs its
+    ≡ fold (λ pairs (it : CheckedHeader). count_pair it.source it.addressee pairs) pairs headers
 counted_headers pairs [] [] h = refl
 counted_headers pairs [] (x ∷ headers) h = cc
 counted_headers pairs (it ∷ its) [] h = cc
@@ -68,4 +72,5 @@ module _ (rows : OrderedBooks) (c : Books) (has : HaveOrderedRows rows c) where
   pairs_same =
       let sent = has.consignments in
       let headers = (join_sound (map seen_header rows.headers.items) (map seen_placed rows.lines.items) sent.by_key sent.joined).0 in
-      subst (λ l. IsPermutation l (pairs_of c.consignments)) (counted_headers [] sent.by_key rows.headers.items headers) (pairs_along sent.by_key c.consignments sent.all)
+      subst (λ l. IsPermutation l (pairs_of c.consignments))
+      (counted_headers [] sent.by_key rows.headers.items headers) (pairs_along sent.by_key c.consignments sent.all)

@@ -1,6 +1,8 @@
 -- What was read of rows is all that they stand for.
 use Rattle.std.proofs.Common.{IfOk}
-use Rattle.shop_schema.proofs.Common.{◌≡◌, ◌&&◌, ◌+◌, List, map, false, refl, sym, subst, ◌∙◌, true≢false, IsPermutation, Result, Ok, Err, AllByRecursion, IsPermutation-map, IsPermutation-refl, IsPermutation-trans, IsPermutation-sym, map-map, Row, Here, Scrapped, BookCopy, CopyRows, Line, UnderWay, Missing, one, is_origin, copy_is, line_is, copy_columns, IsRow, IsCopy, Audit}
+use Rattle.shop_schema.proofs.Common.{◌≡◌, ◌&&◌, ◌+◌, List, map, false, refl, sym, subst, ◌∙◌, true≢false, IsPermutation, Result, Ok, Err, AllByRecursion}
+use Rattle.shop_schema.proofs.Common.{IsPermutation-map, IsPermutation-refl, IsPermutation-trans, IsPermutation-sym, map-map, Row, Here, Scrapped, BookCopy}
+use Rattle.shop_schema.proofs.Common.{CopyRows, Line, UnderWay, Missing, one, is_origin, copy_is, line_is, copy_columns, IsRow, IsCopy, Audit}
 use Rattle.sqlite_value.specs.Order as sql
 use Rattle.shop_schema.proofs.OneRow.{same_row}
 use Rattle.shop_schema.proofs.ShopTables as table
@@ -31,12 +33,17 @@ abbrev pub nothing : Audit
 nothing = record { sound = false; made = 0; here = 0; transit = 0; gone = 0 }
 
 -- copies and lines in another order count the same
-pub counts_moved : (audit : Audit) (cs ds : List (Row BookCopy)) (ls ms : List Line) → IsPermutation cs ds → IsPermutation ls ms → CountsCustody audit ds ms → CountsCustody audit cs ls
+pub counts_moved : (audit : Audit) (cs ds : List (Row BookCopy)) (ls ms : List Line)
+    → IsPermutation cs ds → IsPermutation ls ms → CountsCustody audit ds ms → CountsCustody audit cs ls
 counts_moved audit cs ds ls ms a b k = record {
   made = k.made ∙ sym (total_along (λ (row : Row BookCopy). one (is_origin row && any_mark row.it.mark)) cs ds a);
   here = k.here ∙ sym (total_along (λ (row : Row BookCopy). one (copy_is row.it.state Here && any_mark row.it.mark)) cs ds a);
   transit = k.transit ∙ sym (total_along (λ (it : Line). one (line_is it.state UnderWay && any_mark it.mark)) ls ms b);
-  gone = k.gone ∙ (λ i. sym (total_along (λ (row : Row BookCopy). one (copy_is row.it.state Scrapped && any_mark row.it.mark)) cs ds a) i + sym (total_along (λ (it : Line). one (line_is it.state Missing && any_mark it.mark)) ls ms b) i);
+  gone =
+      k.gone
+      ∙ (λ i.
+      sym (total_along (λ (row : Row BookCopy). one (copy_is row.it.state Scrapped && any_mark row.it.mark)) cs ds a) i
+      + sym (total_along (λ (it : Line). one (line_is it.state Missing && any_mark it.mark)) ls ms b) i);
 }
 
 module _ (copy_rows line_rows : List sql.Row) where
@@ -75,12 +82,14 @@ module _ (copy_rows line_rows : List sql.Row) where
 
     module _ (others : List (Row BookCopy)) (rest : List Placed) (h : StandFor copy_rows line_rows others rest) where
       same_copies : IsPermutation others copies
-      same_copies = same_rows copy_columns (IsRow IsCopy) (same_row table.copies) copy_rows others copies h.copy_values stands.copy_values h.copies_are stands.copies_are
+      same_copies =
+          same_rows copy_columns (IsRow IsCopy) (same_row table.copies) copy_rows others copies h.copy_values stands.copy_values h.copies_are stands.copies_are
 
       same_lines : IsPermutation (lines_of rest) (map seen_line ys)
       same_lines =
           subst (IsPermutation (lines_of rest)) (map-map (λ (x : Placed). x.line) seen_placed ys)
-          (IsPermutation-map (λ (x : Placed). x.line) _ _ (same_rows placed_columns IsPlaced (same_row audited.lines) line_rows rest placed h.line_values stands.line_values h.lines_are stands.lines_are))
+          (IsPermutation-map (λ (x : Placed). x.line) _ _
+          (same_rows placed_columns IsPlaced (same_row audited.lines) line_rows rest placed h.line_values stands.line_values h.lines_are stands.lines_are))
 
     pub audits_all : (audit : Audit) → AuditsRows audit copies (map seen_line ys) → IsCustodyAudit copy_rows line_rows audit
     audits_all audit a = record {

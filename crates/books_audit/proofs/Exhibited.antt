@@ -1,12 +1,18 @@
 -- Tables that were read, and whose rows are in order, stand for books that have the rows.
-use Rattle.shop_schema.proofs.Common.{◌≡◌, ◌==◌, ◌&&◌, ◌<◌, ◌^◌, ℕ, List, [], ◌∷◌, map, length, None, Option, refl, sym, ap, subst, ◌∙◌, IsPermutation, AllByRecursion, all_of, flat_map, bytes_eq, IsPermutation-map, IsPermutation-trans, IsPermutation-sym, map-id, map-map, IsPermutation-flat_map, Moment, Owned, owned_by, Text, Cast, Branch, Rule, Kept, OfficeKept, Books, Consignment, head, Catalogue, chain_columns, named_columns, city_columns, actor_columns, film_columns, cast_columns, staff_columns, rule_columns, lot_columns, consignment_columns, line_rows, IsName, IsToken, IsCity, IsActor, IsFilm, IsCast, IsStaff, IsRow, IsRowOf, IsLot, IsConsignment, IsLast, RowsOf, rows_of, AreRowValues}
+use Rattle.shop_schema.proofs.Common.{◌≡◌, ◌==◌, ◌&&◌, ◌<◌, ◌^◌, ℕ, List, [], ◌∷◌, map, length, None, Option, refl, sym, ap, subst, ◌∙◌, IsPermutation}
+use Rattle.shop_schema.proofs.Common.{AllByRecursion, all_of, flat_map, bytes_eq, IsPermutation-map, IsPermutation-trans, IsPermutation-sym, map-id, map-map}
+use Rattle.shop_schema.proofs.Common.{IsPermutation-flat_map, Moment, Owned, owned_by, Text, Cast, Branch, Rule, Kept, OfficeKept, Books, Consignment, head}
+use Rattle.shop_schema.proofs.Common.{Catalogue, chain_columns, named_columns, city_columns, actor_columns, film_columns, cast_columns, staff_columns}
+use Rattle.shop_schema.proofs.Common.{rule_columns, lot_columns, consignment_columns, line_rows, IsName, IsToken, IsCity, IsActor, IsFilm, IsCast, IsStaff}
+use Rattle.shop_schema.proofs.Common.{IsRow, IsRowOf, IsLot, IsConsignment, IsLast, RowsOf, rows_of, AreRowValues}
 use Rattle.shop_model.specs.Books.{Table, opening}
 use Rattle.audit_rows.specs.Lists.{climbs}
 use Rattle.audit_rows.specs.Canons.{row_key, office_key}
 use Rattle.audit_rows.specs.Joins.{header, placed}
 use Rattle.audit_rows.specs.Seen.{seen_header, seen_placed}
 use Rattle.audit_rows.specs.Tables.{all_tables, each, with_all, checked_row, checked_rows}
-use Rattle.audit_rows.specs.Ordered.{AreOrdered, HaveOrderedRows, HaveSharedRows, city_row, film_row, cast_row, branch_row, without_last, staff_row, lot_row, kept_row, lasts_from}
+use Rattle.audit_rows.specs.Ordered.{AreOrdered, HaveOrderedRows, HaveSharedRows, city_row, film_row, cast_row, branch_row, without_last, staff_row, lot_row}
+use Rattle.audit_rows.specs.Ordered.{kept_row, lasts_from}
 use Rattle.audit_rows.specs.declared.books.OrderedBooks.{OrderedBooks}
 use Rattle.audit_rows.specs.declared.rows.CheckedBranch.{CheckedBranch}
 use Rattle.audit_rows.specs.declared.rows.CheckedCast.{CheckedCast}
@@ -21,7 +27,8 @@ use Rattle.books_audit.specs.BranchTables.{place_of, row_columns}
 use Rattle.books_audit.proofs.CustodyAudits.{placed_again}
 use Rattle.books_audit.specs.declared.shared.RuleRow.{RuleRow}
 use Rattle.books_audit.specs.declared.tables.TableRows.{TableRows}
-use Rattle.books_audit.specs.declared.tables.TheConstants.{CHAIN, COUNTRIES, LANGUAGES, CATEGORIES, CITIES, ACTORS, FILMS, CASTS, BRANCHES, STAFF, LOTS, CONSIGNMENTS, LINES, KEPT, RULE}
+use Rattle.books_audit.specs.declared.tables.TheConstants.{CHAIN, COUNTRIES, LANGUAGES, CATEGORIES, CITIES, ACTORS, FILMS, CASTS, BRANCHES, STAFF, LOTS}
+use Rattle.books_audit.specs.declared.tables.TheConstants.{CONSIGNMENTS, LINES, KEPT, RULE}
 use Rattle.books_audit.specs.Tables.{rows_in}
 use Rattle.books_audit.specs.Audits.{HaveRowsOf, HaveKeys, HaveBooks, AreInOrder, same_row}
 use Rattle.books_audit.specs.ReadInOrder.{AreReadInOrder}
@@ -110,7 +117,8 @@ module _ (tables : TableRows) (rows : OrderedBooks) (read : AreReadInOrder table
         staff = of.staff.items;
         rule = rule.0;
       } in
-      with_all (λ t. (of.by_table t).its) (record (opening catalogue) { lots = of.lots.its; consignments = by_place by_key; kept = kept.kept; lasts = lasts_from 1 rows.branches.items })
+      with_all (λ t. (of.by_table t).its)
+      (record (opening catalogue) { lots = of.lots.its; consignments = by_place by_key; kept = kept.kept; lasts = lasts_from 1 rows.branches.items })
 
   -- what holds of the rows of each table
   of_rows : (P : (t : Table) → RowsOf t → Type 0) → ((t : Table) → P t (of.by_table t).its) → (t : Table) → P t (rows_of canonical t)
@@ -133,7 +141,9 @@ module _ (tables : TableRows) (rows : OrderedBooks) (read : AreReadInOrder table
     actors = sym (length-map (λ it. tt {0}) of.actors.items) ∙ ap length of.actors.keeps ∙ read.actor_count;
     films = of.films.keeps;
     casts = of.casts.keeps;
-    branches = map-map (branch_row None) (λ (it : Branch × Option Moment). it.0) of.branches.items ∙ sym (map-map without_last told_row of.branches.items) ∙ ap (map without_last) of.branches.keeps;
+    branches =
+        map-map (branch_row None) (λ (it : Branch × Option Moment). it.0) of.branches.items
+        ∙ sym (map-map without_last told_row of.branches.items) ∙ ap (map without_last) of.branches.keeps;
     staff = of.staff.keeps;
   }
 
@@ -178,12 +188,21 @@ module _ (tables : TableRows) (rows : OrderedBooks) (read : AreReadInOrder table
     actors = of.actors.has;
     films = of.films.has;
     casts = of.casts.has;
-    branches = subst (IsPermutation (rows_in tables BRANCHES)) (sym (tell 1 of.branches.items (lasts_from 1 rows.branches.items) (λ m low. ap (λ (l : List CheckedBranch). head (owned_by m (lasts_from 1 l))) (sym of.branches.keeps)))) of.branches.has;
+    branches =
+        subst (IsPermutation (rows_in tables BRANCHES))
+        (sym (tell 1 of.branches.items (lasts_from 1 rows.branches.items)
+        (λ m low. ap (λ (l : List CheckedBranch). head (owned_by m (lasts_from 1 l))) (sym of.branches.keeps))))
+        of.branches.has;
     staff = of.staff.has;
     rows = of_rows (λ t its. IsPermutation (rows_in tables (place_of t)) (map (row_columns t) its)) (λ t. (of.by_table t).has);
     lots = of.lots.has;
-    consignments = IsPermutation-trans _ _ _ (subst (IsPermutation (rows_in tables CONSIGNMENTS)) (ap (map header_columns) header_list ∙ map-map header_columns header by_key) of.headers.has) (IsPermutation-map consignment_columns _ _ (same_by_place by_key));
-    lines = IsPermutation-trans _ _ _ (subst (IsPermutation (rows_in tables LINES)) (ap (map placed_columns) line_list ∙ as_placed by_key) of.lines.has) (IsPermutation-flat_map line_rows _ _ (same_by_place by_key));
+    consignments =
+        IsPermutation-trans _ _ _
+        (subst (IsPermutation (rows_in tables CONSIGNMENTS)) (ap (map header_columns) header_list ∙ map-map header_columns header by_key) of.headers.has)
+        (IsPermutation-map consignment_columns _ _ (same_by_place by_key));
+    lines =
+        IsPermutation-trans _ _ _ (subst (IsPermutation (rows_in tables LINES)) (ap (map placed_columns) line_list ∙ as_placed by_key) of.lines.has)
+        (IsPermutation-flat_map line_rows _ _ (same_by_place by_key));
     kept = kept.has;
     rule = subst (λ l. IsPermutation (rows_in tables RULE) (map rule_columns l)) rule.1 of.rules.has;
   }
@@ -192,14 +211,22 @@ module _ (tables : TableRows) (rows : OrderedBooks) (read : AreReadInOrder table
   unfolding canonical
   have_keys = record {
     casts = apart (λ (a b : Cast). a.film == b.film && a.actor == b.actor) (λ x. x.film ∷ x.actor ∷ []) (λ x y. cast_test x y) of.casts.its
-        (ap climbs (sym (map-map (λ (x : CheckedCast). x.film ∷ x.actor ∷ []) cast_row of.casts.its) ∙ ap (map (λ (x : CheckedCast). x.film ∷ x.actor ∷ [])) of.casts.keeps) ∙ ordered.casts);
+        (ap climbs
+        (sym (map-map (λ (x : CheckedCast). x.film ∷ x.actor ∷ []) cast_row of.casts.its)
+        ∙ ap (map (λ (x : CheckedCast). x.film ∷ x.actor ∷ [])) of.casts.keeps)
+        ∙ ordered.casts);
     rows = λ t. apart same_row row_key row_test (rows_of canonical t) (order.rows t);
     lots = apart (λ (a b : Owned Text). a.owner == b.owner && bytes_eq a.it b.it) (λ x. x.owner ∷ x.it) (λ x y. refl) of.lots.its
-        (ap climbs (sym (map-map (λ (x : CheckedLot). x.branch ∷ x.name) lot_row of.lots.its) ∙ ap (map (λ (x : CheckedLot). x.branch ∷ x.name)) of.lots.keeps) ∙ ordered.lots);
+        (ap climbs (sym (map-map (λ (x : CheckedLot). x.branch ∷ x.name) lot_row of.lots.its) ∙ ap (map (λ (x : CheckedLot). x.branch ∷ x.name)) of.lots.keeps)
+        ∙ ordered.lots);
     consignments = consignments_apart order.by_key (by_place by_key) (IsPermutation-sym _ _ order.joined) order.headers;
-    kept = apart (λ (a b : Owned Kept). a.owner == b.owner && bytes_eq a.it.command.key b.it.command.key) (λ x. x.owner ∷ x.it.command.key) (λ x y. refl) kept.kept
-        (ap climbs (sym (map-map (λ (x : CheckedKept). x.branch ∷ x.key) kept_row kept.kept) ∙ ap (map (λ (x : CheckedKept). x.branch ∷ x.key)) kept.kept_keys) ∙ ordered.kept);
-    office_kept = apart (λ (a b : OfficeKept). bytes_eq a.command.key b.command.key) office_key (λ x y. refl) kept.office (ap climbs kept.office_keys ∙ ordered.office_keys);
+    kept =
+        apart (λ (a b : Owned Kept). a.owner == b.owner && bytes_eq a.it.command.key b.it.command.key) (λ x. x.owner ∷ x.it.command.key) (λ x y. refl) kept.kept
+        (ap climbs (sym (map-map (λ (x : CheckedKept). x.branch ∷ x.key) kept_row kept.kept) ∙ ap (map (λ (x : CheckedKept). x.branch ∷ x.key)) kept.kept_keys)
+        ∙ ordered.kept);
+    office_kept =
+        apart (λ (a b : OfficeKept). bytes_eq a.command.key b.command.key) office_key
+        (λ x y. refl) kept.office (ap climbs kept.office_keys ∙ ordered.office_keys);
   }
     where
       cast_test : (x y : Cast) → (x.film == y.film && x.actor == y.actor) ≡ bytes_eq (x.film ∷ x.actor ∷ []) (y.film ∷ y.actor ∷ [])
@@ -220,7 +247,10 @@ module _ (tables : TableRows) (rows : OrderedBooks) (read : AreReadInOrder table
         categories = of.categories.fit;
         actors = of.actors.fit;
         films = of.films.fit;
-        branches = (subst (λ n. n < 2 ^ 32) (sym (length-map (λ (it : Branch × Option Moment). it.0) of.branches.items)) of.branches.fit.0, branches_fit of.branches.items of.branches.fit.1);
+        branches = (
+          subst (λ n. n < 2 ^ 32) (sym (length-map (λ (it : Branch × Option Moment). it.0) of.branches.items)) of.branches.fit.0,
+          branches_fit of.branches.items of.branches.fit.1,
+        );
         staff = of.staff.fit;
       };
       rows = of_rows AreRowValues (λ t. (of.by_table t).fit);

@@ -17,7 +17,8 @@ use Rattle.books_audit.specs.Tables.{rows_in}
 use Rattle.books_audit.specs.declared.tables.TableRows.{TableRows}
 use Rattle.books_audit.proofs.CountRows.{branch_count}
 
-pub rows_read : (tables : TableRows) (rows : OrderedBooks) → AreReadInOrder tables rows → (t : Table) → KeyedRead (IsKeptRow t) checked_key (rows_in tables (place_of t)) (checked_rows rows t)
+pub rows_read : (tables : TableRows) (rows : OrderedBooks) → AreReadInOrder tables rows → (t : Table)
+    → KeyedRead (IsKeptRow t) checked_key (rows_in tables (place_of t)) (checked_rows rows t)
 rows_read tables rows read = each (λ t. KeyedRead (IsKeptRow t) checked_key (rows_in tables (place_of t)) (checked_rows rows t)) read.by_table
 
 pub are_ordered : (tables : TableRows) (rows : OrderedBooks) → AreReadInOrder tables rows → AreOrdered rows

@@ -1,5 +1,6 @@
 -- Rows of kept commands: what their cells are, and that the bytes are of the form of a command.
-use Rattle.shop_schema.proofs.Common.{◌≡◌, ◌^◌, ℕ, zero, suc, List, [], ◌∷◌, refl, sym, subst, arith, Blob, number_value, command_form, office_command_form, Kind, FitEach}
+use Rattle.shop_schema.proofs.Common.{◌≡◌, ◌^◌, ℕ, zero, suc, List, [], ◌∷◌, refl, sym, subst, arith, Blob, number_value, command_form, office_command_form}
+use Rattle.shop_schema.proofs.Common.{Kind, FitEach}
 use Rattle.sqlite.specs.declared.types.Value.TheVariants.{Text}
 use Rattle.sqlite_value.specs.Order as sql
 use Rattle.shop_schema.specs.Kinds as kind
@@ -14,10 +15,12 @@ abbrev pub kept_kinds : List Kind
 kept_kinds = kind.Below (2 ^ 32) ∷ kind.Key ∷ kind.Bytes ∷ kind.Words ∷ []
 
 -- if the bytes in the cells are the form of a command of the caller, the cells are a kept command's
-pub kept_full : (v : Values kept_kinds) → FitEach kept_kinds v → HasForm v.0 v.1.1.0 → FullOf any_columns AnyFits caller_row (record { caller = v.0; key = v.1.0 }) (columns_of kept_kinds v)
+pub kept_full : (v : Values kept_kinds) → FitEach kept_kinds v → HasForm v.0 v.1.1.0
+    → FullOf any_columns AnyFits caller_row (record { caller = v.0; key = v.1.0 }) (columns_of kept_kinds v)
 kept_full v fits form = go v.0 v.1.0 v.1.1.0 v.1.1.1.0 fits form
   where
-    go : (n : ℕ) (t b u : List ℕ) → FitEach kept_kinds (n, (t, (b, (u, tt)))) → HasForm n b → FullOf any_columns AnyFits caller_row (record { caller = n; key = t }) (number_value n ∷ Text t ∷ Blob b ∷ Text u ∷ [])
+    go : (n : ℕ) (t b u : List ℕ) → FitEach kept_kinds (n, (t, (b, (u, tt)))) → HasForm n b
+        → FullOf any_columns AnyFits caller_row (record { caller = n; key = t }) (number_value n ∷ Text t ∷ Blob b ∷ Text u ∷ [])
     go zero t b u fits form =
         let act = form.office refl in record {
           it = OfOffice (record { command = record { key = t; act = act.0 }; reply = u });
@@ -28,7 +31,11 @@ kept_full v fits form = go v.0 v.1.0 v.1.1.0 v.1.1.1.0 fits form
     go (suc n) t b u fits form =
         let low = fits.0 in
         let found = form.branch (λ e. absurd (omega (arith, e))) in record {
-          it = OfBranch (record { owner = suc n; it = record { command = record { key = t; staff = found.0.staff; moment = found.0.moment; act = found.0.act }; reply = u } });
+          it =
+              OfBranch (record {
+                owner = suc n;
+                it = record { command = record { key = t; staff = found.0.staff; moment = found.0.moment; act = found.0.act }; reply = u };
+              });
           has = λ i. number_value (suc n) ∷ Text t ∷ Blob (sym found.4 i) ∷ Text u ∷ [];
           fits = (ranged (suc n) (omega arith, omega (arith, low)), record { key = fits.1.0; staff = found.1; moment = found.2; act = found.3 }, fits.1.1.1.0);
           keeps = refl;

@@ -1,5 +1,7 @@
 -- The table of kept commands stands for head office's commands and for the branches' commands.
-use Rattle.shop_schema.proofs.Common.{◌≡◌, ◌≢◌, ◌++◌, ℕ, List, [], ◌∷◌, map, refl, sym, ap, subst, ◌∙◌, arith, IsPermutation, AllByRecursion, IsPermutation-trans, IsPermutation-append_comm, Owned, Kept, OfficeKept, kept_columns, office_kept_columns, kept_rows, IsNumber, IsKept, IsOfficeKept}
+use Rattle.shop_schema.proofs.Common.{◌≡◌, ◌≢◌, ◌++◌, ℕ, List, [], ◌∷◌, map, refl, sym, ap, subst, ◌∙◌, arith, IsPermutation, AllByRecursion}
+use Rattle.shop_schema.proofs.Common.{IsPermutation-trans, IsPermutation-append_comm, Owned, Kept, OfficeKept, kept_columns, office_kept_columns, kept_rows}
+use Rattle.shop_schema.proofs.Common.{IsNumber, IsKept, IsOfficeKept}
 use Rattle.sqlite_value.specs.Order as sql
 use Rattle.audit_rows.specs.Lists.{Key}
 use Rattle.audit_rows.specs.Ordered.{kept_row}
@@ -25,7 +27,8 @@ pub record SplitKept (keys : List Key) (others : List CheckedKept) (its : List A
 no_branch : (n : ℕ) → IsNumber n → n ≢ 0
 no_branch n h e = let low = (in_range n h).0 in absurd (omega (arith, low, e))
 
-split_branches : (others : List CheckedKept) → AllByRecursion (λ (x : CheckedKept). IsNumber x.branch) others → (its : List AnyKept) → AllByRecursion AnyFits its → map caller_row its ≡ map branch_caller others → SplitKept [] others its
+split_branches : (others : List CheckedKept) → AllByRecursion (λ (x : CheckedKept). IsNumber x.branch) others
+    → (its : List AnyKept) → AllByRecursion AnyFits its → map caller_row its ≡ map branch_caller others → SplitKept [] others its
 split_branches [] n [] f e = record { office = []; kept = []; is = refl; office_fit = tt; kept_fit = tt; office_keys = refl; kept_keys = refl }
 split_branches [] n (it ∷ its) f e = cc
 split_branches (x ∷ others) n [] f e = cc
@@ -51,7 +54,8 @@ split_branches (x ∷ others) n (OfOffice it ∷ its) f e =
     let zero_is : 0 ≡ x.branch = ap (λ (c : CallerRow). c.caller) head in
     absurd (no_branch x.branch n.0 (sym zero_is))
 
-pub split : (keys : List Key) (others : List CheckedKept) → AllByRecursion (λ (x : CheckedKept). IsNumber x.branch) others → (its : List AnyKept) → AllByRecursion AnyFits its
+pub split : (keys : List Key) (others : List CheckedKept)
+    → AllByRecursion (λ (x : CheckedKept). IsNumber x.branch) others → (its : List AnyKept) → AllByRecursion AnyFits its
     → map caller_row its ≡ map office_caller keys ++ map branch_caller others → SplitKept keys others its
 split [] others n its f e = split_branches others n its f e
 split (key ∷ keys) others n [] f e = cc
@@ -72,7 +76,8 @@ split (key ∷ keys) others n (OfBranch it ∷ its) f e =
     let owner : it.owner ≡ 0 = ap (λ (c : CallerRow). c.caller) head in
     absurd (no_branch it.owner f.0.0 owner)
 
-map_split : (office : List OfficeKept) (kept : List (Owned Kept)) → map any_columns (map OfOffice office ++ map OfBranch kept) ≡ map office_kept_columns office ++ map kept_columns kept
+map_split : (office : List OfficeKept) (kept : List (Owned Kept))
+    → map any_columns (map OfOffice office ++ map OfBranch kept) ≡ map office_kept_columns office ++ map kept_columns kept
 map_split [] [] = refl
 map_split [] (row ∷ kept) = λ i. kept_columns row ∷ map_split [] kept i
 map_split (it ∷ office) kept = λ i. office_kept_columns it ∷ map_split office kept i
@@ -93,7 +98,9 @@ kept_of table keys others n r =
     let s = split keys others n f.its f.fit f.keeps in record {
       office = s.office;
       kept = s.kept;
-      has = IsPermutation-trans _ _ _ (subst (IsPermutation table) (ap (map any_columns) s.is ∙ map_split s.office s.kept) f.has) (IsPermutation-append_comm (map office_kept_columns s.office) (map kept_columns s.kept));
+      has =
+          IsPermutation-trans _ _ _ (subst (IsPermutation table) (ap (map any_columns) s.is ∙ map_split s.office s.kept) f.has)
+          (IsPermutation-append_comm (map office_kept_columns s.office) (map kept_columns s.kept));
       office_fit = s.office_fit;
       kept_fit = s.kept_fit;
       office_keys = s.office_keys;

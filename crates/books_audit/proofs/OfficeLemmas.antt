@@ -1,5 +1,8 @@
 -- The parts of each act of head office match its form, in both directions.
-use Rattle.shop_schema.proofs.Common.{◌≡◌, ◌↔◌, ◌≤◌, ℕ, List, [], ◌∷◌, ◌++◌, map, length, Option, None, Bool, true, false, refl, sym, ap, subst, arith, append-nil, Text, Person, ByCode, ByComment, OfficeAct, AddCountry, AddCity, AddLanguage, AddCategory, AddActor, AddFilm, PriceFilm, WithdrawFilm, AddCast, AddBranch, AddStaff, StaffLeaves, SetManager, ChooseRule, joined, number_form, text_form, numbers_form, option_form, flag_form, person_form, branch_form, office_form, IsOfficeAct}
+use Rattle.shop_schema.proofs.Common.{◌≡◌, ◌↔◌, ◌≤◌, ℕ, List, [], ◌∷◌, ◌++◌, map, length, Option, None, Bool, true, false, refl, sym, ap, subst, arith}
+use Rattle.shop_schema.proofs.Common.{append-nil, Text, Person, ByCode, ByComment, OfficeAct, AddCountry, AddCity, AddLanguage, AddCategory, AddActor, AddFilm}
+use Rattle.shop_schema.proofs.Common.{PriceFilm, WithdrawFilm, AddCast, AddBranch, AddStaff, StaffLeaves, SetManager, ChooseRule, joined, number_form}
+use Rattle.shop_schema.proofs.Common.{text_form, numbers_form, option_form, flag_form, person_form, branch_form, office_form, IsOfficeAct}
 use Rattle.books_audit.specs.declared.parts.Part.{Part}
 use Rattle.books_audit.specs.declared.office.TheConstants.{OFFICE_ACTS}
 use Rattle.books_audit.specs.Forms.{IsOneOf, IsOfficeForm}
@@ -35,8 +38,34 @@ from_parts =
     also (λ name k. (AddCategory name, k, named 4 name))
     also (λ first k last l. (AddActor (record { first = first; last = last }), (k, l), refl))
     also (λ title a description b language c category d period e rate f replacement g minutes h rating j features k withdrawn w. (
-      AddFilm (record { title = title; description = description; language = language; category = category; period = period; rate = rate; replacement = replacement; minutes = minutes; rating = rating; features = features; withdrawn = withdrawn }),
-      (record { title = a; description = b; language = ranged language c; category = ranged category d; period = e; rate = f.1; replacement = g.1; minutes = h; rating = j; features = k }, w),
+      AddFilm (record {
+        title = title;
+        description = description;
+        language = language;
+        category = category;
+        period = period;
+        rate = rate;
+        replacement = replacement;
+        minutes = minutes;
+        rating = rating;
+        features = features;
+        withdrawn = withdrawn;
+      }),
+      (
+        record {
+          title = a;
+          description = b;
+          language = ranged language c;
+          category = ranged category d;
+          period = e;
+          rate = f.1;
+          replacement = g.1;
+          minutes = h;
+          rating = j;
+          features = k;
+        },
+        w,
+      ),
       refl,
     ))
     also (λ film n rate m. (PriceFilm film rate, (ranged film n, m.1), refl))
@@ -48,8 +77,11 @@ from_parts =
       λ i. 10 ∷ joined (text_form token ∷ text_form address ∷ text_form postal ∷ text_form phone ∷ number_form city ∷ none_listed listed none.0 i ∷ []),
     ))
     also (λ branch m first a last b address c postal d phone e city n.
-    let person : Person = record { first = first; last = last; address = address; postal = postal; phone = phone; city = city } in
-    (AddStaff (record { branch = branch; person = person; gone = false }), (ranged branch m, record { first = a; last = b; address = c; postal = d; phone = e; city = ranged city n }), employed branch person))
+    let person : Person = record { first = first; last = last; address = address; postal = postal; phone = phone; city = city } in (
+      AddStaff (record { branch = branch; person = person; gone = false }),
+      (ranged branch m, record { first = a; last = b; address = c; postal = d; phone = e; city = ranged city n }),
+      employed branch person,
+    ))
     also (λ staff n. (StaffLeaves staff, ranged staff n, refl))
     also (λ branch n staff m. (SetManager branch staff, (ranged branch n, ranged staff m), refl))
     also (λ comment _. chosen comment)
@@ -62,7 +94,8 @@ to_parts (AddLanguage name) is = subst (IsOneOf office_acts) (named 3 name) (tol
 to_parts (AddCategory name) is = subst (IsOneOf office_acts) (named 4 name) (told office_acts 3 refl name is)
 to_parts (AddActor it) is = told office_acts 4 refl it.first is.0 it.last is.1
 to_parts (AddFilm f) (is, new) =
-    told office_acts 5 refl f.title is.title f.description is.description f.language (in_range f.language is.language) f.category (in_range f.category is.category)
+    told office_acts 5 refl f.title is.title f.description is.description f.language
+    (in_range f.language is.language) f.category (in_range f.category is.category)
     f.period is.period f.rate (omega arith, is.rate) f.replacement (omega arith, is.replacement) f.minutes is.minutes f.rating is.rating f.features is.features
     f.withdrawn new
 to_parts (PriceFilm film rate) is = told office_acts 6 refl film (in_range film is.0) rate (omega arith, is.1)
@@ -74,7 +107,8 @@ to_parts (AddBranch b) (is, none) =
 to_parts (AddStaff it) (at, is) =
     let p = it.person in
     subst (IsOneOf office_acts) (employed it.branch p)
-    (told office_acts 10 refl it.branch (in_range it.branch at) p.first is.first p.last is.last p.address is.address p.postal is.postal p.phone is.phone p.city (in_range p.city is.city))
+    (told office_acts 10 refl it.branch (in_range it.branch at) p.first is.first p.last is.last
+    p.address is.address p.postal is.postal p.phone is.phone p.city (in_range p.city is.city))
 to_parts (StaffLeaves staff) is = told office_acts 11 refl staff (in_range staff is)
 to_parts (SetManager branch staff) is = told office_acts 12 refl branch (in_range branch is.0) staff (in_range staff is.1)
 to_parts (ChooseRule ByCode) is = told office_acts 13 refl false tt

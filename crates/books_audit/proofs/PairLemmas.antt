@@ -1,5 +1,7 @@
 -- Consignments counted by pairs of branches: the order of consignments only moves the rows of counts.
-use Rattle.shop_schema.proofs.Common.{◌≡◌, ◌+◌, ◌==◌, ◌&&◌, ℕ, List, [], ◌∷◌, Bool, true, false, cond, refl, sym, subst, subst₂, ap, ◌∙◌, true≢false, IsPermutation, AllByRecursion, fold, and_parts, nat_eq_equiv, IsPermutation-refl, IsPermutation-trans, IsPermutation-cons, IsPermutation-middle, along_permutation, Consignment, same_if, Pair, is_pair, count_pair, pairs_of}
+use Rattle.shop_schema.proofs.Common.{◌≡◌, ◌+◌, ◌==◌, ◌&&◌, ℕ, List, [], ◌∷◌, Bool, true, false, cond, refl, sym, subst, subst₂, ap, ◌∙◌, true≢false}
+use Rattle.shop_schema.proofs.Common.{IsPermutation, AllByRecursion, fold, and_parts, nat_eq_equiv, IsPermutation-refl, IsPermutation-trans, IsPermutation-cons}
+use Rattle.shop_schema.proofs.Common.{IsPermutation-middle, along_permutation, Consignment, same_if, Pair, is_pair, count_pair, pairs_of}
 use Rattle.audit_rows.proofs.Standing.{all_moved}
 
 -- no row is of the pair
@@ -82,17 +84,24 @@ module _ (s a : ℕ) where
       go : (t u : Bool) → is_pair s a x ≡ t → is_pair s a y ≡ u → IsPermutation (count_pair s a (x ∷ y ∷ us)) (count_pair s a (y ∷ x ∷ us))
       go true true e f = absurd (true≢false (sym (both_of x y e f) ∙ h.0.0))
       go true false e f =
-          subst₂ IsPermutation (sym (counted_here x (y ∷ us) e)) (sym (counted_later y (x ∷ us) f ∙ ap (λ l. y ∷ l) (counted_here x us e))) (two_swapped (one_more x) y us)
+          subst₂ IsPermutation (sym (counted_here x (y ∷ us) e))
+          (sym (counted_later y (x ∷ us) f ∙ ap (λ l. y ∷ l) (counted_here x us e))) (two_swapped (one_more x) y us)
       go false true e f =
-          subst₂ IsPermutation (sym (counted_later x (y ∷ us) e ∙ ap (λ l. x ∷ l) (counted_here y us f))) (sym (counted_here y (x ∷ us) f)) (two_swapped x (one_more y) us)
+          subst₂ IsPermutation (sym (counted_later x (y ∷ us) e ∙ ap (λ l. x ∷ l) (counted_here y us f)))
+          (sym (counted_here y (x ∷ us) f)) (two_swapped x (one_more y) us)
       go false false e f =
-          subst₂ IsPermutation (sym (counted_later x (y ∷ us) e ∙ ap (λ l. x ∷ l) (counted_later y us f))) (sym (counted_later y (x ∷ us) f ∙ ap (λ l. y ∷ l) (counted_later x us e)))
+          subst₂ IsPermutation (sym (counted_later x (y ∷ us) e ∙ ap (λ l. x ∷ l) (counted_later y us f)))
+          (sym (counted_later y (x ∷ us) f ∙ ap (λ l. y ∷ l) (counted_later x us e)))
           (two_swapped x y (count_pair s a us))
 
   count_moved : (ps qs : List Pair) → IsPermutation ps qs → Apart ps → Moved ps qs
   count_moved =
-      along_permutation (λ ps qs. Apart ps → Moved ps qs) (λ ps h. record { same = IsPermutation-refl ps; counted = IsPermutation-refl (count_pair s a ps); apart = h }) cons_moved swap_moved
-      (λ us vs ws f g h. let m = f h in let n = g m.apart in record { same = IsPermutation-trans us vs ws m.same n.same; counted = IsPermutation-trans _ _ _ m.counted n.counted; apart = n.apart })
+      along_permutation (λ ps qs. Apart ps → Moved ps qs)
+      (λ ps h. record { same = IsPermutation-refl ps; counted = IsPermutation-refl (count_pair s a ps); apart = h }) cons_moved swap_moved
+      (λ us vs ws f g h.
+      let m = f h in
+      let n = g m.apart in
+      record { same = IsPermutation-trans us vs ws m.same n.same; counted = IsPermutation-trans _ _ _ m.counted n.counted; apart = n.apart })
 
 -- two consignments in another order
 module _ (s a t b : ℕ) where
@@ -107,7 +116,8 @@ module _ (s a t b : ℕ) where
           (subst (λ n. IsPermutation (count_pair s n (first_of s a ∷ [])) (count_pair s a (first_of s n ∷ []))) (same_if a b parts.1) (IsPermutation-refl _)))
       go false e =
           let f : is_pair s a (first_of t b) ≡ false = other_side t b (first_of s a) ∙ e in
-          subst₂ IsPermutation (sym (counted_later t b (first_of s a) [] e)) (sym (counted_later s a (first_of t b) [] f)) (two_swapped (first_of s a) (first_of t b) [])
+          subst₂ IsPermutation (sym (counted_later t b (first_of s a) [] e))
+          (sym (counted_later s a (first_of t b) [] f)) (two_swapped (first_of s a) (first_of t b) [])
 
   two_counted : (ps : List Pair) → IsPermutation (count_pair t b (count_pair s a ps)) (count_pair s a (count_pair t b ps))
   two_counted [] = first_two
@@ -116,13 +126,17 @@ module _ (s a t b : ℕ) where
       go : (x y : Bool) → is_pair s a p ≡ x → is_pair t b p ≡ y → IsPermutation (count_pair t b (count_pair s a ps)) (count_pair s a (count_pair t b ps))
           → IsPermutation (count_pair t b (count_pair s a (p ∷ ps))) (count_pair s a (count_pair t b (p ∷ ps)))
       go true true e f more =
-          subst₂ IsPermutation (sym (ap (count_pair t b) (counted_here s a p ps e) ∙ counted_here t b (one_more p) ps f)) (sym (ap (count_pair s a) (counted_here t b p ps f) ∙ counted_here s a (one_more p) ps e)) (IsPermutation-refl _)
+          subst₂ IsPermutation (sym (ap (count_pair t b) (counted_here s a p ps e) ∙ counted_here t b (one_more p) ps f))
+          (sym (ap (count_pair s a) (counted_here t b p ps f) ∙ counted_here s a (one_more p) ps e)) (IsPermutation-refl _)
       go true false e f more =
-          subst₂ IsPermutation (sym (ap (count_pair t b) (counted_here s a p ps e) ∙ counted_later t b (one_more p) ps f)) (sym (ap (count_pair s a) (counted_later t b p ps f) ∙ counted_here s a p (count_pair t b ps) e)) (IsPermutation-refl _)
+          subst₂ IsPermutation (sym (ap (count_pair t b) (counted_here s a p ps e) ∙ counted_later t b (one_more p) ps f))
+          (sym (ap (count_pair s a) (counted_later t b p ps f) ∙ counted_here s a p (count_pair t b ps) e)) (IsPermutation-refl _)
       go false true e f more =
-          subst₂ IsPermutation (sym (ap (count_pair t b) (counted_later s a p ps e) ∙ counted_here t b p (count_pair s a ps) f)) (sym (ap (count_pair s a) (counted_here t b p ps f) ∙ counted_later s a (one_more p) ps e)) (IsPermutation-refl _)
+          subst₂ IsPermutation (sym (ap (count_pair t b) (counted_later s a p ps e) ∙ counted_here t b p (count_pair s a ps) f))
+          (sym (ap (count_pair s a) (counted_here t b p ps f) ∙ counted_later s a (one_more p) ps e)) (IsPermutation-refl _)
       go false false e f more =
-          subst₂ IsPermutation (sym (ap (count_pair t b) (counted_later s a p ps e) ∙ counted_later t b p (count_pair s a ps) f)) (sym (ap (count_pair s a) (counted_later t b p ps f) ∙ counted_later s a p (count_pair t b ps) e))
+          subst₂ IsPermutation (sym (ap (count_pair t b) (counted_later s a p ps e) ∙ counted_later t b p (count_pair s a ps) f))
+          (sym (ap (count_pair s a) (counted_later t b p ps f) ∙ counted_later s a p (count_pair t b ps) e))
           (IsPermutation-cons p _ _ more)
 
 abbrev counted : List Pair → List Consignment → List Pair
@@ -130,13 +144,17 @@ counted = fold (λ pairs it. count_pair it.source it.addressee pairs)
 
 counted_moved : (its : List Consignment) (ps qs : List Pair) → IsPermutation ps qs → Apart ps → IsPermutation (counted ps its) (counted qs its)
 counted_moved [] ps qs p h = p
-counted_moved (it ∷ its) ps qs p h = let m = count_moved it.source it.addressee ps qs p h in counted_moved its _ _ m.counted (apart_counted it.source it.addressee ps h)
+counted_moved (it ∷ its) ps qs p h =
+    let m = count_moved it.source it.addressee ps qs p h in counted_moved its _ _ m.counted (apart_counted it.source it.addressee ps h)
 
 counted_along : (its others : List Consignment) → IsPermutation its others → (ps : List Pair) → Apart ps → IsPermutation (counted ps its) (counted ps others)
 counted_along =
-    along_permutation (λ its others. (ps : List Pair) → Apart ps → IsPermutation (counted ps its) (counted ps others)) (λ its ps h. IsPermutation-refl (counted ps its))
+    along_permutation (λ its others. (ps : List Pair) → Apart ps → IsPermutation (counted ps its) (counted ps others))
+    (λ its ps h. IsPermutation-refl (counted ps its))
     (λ it us vs f ps h. f (count_pair it.source it.addressee ps) (apart_counted it.source it.addressee ps h))
-    (λ x y us ps h. counted_moved us _ _ (two_counted x.source x.addressee y.source y.addressee ps) (apart_counted y.source y.addressee _ (apart_counted x.source x.addressee ps h)))
+    (λ x y us ps h.
+    counted_moved us _ _ (two_counted x.source x.addressee y.source y.addressee ps)
+    (apart_counted y.source y.addressee _ (apart_counted x.source x.addressee ps h)))
     (λ us vs ws f g ps h. IsPermutation-trans _ _ _ (f ps h) (g ps h))
 
 pub pairs_along : (its others : List Consignment) → IsPermutation its others → IsPermutation (pairs_of its) (pairs_of others)

@@ -1,5 +1,7 @@
 -- Consignments in the order of their keys, counted one after another: consignments of the same pair of branches are neighbours.
-use Rattle.shop_schema.proofs.Common.{◌≡◌, ◌∙◌, ◌+◌, ◌<◌, ◌==◌, ◌&&◌, ℕ, List, [], ◌∷◌, ◌++◌, map, length, drop, get_or, drop-cons, add-one, suc, true, false, refl, sym, ap, subst, arith, AllByRecursion, all-append, and_parts, same_if, same_test, nat_tests, append-nil, map_push, Pair, is_pair, count_pair}
+use Rattle.shop_schema.proofs.Common.{◌≡◌, ◌∙◌, ◌+◌, ◌<◌, ◌==◌, ◌&&◌, ℕ, List, [], ◌∷◌, ◌++◌, map, length, drop, get_or, drop-cons, add-one, suc, true, false}
+use Rattle.shop_schema.proofs.Common.{refl, sym, ap, subst, arith, AllByRecursion, all-append, and_parts, same_if, same_test, nat_tests, append-nil, map_push}
+use Rattle.shop_schema.proofs.Common.{Pair, is_pair, count_pair}
 use Rattle.audit_rows.specs.Lists.{Key, is_below, climbs_above}
 use Rattle.audit_rows.specs.declared.rows.CheckedHeader.{CheckedHeader}
 use Rattle.audit_rows.proofs.Keys.{both, below_trans, below_apart}
@@ -21,7 +23,8 @@ past s a [] rest h = refl
 past s a (p ∷ ps) rest h = counted_later s a p (ps ++ rest) (apart s a p h.0) ∙ ap (λ l. p ∷ l) (past s a ps rest h.1)
 
 -- one more of the last pair
-pub last_again : (s a n : ℕ) (ps : List Pair) → Below s a ps → count_pair s a (ps ++ record { source = s; addressee = a; last = n } ∷ []) ≡ ps ++ record { source = s; addressee = a; last = n + 1 } ∷ []
+pub last_again : (s a n : ℕ) (ps : List Pair) → Below s a ps
+    → count_pair s a (ps ++ record { source = s; addressee = a; last = n } ∷ []) ≡ ps ++ record { source = s; addressee = a; last = n + 1 } ∷ []
 last_again s a n ps h =
     past s a ps (record { source = s; addressee = a; last = n } ∷ []) h
     ∙ ap (λ l. ps ++ l) (counted_here s a (record { source = s; addressee = a; last = n }) [] (λ i. same_test s i && same_test a i))
@@ -39,7 +42,8 @@ module _ (s a t b : ℕ) (ps : List Pair) (low : Below s a ps) (up : is_below (s
   all_below = all-append _ ps _ (lower s a t b ps up low) (up, tt)
 
   -- the first of the next pair
-  pub next_pair : count_pair t b (ps ++ record { source = s; addressee = a; last = n } ∷ []) ≡ (ps ++ record { source = s; addressee = a; last = n } ∷ []) ++ record { source = t; addressee = b; last = 1 } ∷ []
+  pub next_pair : count_pair t b (ps ++ record { source = s; addressee = a; last = n } ∷ [])
+      ≡ (ps ++ record { source = s; addressee = a; last = n } ∷ []) ++ record { source = t; addressee = b; last = 1 } ∷ []
   next_pair =
       let all = ps ++ record { source = s; addressee = a; last = n } ∷ [] in
       ap (count_pair t b) (sym (append-nil all)) ∙ past t b all [] all_below
@@ -76,7 +80,8 @@ module _ (last row : CheckedHeader) (before rest : List CheckedHeader) (n : ℕ)
         let s = same_if row.source last.source parts.0 in
         let a = same_if row.addressee last.addressee parts.1 in
         let once : count_pair row.source row.addressee (ps ++ so_many last n ∷ []) ≡ ps ++ so_many row (n + 1) ∷ [] =
-        ap (λ x. count_pair x row.addressee (ps ++ so_many last n ∷ [])) s ∙ ap (λ x. count_pair last.source x (ps ++ so_many last n ∷ [])) a ∙ last_again last.source last.addressee n ps f.below
+        ap (λ x. count_pair x row.addressee (ps ++ so_many last n ∷ [])) s
+        ∙ ap (λ x. count_pair last.source x (ps ++ so_many last n ∷ [])) a ∙ last_again last.source last.addressee n ps f.below
         ∙ (λ i. ps ++ record { source = sym s i; addressee = sym a i; last = n + 1 } ∷ []) in
         record {
           same = ap (λ l. pairs_among l rest) (sym once) ∙ counted (ps ++ so_many last n ∷ []) f.same;
@@ -85,15 +90,19 @@ module _ (last row : CheckedHeader) (before rest : List CheckedHeader) (n : ℕ)
         }
 
     -- of another
-    pub of_other : (olds news : List Triple) (x : Triple) → map seen_pair olds ≡ ps → news ≡ olds ++ x ∷ [] → seen_pair x ≡ so_many last n → (row.source == last.source && row.addressee == last.addressee) ≡ false
+    pub of_other : (olds news : List Triple) (x : Triple) → map seen_pair olds ≡ ps → news ≡ olds ++ x ∷ []
+        → seen_pair x ≡ so_many last n → (row.source == last.source && row.addressee == last.addressee) ≡ false
         → Follows (map seen_pair news) row 1 rest all
     of_other olds news x e g k other =
         let up = both (is_below (key last) (key row)) (climbs_above (key row) (map key rest)) (rising f.rises) in
         let above = other_above last.source last.addressee last.number row.source row.addressee row.number up.0 other in
-        let is : ps ++ so_many last n ∷ [] ≡ map seen_pair news = (λ i. sym e i ++ sym k i ∷ []) ∙ sym (map_push seen_pair olds x) ∙ ap (map seen_pair) (sym g) in
+        let is : ps ++ so_many last n ∷ [] ≡ map seen_pair news =
+        (λ i. sym e i ++ sym k i ∷ []) ∙ sym (map_push seen_pair olds x) ∙ ap (map seen_pair) (sym g) in
         let once = next_pair last.source last.addressee row.source row.addressee ps f.below above n in
         record {
-          same = ap (λ l. pairs_among (l ++ so_many row 1 ∷ []) rest) (sym is) ∙ ap (λ l. pairs_among l rest) (sym once) ∙ counted (ps ++ so_many last n ∷ []) f.same;
+          same =
+              ap (λ l. pairs_among (l ++ so_many row 1 ∷ []) rest) (sym is)
+              ∙ ap (λ l. pairs_among l rest) (sym once) ∙ counted (ps ++ so_many last n ∷ []) f.same;
           below = subst (Below row.source row.addressee) is (all_below last.source last.addressee row.source row.addressee ps f.below above n);
           rises = up.1;
         }

@@ -1,5 +1,6 @@
 -- How to prove something of all forms of a list of parts: one part after another, and by the first byte, which says which list it is.
-use Rattle.shop_schema.proofs.Common.{◌≡◌, ◌↔◌, ◌+◌, ℕ, zero, suc, List, [], ◌∷◌, ◌++◌, length, map, Bor, Option, Some, None, option_map, refl, sym, ap, subst, ◌∙◌, arith}
+use Rattle.shop_schema.proofs.Common.{◌≡◌, ◌↔◌, ◌+◌, ℕ, zero, suc, List, [], ◌∷◌, ◌++◌, length, map, Bor, Option, Some, None, option_map, refl, sym, ap, subst}
+use Rattle.shop_schema.proofs.Common.{◌∙◌, arith}
 use Rattle.std.proofs.lemmas.Option.{slice_get-map}
 use Rattle.std.specs.Prelude.{slice_get, unwrap_or}
 use Rattle.books_audit.specs.declared.parts.Part.{Part}
@@ -21,7 +22,9 @@ of_form (part ∷ parts) P all bytes (piece, rest, is, form, e) =
 
 by_form : (parts : List Part) (P : List ℕ → Type 0) → ((bytes : List ℕ) → IsForm parts bytes → P bytes) → OfParts parts P
 by_form [] P all = all [] refl
-by_form (part ∷ parts) P all = λ held may. by_form parts (λ rest. P (held_form part held ++ rest)) (λ rest form. all (held_form part held ++ rest) (held_form part held, rest, as_part part (held_form part held) (held, may, refl), form, refl))
+by_form (part ∷ parts) P all = λ held may.
+    by_form parts (λ rest. P (held_form part held ++ rest))
+    (λ rest form. all (held_form part held ++ rest) (held_form part held, rest, as_part part (held_form part held) (held, may, refl), form, refl))
 
 -- ---- one of several lists of parts, given by the first byte
 
@@ -29,15 +32,18 @@ abbrev parts_at : List (List Part) → ℕ → List Part
 parts_at forms place = unwrap_or (slice_get forms place) []
 
 -- the forms of the values that the parts at the place may have are such forms
-pub told : (forms : List (List Part)) (place : ℕ) → slice_get forms place ≡ Some (parts_at forms place) → OfParts (parts_at forms place) (λ rest. IsOneOf forms ((place + 1) ∷ rest))
-told forms place there = by_form (parts_at forms place) (λ rest. IsOneOf forms ((place + 1) ∷ rest)) (λ rest form. (place, parts_at forms place, rest, there, form, refl))
+pub told : (forms : List (List Part)) (place : ℕ) → slice_get forms place ≡ Some (parts_at forms place)
+    → OfParts (parts_at forms place) (λ rest. IsOneOf forms ((place + 1) ∷ rest))
+told forms place there =
+    by_form (parts_at forms place) (λ rest. IsOneOf forms ((place + 1) ∷ rest)) (λ rest form. (place, parts_at forms place, rest, there, form, refl))
 
 -- P holds of the forms of all lists of parts, which are numbered from n
 abbrev pub OfAll : (List ℕ → Type 0) → ℕ → List (List Part) → Type 0
 OfAll P n [] = Unit {0}
 OfAll P n (parts ∷ forms) = OfParts parts (λ rest. P (n ∷ rest)) × OfAll P (n + 1) forms
 
-of_place : (P : List ℕ → Type 0) (n : ℕ) (forms : List (List Part)) → OfAll P n forms → (place : ℕ) (parts : List Part) → slice_get forms place ≡ Some parts → (rest : List ℕ) → IsForm parts rest → P ((n + place) ∷ rest)
+of_place : (P : List ℕ → Type 0) (n : ℕ) (forms : List (List Part)) → OfAll P n forms → (place : ℕ) (parts : List Part)
+    → slice_get forms place ≡ Some parts → (rest : List ℕ) → IsForm parts rest → P ((n + place) ∷ rest)
 of_place P n [] all place parts there rest form = cc
 of_place P n (first ∷ forms) all zero parts there rest form =
     let is : parts ≡ first = cc in
@@ -66,13 +72,15 @@ module _ (forms : List (Bor (List Part))) where
   there : (place : ℕ) (found : Option (Bor (List Part))) → slice_get forms place ≡ found → slice_get lists place ≡ option_map (λ parts. parts.now) found
   there place found e = slice_get-map (λ parts. parts.now) forms place ∙ ap (option_map (λ parts. parts.now)) e
 
-  looked : (n place : ℕ) (found : Option (Bor (List Part))) → n ≡ place + 1 → slice_get forms place ≡ found → (q : ℕ) (parts : List Part) → slice_get lists q ≡ Some parts → n ≡ q + 1
+  looked : (n place : ℕ) (found : Option (Bor (List Part))) → n ≡ place + 1 → slice_get forms place ≡ found
+      → (q : ℕ) (parts : List Part) → slice_get lists q ≡ Some parts → n ≡ q + 1
       → Some parts ≡ option_map (λ parts. parts.now) found
   looked n place found t e q parts g h =
       let same : q ≡ place = omega (arith, h, t) in
       sym g ∙ ap (slice_get lists) same ∙ there place found e
 
-  pub found_one : (bytes rest : List ℕ) (n place : ℕ) (parts : Bor (List Part)) → n ≡ place + 1 → slice_get forms place ≡ Some parts → bytes ≡ n ∷ rest → IsForm parts.now rest ↔ IsOneOf lists bytes
+  pub found_one : (bytes rest : List ℕ) (n place : ℕ) (parts : Bor (List Part)) → n ≡ place + 1
+      → slice_get forms place ≡ Some parts → bytes ≡ n ∷ rest → IsForm parts.now rest ↔ IsOneOf lists bytes
   found_one bytes rest n place parts t found e = (λ f. (place, parts.now, rest, there place (Some parts) found, f, e ∙ (λ i. t i ∷ rest)), from)
     where
       from : IsOneOf lists bytes → IsForm parts.now rest

@@ -1,5 +1,6 @@
 -- The tables at their places: each table's text selects all its columns, and each table's rows can be found by name and one after another.
-use Rattle.shop_schema.proofs.Common.{ℕ, ◌+◌, zero, suc, List, [], ◌∷◌, map, drop, refl, IsPermutation, Books, Customers, CopyRows, Rentals, TermRows, Payments, rows_of, counts_of, AreTermed, shop_schema, chain_table, copy_table, consignment_line_table}
+use Rattle.shop_schema.proofs.Common.{ℕ, ◌+◌, zero, suc, List, [], ◌∷◌, map, drop, refl, IsPermutation, Books, Customers, CopyRows, Rentals, TermRows, Payments}
+use Rattle.shop_schema.proofs.Common.{rows_of, counts_of, AreTermed, shop_schema, chain_table, copy_table, consignment_line_table}
 use Rattle.sqlite_value.specs.Order as sql
 use Rattle.sqlite_tied.specs.Compute.{everything}
 use Rattle.sqlite.specs.Listing.{understood}
@@ -7,7 +8,9 @@ use Rattle.shop_schema.proofs.Lists.{◌also◌}
 use Rattle.shop_schema.proofs.Stands as stands
 use Rattle.audit_rows.specs.Tables.{each}
 use Rattle.books_audit.specs.BranchTables.{place_of, row_columns}
-use Rattle.books_audit.specs.declared.tables.TheConstants.{CHAIN, COUNTRIES, LANGUAGES, CATEGORIES, CITIES, ACTORS, FILMS, CASTS, BRANCHES, STAFF, CUSTOMERS, COPIES, RENTALS, PAYMENTS, LOTS, CONSIGNMENTS, LINES, KEPT, COUNTERS, OUTS, PAIRS, TERMS, RULE, CHAIN_TEXT, COPIES_TEXT, LINES_TEXT, OTHER_TEXTS}
+use Rattle.books_audit.specs.declared.tables.TheConstants.{CHAIN, COUNTRIES, LANGUAGES, CATEGORIES, CITIES, ACTORS, FILMS, CASTS, BRANCHES, STAFF, CUSTOMERS}
+use Rattle.books_audit.specs.declared.tables.TheConstants.{COPIES, RENTALS, PAYMENTS, LOTS, CONSIGNMENTS, LINES, KEPT, COUNTERS, OUTS, PAIRS, TERMS, RULE}
+use Rattle.books_audit.specs.declared.tables.TheConstants.{CHAIN_TEXT, COPIES_TEXT, LINES_TEXT, OTHER_TEXTS}
 use Rattle.books_audit.specs.declared.tables.TableRows.{TableRows}
 use Rattle.books_audit.specs.Audits.{HaveRowsOf, HaveCountsOf}
 use Rattle.books_audit.specs.Tables.{rows_in, HaveEach, SelectsWhole, SelectEach}
@@ -113,7 +116,9 @@ module _ (tables : TableRows) (books : Books) where
       casts = at CASTS;
       branches = at BRANCHES;
       staff = at STAFF;
-      rows = each (λ t. IsPermutation (rows_in tables (place_of t)) (map (row_columns t) (rows_of books t))) (at CUSTOMERS also at COPIES also at RENTALS also at TERMS also at PAYMENTS also tt);
+      rows =
+          each (λ t. IsPermutation (rows_in tables (place_of t)) (map (row_columns t) (rows_of books t)))
+          (at CUSTOMERS also at COPIES also at RENTALS also at TERMS also at PAYMENTS also tt);
       lots = at LOTS;
       consignments = at CONSIGNMENTS;
       lines = at LINES;

@@ -1,5 +1,6 @@
 -- What is kept of rows, one after another.
-use Rattle.shop_schema.proofs.Common.{◌≡◌, ◌<◌, ◌≤◌, ℕ, zero, suc, List, [], ◌∷◌, ◌++◌, length, get_or, drop, drop-cons, arith, refl, subst, sym, AllByRecursion}
+use Rattle.shop_schema.proofs.Common.{◌≡◌, ◌<◌, ◌≤◌, ℕ, zero, suc, List, [], ◌∷◌, ◌++◌, length, get_or, drop, drop-cons, arith, refl, subst, sym}
+use Rattle.shop_schema.proofs.Common.{AllByRecursion}
 use Rattle.std.proofs.lemmas.List.{append-nil}
 use Rattle.sqlite_value.specs.Order.{Row}
 use Rattle.books_audit.specs.Listed.{AreRows}
@@ -13,7 +14,8 @@ module _ {X : Type 0} (Is : X → Row → Type 0) where
   abbrev pub Continues : List X → List Row → List Row → Type 0
   Continues kept rest rows = (xs : List X) → AreRows Is xs rest → AreRows Is (kept ++ xs) rows
 
-  pub one_more : (kept : List X) (rows : List Row) (i : ℕ) (d : Row) (x : X) → i < length rows → Is x (get_or rows i d) → Continues kept (drop i rows) rows → Continues (kept ++ x ∷ []) (drop (suc i) rows) rows
+  pub one_more : (kept : List X) (rows : List Row) (i : ℕ) (d : Row) (x : X) → i < length rows → Is x (get_or rows i d)
+      → Continues kept (drop i rows) rows → Continues (kept ++ x ∷ []) (drop (suc i) rows) rows
   one_more kept rows i d x low is so xs h =
       subst (λ l. AreRows Is l rows) (sym (again kept x xs)) (so (x ∷ xs) (rw (drop-cons rows i d) (is, h)))
 

@@ -1,5 +1,6 @@
 -- Of two books for which the same tables stand, the one in the order of its keys is the other in that order.
-use Rattle.shop_schema.proofs.Common.{◌≡◌, ℕ, map, true, Option, refl, sym, ap, subst₂, ◌∙◌, list_all, IsPermutation, IsPermutation-map, all_map, all_of, Moment, Owned, owned_by, numbered, Branch, has_row, Books, head, IsName, IsCity, IsActor, IsFilm, IsStaff}
+use Rattle.shop_schema.proofs.Common.{◌≡◌, ℕ, map, true, Option, refl, sym, ap, subst₂, ◌∙◌, list_all, IsPermutation, IsPermutation-map, all_map, all_of}
+use Rattle.shop_schema.proofs.Common.{Moment, Owned, owned_by, numbered, Branch, has_row, Books, head, IsName, IsCity, IsActor, IsFilm, IsStaff}
 use Rattle.sqlite_trees.proofs.ListLemmas.{all_from_map}
 use Rattle.shop_schema.proofs.Numbers.{of_row}
 use Rattle.shop_schema.proofs.ShopTables as table
@@ -18,13 +19,16 @@ module _ (tables : TableRows) (c b : Books) (s : HaveBooks tables c) (t : HaveBo
   -- branches with their last moments
   same_told : IsPermutation (map (told c.lasts) (numbered c.catalogue.branches)) (map (told b.lasts) (numbered b.catalogue.branches))
   same_told =
-      one_bag audited.branches (told_fit c.lasts c.catalogue.branches s.values.lasts s.values.catalogue.branches) (told_fit b.lasts b.catalogue.branches t.values.lasts t.values.catalogue.branches)
+      one_bag audited.branches (told_fit c.lasts c.catalogue.branches s.values.lasts s.values.catalogue.branches)
+      (told_fit b.lasts b.catalogue.branches t.values.lasts t.values.catalogue.branches)
       (told_rows c.lasts c.catalogue.branches s.rows.branches) (told_rows b.lasts b.catalogue.branches t.rows.branches)
 
   same_branches : b.catalogue.branches ≡ c.catalogue.branches
   same_branches =
       let branch : ℕ × (Branch × Option Moment) → ℕ × Branch = λ it. (it.0, it.1.0) in
-      one_numbered b.catalogue.branches c.catalogue.branches (subst₂ IsPermutation (map-undone branch (told c.lasts) (λ it. refl) (numbered c.catalogue.branches)) (map-undone branch (told b.lasts) (λ it. refl) (numbered b.catalogue.branches))
+      one_numbered b.catalogue.branches c.catalogue.branches
+      (subst₂ IsPermutation (map-undone branch (told c.lasts) (λ it. refl) (numbered c.catalogue.branches))
+      (map-undone branch (told b.lasts) (λ it. refl) (numbered b.catalogue.branches))
       (IsPermutation-map branch _ _ same_told))
 
   same_lasts : (n : ℕ) → has_row b.catalogue.branches n ≡ true → head (owned_by n c.lasts) ≡ head (owned_by n b.lasts)

@@ -1,5 +1,8 @@
 -- Two books for which the same tables stand have the same kept commands of branches, and the same keys of head office's.
-use Rattle.shop_schema.proofs.Common.{◌≡◌, ◌==◌, ℕ, List, [], ◌∷◌, map, not, Bool, true, false, refl, ap, subst, arith, IsTrue, IsPermutation, pos, AllByRecursion, all_weaker, nat_tests, IsPermutation-map, IsPermutation-trans, IsPermutation-sym, Value, Int, column, map-map, Owned, Kept, OfficeKept, same_command, Books, kept_columns, office_kept_columns, kept_rows, command_form, IsKept, IsNumber}
+use Rattle.shop_schema.proofs.Common.{◌≡◌, ◌==◌, ℕ, List, [], ◌∷◌, map, not, Bool, true, false, refl, ap, subst, arith, IsTrue, IsPermutation, pos}
+use Rattle.shop_schema.proofs.Common.{AllByRecursion, all_weaker, nat_tests, IsPermutation-map, IsPermutation-trans, IsPermutation-sym, Value, Int, column}
+use Rattle.shop_schema.proofs.Common.{map-map, Owned, Kept, OfficeKept, same_command, Books, kept_columns, office_kept_columns, kept_rows, command_form, IsKept}
+use Rattle.shop_schema.proofs.Common.{IsNumber}
 use Rattle.sqlite.specs.declared.types.Value.TheVariants.{Text}
 use Rattle.sqlite_value.specs.Order as sql
 use Rattle.shop_schema.proofs.OneToOne.{command_equal, forms_are_one_to_one}
@@ -48,7 +51,8 @@ unfolding key_of
 office_keys_are kept = map-map (λ r. key_of (column r 1)) office_kept_columns kept
 
 -- one table of kept commands for the lists of two books
-module _ (ks ls : List (Owned Kept)) (os ps : List OfficeKept) (k : AllByRecursion IsKept ks) (l : AllByRecursion IsKept ls) (both : IsPermutation (kept_rows ks os) (kept_rows ls ps)) where
+module _ (ks ls : List (Owned Kept)) (os ps : List OfficeKept) (k : AllByRecursion IsKept ks)
+    (l : AllByRecursion IsKept ls) (both : IsPermutation (kept_rows ks os) (kept_rows ls ps)) where
   pub same_kept : IsPermutation ks ls
   same_kept =
       same_bag_of kept_columns IsKept one_kept ks ls k l
@@ -60,9 +64,12 @@ module _ (ks ls : List (Owned Kept)) (os ps : List OfficeKept) (k : AllByRecursi
 
   pub same_office_keys : IsPermutation (map office_key os) (map office_key ps)
   same_office_keys =
-      let rows = second_bag by_office (map kept_columns ks) (map office_kept_columns os) (map kept_columns ls) (map office_kept_columns ps) (of_branches ks k) (of_office os) (of_branches ls l) (of_office ps) both in
+      let rows =
+      second_bag by_office (map kept_columns ks) (map office_kept_columns os) (map kept_columns ls)
+      (map office_kept_columns ps) (of_branches ks k) (of_office os) (of_branches ls l) (of_office ps) both in
       subst (IsPermutation (map office_key os)) (office_keys_are ps)
-      (subst (λ l. IsPermutation l (map (λ r. key_of (column r 1)) (map office_kept_columns ps))) (office_keys_are os) (IsPermutation-map (λ r. key_of (column r 1)) _ _ rows))
+      (subst (λ l. IsPermutation l (map (λ r. key_of (column r 1)) (map office_kept_columns ps)))
+      (office_keys_are os) (IsPermutation-map (λ r. key_of (column r 1)) _ _ rows))
 
 module _ (tables : TableRows) (c b : Books) (s : HaveBooks tables c) (t : HaveBooks tables b) where
   both : IsPermutation (kept_rows b.kept b.catalogue.kept) (kept_rows c.kept c.catalogue.kept)

@@ -1,5 +1,7 @@
 -- Sound books have no key twice.
-use Rattle.shop_schema.proofs.Common.{◌≡◌, ◌∙◌, ◌+◌, ◌<◌, ◌==◌, ◌&&◌, ◌||◌, ℕ, List, [], ◌∷◌, map, filter, not, Bool, true, false, cond, refl, sym, ap, arith, list_any, bytes_eq, nat_tests, nat_eq_equiv, Row, Owned, IsCounted, is_of, owned_by, are_different, Rules, Text, Kept, Books, Consignment, IsSound, widest, same_test, rows_of}
+use Rattle.shop_schema.proofs.Common.{◌≡◌, ◌∙◌, ◌+◌, ◌<◌, ◌==◌, ◌&&◌, ◌||◌, ℕ, List, [], ◌∷◌, map, filter, not, Bool, true, false, cond, refl, sym, ap, arith}
+use Rattle.shop_schema.proofs.Common.{list_any, bytes_eq, nat_tests, nat_eq_equiv, Row, Owned, IsCounted, is_of, owned_by, are_different, Rules, Text, Kept}
+use Rattle.shop_schema.proofs.Common.{Books, Consignment, IsSound, widest, same_test, rows_of}
 use Rattle.audit_rows.proofs.Keys.{both, different-map, bytes_eq_symm}
 use Rattle.audit_rows.proofs.MarkLemmas.{not_true}
 use Rattle.audit_rows.proofs.Tests.{different_congr}
@@ -11,12 +13,14 @@ module _ {X : Type 0} (own num : X → X → Bool) (self : (x : X) → own x x �
   none_in x [] h = refl
   none_in x (y ∷ ys) h = go (own x y) h (λ e. none_in x ys e)
     where
-      split : (b : Bool) → (b || list_any (num x) (filter (own x) ys)) ≡ false → (list_any (num x) (filter (own x) ys) ≡ false → list_any (λ y. own x y && num x y) ys ≡ false)
+      split : (b : Bool) → (b || list_any (num x) (filter (own x) ys)) ≡ false
+          → (list_any (num x) (filter (own x) ys) ≡ false → list_any (λ y. own x y && num x y) ys ≡ false)
           → (b || list_any (λ y. own x y && num x y) ys) ≡ false
       split true e more = cc
       split false e more = more e
 
-      go : (t : Bool) → list_any (num x) (cond t (y ∷ filter (own x) ys) (filter (own x) ys)) ≡ false → (list_any (num x) (filter (own x) ys) ≡ false → list_any (λ y. own x y && num x y) ys ≡ false)
+      go : (t : Bool) → list_any (num x) (cond t (y ∷ filter (own x) ys) (filter (own x) ys)) ≡ false
+          → (list_any (num x) (filter (own x) ys) ≡ false → list_any (λ y. own x y && num x y) ys ≡ false)
           → ((t && num x y) || list_any (λ y. own x y && num x y) ys) ≡ false
       go true e more = split (num x y) e more
       go false e more = more e
@@ -24,7 +28,9 @@ module _ {X : Type 0} (own num : X → X → Bool) (self : (x : X) → own x x �
   pub groups_apart : (xs : List X) → ((x : X) → are_different num (filter (own x) xs) ≡ true) → are_different (λ x y. own x y && num x y) xs ≡ true
   groups_apart [] h = refl
   groups_apart (x ∷ xs) h =
-      let here = both (not (list_any (num x) (filter (own x) xs))) (are_different num (filter (own x) xs)) (ap (λ t. are_different num (cond t (x ∷ filter (own x) xs) (filter (own x) xs))) (sym (self x)) ∙ h x) in
+      let here =
+      both (not (list_any (num x) (filter (own x) xs))) (are_different num (filter (own x) xs))
+      (ap (λ t. are_different num (cond t (x ∷ filter (own x) xs) (filter (own x) xs))) (sym (self x)) ∙ h x) in
       let none = none_in x xs (not_true (list_any (num x) (filter (own x) xs)) here.0) in
       (λ i. not (none i) && groups_apart xs (λ z. less z (own z x) (h z)) i)
     where
@@ -49,12 +55,15 @@ module _ {X : Type 0} (number : X → ℕ) where
       let none = none_again (number x) (k + 1) xs (let e = h.0 in omega (arith, e)) h.1 in
       (λ i. not (none i) && counted_apart (k + 1) xs h.1 i)
 
-rows_apart : {A : Type 0} (rows : List (Row A)) → ((b : ℕ) → IsCounted 1 (map (λ (row : Row A). row.number) (filter (is_of b) rows))) → are_different same_row rows ≡ true
+rows_apart : {A : Type 0} (rows : List (Row A))
+    → ((b : ℕ) → IsCounted 1 (map (λ (row : Row A). row.number) (filter (is_of b) rows))) → are_different same_row rows ≡ true
 rows_apart {A} rows h =
     different_congr same_row _ (λ x y i. nat_eq_equiv.symm x.branch y.branch i && (x.number == y.number)) rows
-    ∙ groups_apart (λ (x y : Row A). y.branch == x.branch) (λ x y. x.number == y.number) (λ x. same_test x.branch) rows (λ x. counted_apart (λ (row : Row A). row.number) 1 (filter (is_of x.branch) rows) (h x.branch))
+    ∙ groups_apart (λ (x y : Row A). y.branch == x.branch) (λ x y. x.number == y.number) (λ x. same_test x.branch) rows
+    (λ x. counted_apart (λ (row : Row A). row.number) 1 (filter (is_of x.branch) rows) (h x.branch))
 
-owned_apart : {A : Type 0} (same : A → A → Bool) (rows : List (Owned A)) → ((b : ℕ) → are_different same (map (λ (row : Owned A). row.it) (filter (λ row. row.owner == b) rows)) ≡ true)
+owned_apart : {A : Type 0} (same : A → A → Bool) (rows : List (Owned A))
+    → ((b : ℕ) → are_different same (map (λ (row : Owned A). row.it) (filter (λ row. row.owner == b) rows)) ≡ true)
     → are_different (λ (x y : Owned A). x.owner == y.owner && same x.it y.it) rows ≡ true
 owned_apart {A} same rows h =
     different_congr _ (λ (x y : Owned A). y.owner == x.owner && same x.it y.it) (λ x y i. nat_eq_equiv.symm x.owner y.owner i && same x.it y.it) rows
@@ -69,7 +78,9 @@ pub keys_of_sound : (rules : Rules) (books : Books) → IsSound (widest rules) b
 keys_of_sound rules books sound = record {
   casts = sound.catalogue.single.casts;
   rows = λ t. rows_apart (rows_of books t) (sound.numbers.rows t);
-  lots = owned_apart (λ (x y : Text). bytes_eq x y) books.lots (λ b. different_congr _ _ (λ x y. bytes_eq_symm x y) (owned_by b books.lots) ∙ (sound.links b).lots);
+  lots =
+      owned_apart (λ (x y : Text). bytes_eq x y) books.lots
+      (λ b. different_congr _ _ (λ x y. bytes_eq_symm x y) (owned_by b books.lots) ∙ (sound.links b).lots);
   consignments = consignments_apart;
   kept = owned_apart (λ (x y : Kept). bytes_eq x.command.key y.command.key) books.kept (λ b. (sound.links b).keys);
   office_kept = sound.catalogue.keys;
@@ -78,8 +89,10 @@ keys_of_sound rules books sound = record {
     own : Consignment → Consignment → Bool
     own x y = y.source == x.source && y.addressee == x.addressee
 
-    consignments_apart : are_different (λ (a b : Consignment). a.source == b.source && a.addressee == b.addressee && a.number == b.number) books.consignments ≡ true
+    consignments_apart : are_different (λ (a b : Consignment). a.source == b.source && a.addressee == b.addressee && a.number == b.number) books.consignments
+        ≡ true
     consignments_apart =
-        different_congr _ (λ (x y : Consignment). own x y && (x.number == y.number)) (λ x y. regrouped _ _ (x.number == y.number) _ _ (nat_eq_equiv.symm x.source y.source) (nat_eq_equiv.symm x.addressee y.addressee)) books.consignments
+        different_congr _ (λ (x y : Consignment). own x y && (x.number == y.number))
+        (λ x y. regrouped _ _ (x.number == y.number) _ _ (nat_eq_equiv.symm x.source y.source) (nat_eq_equiv.symm x.addressee y.addressee)) books.consignments
         ∙ groups_apart own (λ x y. x.number == y.number) (λ x i. same_test x.source i && same_test x.addressee i) books.consignments
         (λ x. counted_apart (λ (it : Consignment). it.number) 1 (filter (own x) books.consignments) (sound.numbers.consignments x.source x.addressee))

@@ -1,5 +1,6 @@
 -- If tables stand for books, all tables can be read.
-use Rattle.shop_schema.proofs.Common.{◌∙◌, ◌==◌, ◌&&◌, ◌<◌, ◌^◌, [], ◌∷◌, map, IsCounted, numbered, refl, sym, subst, all_of, length_permutation, bytes_eq, Owned, Text, Cast, Books, rows_of, chain_columns, rule_columns, IsToken, IsName, IsCity, IsActor, IsFilm, IsStaff}
+use Rattle.shop_schema.proofs.Common.{◌∙◌, ◌==◌, ◌&&◌, ◌<◌, ◌^◌, [], ◌∷◌, map, IsCounted, numbered, refl, sym, subst, all_of, length_permutation, bytes_eq}
+use Rattle.shop_schema.proofs.Common.{Owned, Text, Cast, Books, rows_of, chain_columns, rule_columns, IsToken, IsName, IsCity, IsActor, IsFilm, IsStaff}
 use Rattle.shop_schema.proofs.Lasts.{numbered_counted}
 use Rattle.shop_schema.proofs.ShopTables as table
 use Rattle.audit_rows.specs.Ordered.{city_row, film_row, cast_row, staff_row, lot_row}
@@ -46,7 +47,8 @@ can_be_read tables b t =
       films = stands_in_places IsFilm table.films film_row (rows_in tables FILMS) all.films fit.films t.rows.films;
       casts =
           stands_keyed table.casts cast_row (rows_in tables CASTS) all.casts fit.casts t.rows.casts (λ x. x.film ∷ x.actor ∷ [])
-          (sym (different_congr (λ (x y : Cast). x.film == y.film && x.actor == y.actor) _ (λ x y. two (x.film == y.film) (x.actor == y.actor)) all.casts) ∙ t.keys.casts);
+          (sym (different_congr (λ (x y : Cast). x.film == y.film && x.actor == y.actor) _ (λ x y. two (x.film == y.film) (x.actor == y.actor)) all.casts)
+          ∙ t.keys.casts);
       branches =
           counted_stand IsTold audited.branches told_row (rows_in tables BRANCHES) (map (told b.lasts) (numbered all.branches))
           (subst (λ n. n < 2 ^ 32) (sym (length-map (told b.lasts) (numbered all.branches) ∙ so_many 1 all.branches)) fit.branches.0)
@@ -54,7 +56,9 @@ can_be_read tables b t =
           (told_fit b.lasts all.branches t.values.lasts fit.branches) (told_rows b.lasts all.branches t.rows.branches);
       staff = stands_in_places IsStaff table.staff staff_row (rows_in tables STAFF) all.staff fit.staff t.rows.staff;
       by_table = all_of (λ n. AreKeyed (IsKeptRow n) checked_key (rows_in tables (place_of n)))
-          (λ n. stands_keyed (table_of n) (checked_row n) (rows_in tables (place_of n)) (rows_of b n) (t.values.rows n) (t.rows.rows n) checked_key (sym (different_congr same_row _ row_test (rows_of b n)) ∙ t.keys.rows n))
+          (λ n.
+          stands_keyed (table_of n) (checked_row n) (rows_in tables (place_of n)) (rows_of b n) (t.values.rows n)
+          (t.rows.rows n) checked_key (sym (different_congr same_row _ row_test (rows_of b n)) ∙ t.keys.rows n))
           all_tables;
       lots =
           stands_keyed table.lots lot_row (rows_in tables LOTS) b.lots t.values.lots t.rows.lots (λ x. x.branch ∷ x.name)

@@ -1,5 +1,6 @@
 -- Each rental has its terms in rows in order exactly if it has them in the books that have the rows.
-use Rattle.shop_schema.proofs.Common.{◌≡◌, ◌&&◌, ◌==◌, List, [], ◌∷◌, map, Bool, true, false, refl, sym, ap, subst, subst₂, ◌∙◌, arith, true≢false, IsPermutation, bytes_eq, IsPermutation-refl, length_permutation, map-map, Books, TermRows, Rentals, rows_of, AreTermed}
+use Rattle.shop_schema.proofs.Common.{◌≡◌, ◌&&◌, ◌==◌, List, [], ◌∷◌, map, Bool, true, false, refl, sym, ap, subst, subst₂, ◌∙◌, arith, true≢false}
+use Rattle.shop_schema.proofs.Common.{IsPermutation, bytes_eq, IsPermutation-refl, length_permutation, map-map, Books, TermRows, Rentals, rows_of, AreTermed}
 use Rattle.audit_rows.specs.Canons.{row_key}
 use Rattle.audit_rows.specs.Lists.{Key, is_below, climbs, climbs_above, same_lists}
 use Rattle.shop_model.specs.Books.{Table}
@@ -68,5 +69,6 @@ module _ (rows : OrderedBooks) (c : Books) (has : HaveOrderedRows rows c) where
 
   pub termed_in_rows : AreOrdered rows → AreTermed c → are_termed rows.terms.items rows.rentals.items ≡ true
   termed_in_rows ordered h =
-      let same : keys rows.terms.items ≡ keys rows.rentals.items = one_climb _ _ (ordered.rows TermRows) (ordered.rows Rentals) (subst₂ IsPermutation (keys_are TermRows) (keys_are Rentals) h) in
+      let same : keys rows.terms.items ≡ keys rows.rentals.items =
+      one_climb _ _ (ordered.rows TermRows) (ordered.rows Rentals) (subst₂ IsPermutation (keys_are TermRows) (keys_are Rentals) h) in
       as_keys rows.terms.items rows.rentals.items ∙ ap (same_lists (keys rows.terms.items)) (sym same) ∙ same_itself (keys rows.terms.items)

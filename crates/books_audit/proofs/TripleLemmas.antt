@@ -1,5 +1,7 @@
 -- Rows of three numbers are their keys.
-use Rattle.shop_schema.proofs.Common.{◌≡◌, ◌∙◌, ◌≤◌, ℕ, List, [], ◌∷◌, map, length, Bool, true, false, refl, sym, ap, subst, subst₂, arith, IsPermutation, AllByRecursion, all_of, all-map, bytes_eq, bytes_eq-Decides, IsPermutation-refl, IsPermutation-trans, IsPermutation-sym, IsPermutation-cons, IsPermutation-middle, IsPermutation-map, map-map, column, number_value, one, pair_columns, Pair}
+use Rattle.shop_schema.proofs.Common.{◌≡◌, ◌∙◌, ◌≤◌, ℕ, List, [], ◌∷◌, map, length, Bool, true, false, refl, sym, ap, subst, subst₂, arith, IsPermutation}
+use Rattle.shop_schema.proofs.Common.{AllByRecursion, all_of, all-map, bytes_eq, bytes_eq-Decides, IsPermutation-refl, IsPermutation-trans, IsPermutation-sym}
+use Rattle.shop_schema.proofs.Common.{IsPermutation-cons, IsPermutation-middle, IsPermutation-map, map-map, column, number_value, one, pair_columns, Pair}
 use Rattle.sqlite_value.specs.Order as sql
 use Rattle.books_audit.specs.Listed.{AreRows}
 use Rattle.audit_rows.specs.Lists.{Key, count, SameCounts}
@@ -14,8 +16,10 @@ taken : (k : Key) (ks : List Key) → 1 ≤ count (bytes_eq k) ks → (rest : Li
 taken k [] h = absurd (omega (arith, h))
 taken k (j ∷ ks) h = go (bytes_eq k j) refl (λ low. taken k ks low)
   where
-    go : (t : Bool) → bytes_eq k j ≡ t → (1 ≤ count (bytes_eq k) ks → (rest : List Key) × IsPermutation ks (k ∷ rest)) → (rest : List Key) × IsPermutation (j ∷ ks) (k ∷ rest)
-    go true e later = let equal : k ≡ j = (bytes_eq-Decides k j).0 e in (ks, subst (λ x. IsPermutation (j ∷ ks) (x ∷ ks)) (sym equal) (IsPermutation-refl (j ∷ ks)))
+    go : (t : Bool) → bytes_eq k j ≡ t → (1 ≤ count (bytes_eq k) ks → (rest : List Key) × IsPermutation ks (k ∷ rest))
+        → (rest : List Key) × IsPermutation (j ∷ ks) (k ∷ rest)
+    go true e later =
+        let equal : k ≡ j = (bytes_eq-Decides k j).0 e in (ks, subst (λ x. IsPermutation (j ∷ ks) (x ∷ ks)) (sym equal) (IsPermutation-refl (j ∷ ks)))
     go false e later =
         let none : one (bytes_eq k j) ≡ 0 = ap one e in
         let more = later (omega (arith, h, none)) in
@@ -33,7 +37,8 @@ bag_from_counts (x ∷ xs) ys h =
 
 -- ---- columns
 
-pub triple_row : (r : sql.Row) (a b c : ℕ) → length r ≡ 3 → column r 0 ≡ number_value a → column r 1 ≡ number_value b → column r 2 ≡ number_value c → triple_columns (record { first = a; second = b; third = c }) ≡ r
+pub triple_row : (r : sql.Row) (a b c : ℕ) → length r ≡ 3 → column r 0 ≡ number_value a → column r 1 ≡ number_value b
+    → column r 2 ≡ number_value c → triple_columns (record { first = a; second = b; third = c }) ≡ r
 triple_row [] a b c n p q s = absurd (omega (arith, n))
 triple_row (u ∷ []) a b c n p q s = absurd (omega (arith, n))
 triple_row (u ∷ v ∷ []) a b c n p q s = absurd (omega (arith, n))

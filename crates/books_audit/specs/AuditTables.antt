@@ -14,7 +14,13 @@ branches = record {
   from = λ (number, (token, (address, (postal, (phone, (city, (manager, (last, z)))))))).
       (number, (record { token = token; address = address; postal = postal; phone = phone; city = city; manager = manager }, last));
   told = λ v. refl;
-  ones = λ v h. (h.0, (record { token = h.1.0; address = h.1.1.0; postal = h.1.1.1.0; phone = h.1.1.1.1.0; city = h.1.1.1.1.1.0; manager = h.1.1.1.1.1.1.0 }, h.1.1.1.1.1.1.1.0));
+  ones = λ v h. (
+    h.0,
+    (
+      record { token = h.1.0; address = h.1.1.0; postal = h.1.1.1.0; phone = h.1.1.1.1.0; city = h.1.1.1.1.1.0; manager = h.1.1.1.1.1.1.0 },
+      h.1.1.1.1.1.1.1.0,
+    ),
+  );
   only = λ it h.
       let branch = it.1.0 in
       let is = h.1.0 in (
@@ -28,7 +34,8 @@ branches = record {
 abbrev pub headers : TableOf header_columns IsHeader
 headers = record {
   kinds = kind.Number ∷ kind.Number ∷ kind.Number ∷ kind.Place ∷ kind.Flag ∷ [];
-  from = λ (source, (addressee, (number, (place, (received, z))))). record { source = source; addressee = addressee; number = number; place = place; received = received };
+  from = λ (source, (addressee, (number, (place, (received, z))))).
+      record { source = source; addressee = addressee; number = number; place = place; received = received };
   told = λ v. refl;
   ones = λ v h. record { source = h.0; addressee = h.1.0; number = h.1.1.0; place = h.1.1.1.0 };
   only = λ it h. ((it.source, (it.addressee, (it.number, (it.place, (it.received, tt))))), (h.source, (h.addressee, (h.number, (h.place, (tt, tt))))), refl);
@@ -39,7 +46,13 @@ abbrev pub lines : TableOf placed_columns IsPlaced
 lines = record {
   kinds = kind.Number ∷ kind.Number ∷ kind.Number ∷ kind.Number ∷ kind.Number ∷ kind.Number ∷ kind.Number ∷ kind.Line ∷ [];
   from = λ (source, (addressee, (number, (at, (film, (origin, (copy, (state, z)))))))).
-      record { source = source; addressee = addressee; number = number; at = at; line = record { film = film; mark = record { branch = origin; copy = copy }; state = seen_line_state state } };
+      record {
+        source = source;
+        addressee = addressee;
+        number = number;
+        at = at;
+        line = record { film = film; mark = record { branch = origin; copy = copy }; state = seen_line_state state };
+      };
   told = λ v. refl;
   ones = λ v h. record { source = h.0; addressee = h.1.0; number = h.1.1.0; at = h.1.1.1.0; line = (h.1.1.1.1.0, (h.1.1.1.1.1.0, h.1.1.1.1.1.1.0)) };
   only = λ it h.

@@ -40,7 +40,8 @@ Stand copy_rows line_rows = (copies : List (Row BookCopy)) × (lines : List Plac
 
 -- The audit of rows. If some row is no copy's or no line's, nothing is sound and nothing is counted.
 pub record IsCustodyAudit (copy_rows line_rows : List sql.Row) (audit : Audit) : Type 0 where
-  pub sound : IsTrue audit.sound ↔ ((copies : List (Row BookCopy)) × (lines : List Placed) × StandFor copy_rows line_rows copies lines × AreInCustody copies (lines_of lines))
+  pub sound : IsTrue audit.sound
+      ↔ ((copies : List (Row BookCopy)) × (lines : List Placed) × StandFor copy_rows line_rows copies lines × AreInCustody copies (lines_of lines))
   pub counts : (copies : List (Row BookCopy)) (lines : List Placed) → StandFor copy_rows line_rows copies lines → CountsCustody audit copies (lines_of lines)
   pub nothing : ¬ Stand copy_rows line_rows → CountsNothing audit
 

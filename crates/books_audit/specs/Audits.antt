@@ -16,7 +16,9 @@ use Rattle.shop_model.specs.Books.{Books, Consignment, Table, rows_of}
 use Rattle.shop_model.specs.Sound.{IsSound, widest, all_lines}
 use Rattle.shop_schema.specs.Forms.{kept_rows}
 use Rattle.shop_schema.specs.Counts.{counts_of}
-use Rattle.shop_schema.specs.RowValues.{chain_columns, named_columns, city_columns, actor_columns, film_columns, cast_columns, branch_columns, staff_columns, customer_columns, copy_columns, rental_columns, terms_columns, payment_columns, lot_columns, consignment_columns, line_rows, counter_columns, out_columns, pair_columns, rule_columns}
+use Rattle.shop_schema.specs.RowValues.{chain_columns, named_columns, city_columns, actor_columns, film_columns, cast_columns, branch_columns, staff_columns}
+use Rattle.shop_schema.specs.RowValues.{customer_columns, copy_columns, rental_columns, terms_columns, payment_columns, lot_columns, consignment_columns}
+use Rattle.shop_schema.specs.RowValues.{line_rows, counter_columns, out_columns, pair_columns, rule_columns}
 use Rattle.shop_schema.specs.Held.{AreValues}
 use Rattle.shop_schema.specs.Shop.{AreTermed}
 use Rattle.books_audit.specs.declared.tables.TableRows.{TableRows}
@@ -24,7 +26,8 @@ use Rattle.shop_types.specs.declared.audit.Audit.{Audit}
 use Rattle.books_audit.specs.BranchTables.{place_of, row_columns}
 use Rattle.books_audit.specs.Audited.{CountsCustody, CountsNothing}
 use Rattle.books_audit.specs.Tables.{rows_in}
-use Rattle.books_audit.specs.declared.tables.TheConstants.{CHAIN, COUNTRIES, LANGUAGES, CATEGORIES, CITIES, ACTORS, FILMS, CASTS, BRANCHES, STAFF, LOTS, CONSIGNMENTS, LINES, KEPT, COUNTERS, OUTS, PAIRS, RULE}
+use Rattle.books_audit.specs.declared.tables.TheConstants.{CHAIN, COUNTRIES, LANGUAGES, CATEGORIES, CITIES, ACTORS, FILMS, CASTS, BRANCHES, STAFF, LOTS}
+use Rattle.books_audit.specs.declared.tables.TheConstants.{CONSIGNMENTS, LINES, KEPT, COUNTERS, OUTS, PAIRS, RULE}
 
 -- ---- standing for books
 

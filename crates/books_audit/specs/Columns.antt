@@ -12,7 +12,8 @@ use Rattle.audit_rows.specs.Joins.{Header, Placed}
 
 abbrev pub told_columns : ℕ × (Branch × Option Moment) → sql.Row
 told_columns it =
-    number_value it.0 ∷ Text it.1.0.token ∷ Text it.1.0.address ∷ Text it.1.0.postal ∷ Text it.1.0.phone ∷ number_value it.1.0.city ∷ or_null number_value it.1.0.manager
+    number_value it.0 ∷ Text it.1.0.token ∷ Text it.1.0.address ∷ Text it.1.0.postal
+    ∷ Text it.1.0.phone ∷ number_value it.1.0.city ∷ or_null number_value it.1.0.manager
     ∷ or_null moment_value it.1.1 ∷ []
 
 abbrev pub IsTold : Branch × Option Moment → Type 0

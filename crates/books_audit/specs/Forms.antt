@@ -2,7 +2,8 @@
 use Rattle.std.specs.Prelude.{⊤, ◌≡◌, ◌≤◌, ◌+◌, ℕ, Bool, false, List, [], ◌∷◌, ◌++◌, length, slice_get, flat_map, Option, Some, IfSome}
 use Rattle.shop_model.specs.Calendar.{Moment, IsMoment, moment_text}
 use Rattle.shop_model.specs.Values.{Act, Command, OfficeAct}
-use Rattle.shop_schema.specs.Forms.{number_form, text_form, numbers_form, option_form, flag_form, act_form, command_form, office_form, AreNumbers, AreBytes, IsAct, IsOfficeAct}
+use Rattle.shop_schema.specs.Forms.{number_form, text_form, numbers_form, option_form, flag_form, act_form, command_form, office_form, AreNumbers, AreBytes}
+use Rattle.shop_schema.specs.Forms.{IsAct, IsOfficeAct}
 use Rattle.shop_schema.specs.RowValues.{IsNumber, IsText, IsKey, IsToken, IsRating, IsFeatures}
 use Rattle.books_audit.specs.declared.parts.Part.{Part}
 use Rattle.books_audit.specs.declared.parts.Part.TheVariants as part
@@ -56,7 +57,8 @@ IsForm (p ∷ ps) bytes = (piece : List ℕ) × (rest : List ℕ) × IsPartForm 
 
 -- the first byte is the place of a list of parts, counted from 1, and the bytes after it are a form of that list
 abbrev pub IsOneOf : List (List Part) → List ℕ → Type 0
-IsOneOf forms bytes = (place : ℕ) × (parts : List Part) × (rest : List ℕ) × (slice_get forms place ≡ Some parts) × IsForm parts rest × (bytes ≡ (place + 1) ∷ rest)
+IsOneOf forms bytes =
+    (place : ℕ) × (parts : List Part) × (rest : List ℕ) × (slice_get forms place ≡ Some parts) × IsForm parts rest × (bytes ≡ (place + 1) ∷ rest)
 
 abbrev pub form_of_each : List ℕ → List ℕ
 form_of_each = flat_map number_form

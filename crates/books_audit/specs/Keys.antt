@@ -30,7 +30,10 @@ pub record KeptAreRead (tables : TableRows) (office : List Key) (kept : List Che
 -- each row is a kept command's, and no two of head office, or of a branch, have one key
 pub record KeptCanBeRead (tables : TableRows) : Type 0 where
   pub ones : AllByRecursion (IsListed IsCallerRow) (rows_in tables KEPT)
-  pub office : (found : List CallerRow) (office : List Key) (kept : List CheckedKept) → AreRows IsCallerRow found (rows_in tables KEPT) → AllByRecursion (λ (x : CheckedKept). IsNumber x.branch) kept
+  pub office : (found : List CallerRow) (office : List Key) (kept : List CheckedKept)
+      → AreRows IsCallerRow found (rows_in tables KEPT) → AllByRecursion (λ (x : CheckedKept). IsNumber x.branch) kept
       → IsPermutation found (map office_caller office ++ map branch_caller kept) → are_different bytes_eq office ≡ true
-  pub kept : (found : List CallerRow) (office : List Key) (kept : List CheckedKept) → AreRows IsCallerRow found (rows_in tables KEPT) → AllByRecursion (λ (x : CheckedKept). IsNumber x.branch) kept
-      → IsPermutation found (map office_caller office ++ map branch_caller kept) → are_different (λ (a b : CheckedKept). bytes_eq (a.branch ∷ a.key) (b.branch ∷ b.key)) kept ≡ true
+  pub kept : (found : List CallerRow) (office : List Key) (kept : List CheckedKept)
+      → AreRows IsCallerRow found (rows_in tables KEPT) → AllByRecursion (λ (x : CheckedKept). IsNumber x.branch) kept
+      → IsPermutation found (map office_caller office ++ map branch_caller kept)
+      → are_different (λ (a b : CheckedKept). bytes_eq (a.branch ∷ a.key) (b.branch ∷ b.key)) kept ≡ true

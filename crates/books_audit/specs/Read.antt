@@ -34,10 +34,12 @@ counts_of_branch rows b =
     ∷ []
 
 abbrev pub counters_in : OrderedBooks → List Count
-counters_in rows = record { caller = 0; kind = 4; last = length rows.office_keys.items } ∷ flat_map (λ it. counts_of_branch rows it.0) (numbered rows.branches.items)
+counters_in rows =
+    record { caller = 0; kind = 4; last = length rows.office_keys.items } ∷ flat_map (λ it. counts_of_branch rows it.0) (numbered rows.branches.items)
 
 abbrev pub outs_among : List (CheckedRow Rental) → List Out
-outs_among rentals = map (λ (x : CheckedRow Rental). record { branch = x.branch; copy = x.it.copy; rental = x.number }) (filter (λ x. is_none x.it.returned) rentals)
+outs_among rentals =
+    map (λ (x : CheckedRow Rental). record { branch = x.branch; copy = x.it.copy; rental = x.number }) (filter (λ x. is_none x.it.returned) rentals)
 
 abbrev pub outs_in : OrderedBooks → List Out
 outs_in rows = outs_among rows.rentals.items

@@ -9,13 +9,15 @@ use Rattle.audit_rows.specs.declared.books.OrderedBooks.{OrderedBooks}
 use Rattle.audit_rows.specs.declared.rows.CheckedHeader.{CheckedHeader}
 use Rattle.audit_rows.specs.declared.rows.CheckedLine.{CheckedLine}
 use Rattle.books_audit.specs.BranchTables.{place_of, IsKeptRow}
-use Rattle.books_audit.specs.Rows.{IsChainRow, IsRuleRow, IsNamedRow, IsCityRow, IsActorRow, IsFilmRow, IsCastRow, IsBranchRow, IsStaffRow, IsLotRow, IsHeaderRow, IsLineRow}
+use Rattle.books_audit.specs.Rows.{IsChainRow, IsRuleRow, IsNamedRow, IsCityRow, IsActorRow, IsFilmRow, IsCastRow, IsBranchRow, IsStaffRow, IsLotRow}
+use Rattle.books_audit.specs.Rows.{IsHeaderRow, IsLineRow}
 use Rattle.books_audit.specs.declared.shared.RuleRow.{RuleRow}
 use Rattle.books_audit.specs.Keys.{KeptAreRead, KeptCanBeRead}
 use Rattle.books_audit.specs.ReadLists.{RowsRead, IsSingle, KeyedRead, AreKeyed, PlacesRead, AreInPlaces}
 use Rattle.books_audit.specs.Tables.{rows_in}
 use Rattle.books_audit.specs.declared.tables.TableRows.{TableRows}
-use Rattle.books_audit.specs.declared.tables.TheConstants.{CHAIN, COUNTRIES, LANGUAGES, CATEGORIES, CITIES, ACTORS, FILMS, CASTS, BRANCHES, STAFF, LOTS, CONSIGNMENTS, LINES, RULE}
+use Rattle.books_audit.specs.declared.tables.TheConstants.{CHAIN, COUNTRIES, LANGUAGES, CATEGORIES, CITIES, ACTORS, FILMS, CASTS, BRANCHES, STAFF, LOTS}
+use Rattle.books_audit.specs.declared.tables.TheConstants.{CONSIGNMENTS, LINES, RULE}
 
 -- the rows of the two tables of consignments can be joined into consignments
 abbrev pub AreJoined : List CheckedHeader → List CheckedLine → Type 0
@@ -60,6 +62,8 @@ pub record CanBeRead (tables : TableRows) : Type 0 where
   pub lots : AreKeyed IsLotRow (λ x. x.branch ∷ x.name) (rows_in tables LOTS)
   pub headers : AreKeyed IsHeaderRow (λ x. x.source ∷ x.addressee ∷ x.number ∷ []) (rows_in tables CONSIGNMENTS)
   pub lines : AreKeyed IsLineRow (λ x. x.source ∷ x.addressee ∷ x.number ∷ x.line ∷ []) (rows_in tables LINES)
-  pub joined : (headers : List CheckedHeader) (lines : List CheckedLine) → RowsRead IsHeaderRow (rows_in tables CONSIGNMENTS) headers → RowsRead IsLineRow (rows_in tables LINES) lines
-      → climbs (map (λ (row : CheckedHeader). row.source ∷ row.addressee ∷ row.number ∷ []) headers) ≡ true → climbs (map (λ (row : CheckedLine). row.source ∷ row.addressee ∷ row.number ∷ row.line ∷ []) lines) ≡ true
+  pub joined : (headers : List CheckedHeader) (lines : List CheckedLine)
+      → RowsRead IsHeaderRow (rows_in tables CONSIGNMENTS) headers → RowsRead IsLineRow (rows_in tables LINES) lines
+      → climbs (map (λ (row : CheckedHeader). row.source ∷ row.addressee ∷ row.number ∷ []) headers) ≡ true
+      → climbs (map (λ (row : CheckedLine). row.source ∷ row.addressee ∷ row.number ∷ row.line ∷ []) lines) ≡ true
       → AreJoined headers lines

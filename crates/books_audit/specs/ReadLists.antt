@@ -35,7 +35,8 @@ pub record AreKeyed {X : Type 0} (Is : X → sql.Row → Type 0) (key : X → Ke
 pub record AreInPlaces {X : Type 0} (Is : X → sql.Row → Type 0) (number : X → ℕ) (table : List sql.Row) : Type 0 where
   pub ones : AllByRecursion (IsListed Is) table
   pub few : length table < 2 ^ 32
-  pub counted : (found sorted : List X) → AreRows Is found table → IsPermutation found sorted → IsSortedByKey number nat_cmp sorted → IsCounted 1 (map number sorted)
+  pub counted : (found sorted : List X) → AreRows Is found table → IsPermutation found sorted
+      → IsSortedByKey number nat_cmp sorted → IsCounted 1 (map number sorted)
 
 -- what was read of rows that are numbered 1, 2, .., in the order of their numbers, without the numbers
 pub record PlacesRead {X S : Type 0} (Is : X → sql.Row → Type 0) (number : X → ℕ) (keep : X → S) (table : List sql.Row) (kept : List S) : Type 0 where

@@ -14,19 +14,22 @@ use Rattle.books_audit.specs.AuditTables as audited
 use Rattle.books_audit.specs.Rows.{placed_row}
 
 -- the cells are the columns of one value
-pub full_row : {A X : Type 0} {columns : A → sql.Row} {IsOne : A → Type 0} (t : TableOf columns IsOne) (small : A → X) {x : X} (v : Values t.kinds) → FitEach t.kinds v → small (t.from v) ≡ x
+pub full_row : {A X : Type 0} {columns : A → sql.Row} {IsOne : A → Type 0} (t : TableOf columns IsOne) (small : A → X) {x : X} (v : Values t.kinds)
+    → FitEach t.kinds v → small (t.from v) ≡ x
     → FullOf columns IsOne small x (columns_of t.kinds v)
 full_row t small v fits keeps = record { it = t.from v; has = t.told v; fits = t.ones v fits; keeps = keeps }
 
 -- and each row of the table has such cells
-pub only_row : {A X : Type 0} {columns : A → sql.Row} {IsOne : A → Type 0} {small : A → X} (t : TableOf columns IsOne) (x : X) (r : sql.Row) → FullOf columns IsOne small x r
+pub only_row : {A X : Type 0} {columns : A → sql.Row} {IsOne : A → Type 0} {small : A → X} (t : TableOf columns IsOne) (x : X) (r : sql.Row)
+    → FullOf columns IsOne small x r
     → (v : Values t.kinds) × FitEach t.kinds v × (columns_of t.kinds v ≡ r)
 only_row {columns = columns} t x r full = let v = t.only full.it full.fits in (v.0, v.1, sym (t.told v.0) ∙ ap columns v.2 ∙ full.has)
 
 -- ---- of copies and of lines the state is kept as it is read
 
 abbrev pub copy_of : Values table.copies.kinds → CheckedOf CopyRows
-copy_of = λ (branch, (number, (film, (at, (origin, (copy, z)))))). record { branch = branch; number = number; it = record { film = film; state = at; mark = record { branch = origin; copy = copy } } }
+copy_of = λ (branch, (number, (film, (at, (origin, (copy, z)))))).
+    record { branch = branch; number = number; it = record { film = film; state = at; mark = record { branch = origin; copy = copy } } }
 
 pub copy_kept : (v : Values table.copies.kinds) → checked_row CopyRows (table.copies.from v) ≡ copy_of v
 copy_kept v = let row = copy_of v in (λ i. record row { it = record row.it { state = state_kept row.it.state i } })

@@ -1,5 +1,7 @@
 -- Lemmas about listed copies, none of them twice and none unknown, and about lines that are partly missing.
-use Rattle.shop_types.proofs.Common.{take, drop, take_all, length-drop, lt-ltb, ◌≡◌, refl, sym, ap, ◌∙◌, inl, inr, ℕ, suc, ◌+◌, ◌-◌, ◌≤◌, ◌<◌, Bool, true, false, not, List, [], ◌∷◌, map, filter, length, arith, list_any, nat_tests, cases_Bool, length-map, lacks, mem, arrived, numbered_from, numbered, are_lines}
+use Rattle.shop_types.proofs.Common.{take, drop, take_all, length-drop, lt-ltb, ◌≡◌, refl, sym, ap, ◌∙◌, inl, inr, ℕ, suc, ◌+◌, ◌-◌, ◌≤◌, ◌<◌, Bool, true}
+use Rattle.shop_types.proofs.Common.{false, not, List, [], ◌∷◌, map, filter, length, arith, list_any, nat_tests, cases_Bool, length-map, lacks, mem, arrived}
+use Rattle.shop_types.proofs.Common.{numbered_from, numbered, are_lines}
 use Rattle.std.specs.Prelude.{◌==◌, ◌||◌, nat_lt}
 
 -- ---- copies that are listed twice
@@ -47,12 +49,14 @@ below_lines low high n [] h less = refl
 below_lines low high n (m ∷ ms) h less = grind (arith, nat_tests, below_lines m high n ms)
 
 -- after the first missing number, only the other missing numbers matter
-skip_first : {A : Type 0} (m : ℕ) (ms : List ℕ) (k : ℕ) (xs : List A) → m < k → filter (comes (m ∷ ms)) (numbered_from k xs) ≡ filter (comes ms) (numbered_from k xs)
+skip_first : {A : Type 0} (m : ℕ) (ms : List ℕ) (k : ℕ) (xs : List A) → m < k
+    → filter (comes (m ∷ ms)) (numbered_from k xs) ≡ filter (comes ms) (numbered_from k xs)
 skip_first m ms k [] less = refl
 skip_first m ms k (x ∷ xs) less = let more = skip_first m ms (k + 1) xs (omega (arith, less)) in grind (arith, nat_tests, more)
 
 -- the lines k + 1 to high are the lines that come and the lines that are missing
-counted : {A : Type 0} (k high : ℕ) (missing : List ℕ) (xs : List A) → high ≡ k + length xs → are_lines k high missing ≡ true → length (filter (comes missing) (numbered_from (k + 1) xs)) + length missing ≡ length xs
+counted : {A : Type 0} (k high : ℕ) (missing : List ℕ) (xs : List A) → high ≡ k + length xs → are_lines k high missing ≡ true
+    → length (filter (comes missing) (numbered_from (k + 1) xs)) + length missing ≡ length xs
 counted k high [] [] is h = refl
 counted k high (m ∷ ms) [] is h = absurd (grind (arith, nat_tests))
 counted k high [] (x ∷ xs) is h = let more = counted (k + 1) high [] xs (omega (arith, is)) refl in omega (arith, more)
@@ -67,6 +71,8 @@ counted k high (m ∷ ms) (x ∷ xs) is h = elim (cases_Bool (m == k + 1)) [
       grind (arith, nat_tests, below, more)
 ]
 
-pub all_counted : {A : Type 0} (missing : List ℕ) (xs : List A) → are_lines 0 (length xs) missing ≡ true → length (arrived missing xs) + length missing ≡ length xs
+pub all_counted : {A : Type 0} (missing : List ℕ) (xs : List A)
+    → are_lines 0 (length xs) missing ≡ true → length (arrived missing xs) + length missing ≡ length xs
 all_counted {A} missing xs h =
-    ap (λ (n : ℕ). n + length missing) (length-map (filter (comes missing) (numbered xs)) (λ (it : ℕ × A). it.1)) ∙ counted 0 (length xs) missing xs (omega arith) h
+    ap (λ (n : ℕ). n + length missing) (length-map (filter (comes missing) (numbered xs)) (λ (it : ℕ × A). it.1))
+    ∙ counted 0 (length xs) missing xs (omega arith) h

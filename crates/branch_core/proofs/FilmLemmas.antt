@@ -1,5 +1,6 @@
 -- The copies of a film that are listed, of copies as the program has them.
-use Rattle.shop_types.proofs.Common.{arith, ◌≡◌, refl, ap, ◌∙◌, ℕ, Bool, true, false, not, List, [], ◌∷◌, map, filter, numbered, Copy, Shop, same_flag, is_here, in_stock, film_in_stock, film_not_in_stock}
+use Rattle.shop_types.proofs.Common.{arith, ◌≡◌, refl, ap, ◌∙◌, ℕ, Bool, true, false, not, List, [], ◌∷◌, map, filter, numbered, Copy, Shop, same_flag, is_here}
+use Rattle.shop_types.proofs.Common.{in_stock, film_in_stock, film_not_in_stock}
 use Rattle.std.specs.Prelude.{◌==◌, ◌&&◌}
 use Rattle.branch_core.specs.declared.film_copies.FilmCopy.{FilmCopy}
 use Rattle.branch_core.specs.Agreed.{seen_film_copy, AreOfFilm, is_listed}
@@ -28,7 +29,9 @@ module _ (film : ℕ) (shop : Shop) where
       grind (arith, stock, more)
 
   pub listed_in_stock : (copies : List FilmCopy) → AreOfFilm film shop copies → numbers_of true copies ≡ film_in_stock film shop
-  listed_in_stock copies are = ap (numbers_in true) are ∙ told_listed true (λ b. b) (λ b. elim b as (λ v. same_flag v true ≡ v) [ true ↦ refl | false ↦ refl ]) (numbered shop.copies)
+  listed_in_stock copies are =
+      ap (numbers_in true) are ∙ told_listed true (λ b. b) (λ b. elim b as (λ v. same_flag v true ≡ v) [ true ↦ refl | false ↦ refl ]) (numbered shop.copies)
 
   pub listed_not_in_stock : (copies : List FilmCopy) → AreOfFilm film shop copies → numbers_of false copies ≡ film_not_in_stock film shop
-  listed_not_in_stock copies are = ap (numbers_in false) are ∙ told_listed false not (λ b. elim b as (λ v. same_flag v false ≡ not v) [ true ↦ refl | false ↦ refl ]) (numbered shop.copies)
+  listed_not_in_stock copies are =
+      ap (numbers_in false) are ∙ told_listed false not (λ b. elim b as (λ v. same_flag v false ≡ not v) [ true ↦ refl | false ↦ refl ]) (numbered shop.copies)

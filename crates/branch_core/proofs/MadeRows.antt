@@ -1,5 +1,6 @@
 -- Rows that a branch gets one after another, with its next numbers.
-use Rattle.shop_types.proofs.Common.{◌≡◌, ◌∙◌, refl, sym, ap, ℕ, suc, ◌+◌, List, [], ◌∷◌, ◌++◌, length, arith, append_assoc, append-nil, length-append, AllByRecursion, Row, of, next, put_all, put_own}
+use Rattle.shop_types.proofs.Common.{◌≡◌, ◌∙◌, refl, sym, ap, ℕ, suc, ◌+◌, List, [], ◌∷◌, ◌++◌, length, arith, append_assoc, append-nil, length-append}
+use Rattle.shop_types.proofs.Common.{AllByRecursion, Row, of, next, put_all, put_own}
 use Rattle.shop_model.specs.Rows.{put}
 use Rattle.branch_core.specs.Consigned.{made_from}
 

@@ -1,7 +1,10 @@
 -- What was found of copies and of a consignment in the books is what the branch's shop has of them.
 use Rattle.std.proofs.Common.{option_map}
 use Rattle.std.specs.Prelude.{◌||◌, option_to_list}
-use Rattle.shop_types.proofs.Common.{arith, Copy, ◌≡◌, ◌∙◌, refl, sym, ap, ℕ, Bool, false, not, List, [], ◌∷◌, ◌++◌, map, filter, Option, Some, None, append-nil, is_none, list_any, or-false, list_any-append, flat_map-append, at, lacks, of, Arrival, is_here, in_stock, is_away, HasNumbers, Books, BookCopy, Mark, Consignment, as_arrival, head, is_consignment, shop_of, unmarked, map_map, map_at, arrival_of, seen_parcel_line}
+use Rattle.shop_types.proofs.Common.{arith, Copy, ◌≡◌, ◌∙◌, refl, sym, ap, ℕ, Bool, false, not, List, [], ◌∷◌, ◌++◌, map, filter, Option, Some, None}
+use Rattle.shop_types.proofs.Common.{append-nil, is_none, list_any, or-false, list_any-append, flat_map-append, at, lacks, of, Arrival, is_here, in_stock}
+use Rattle.shop_types.proofs.Common.{is_away, HasNumbers, Books, BookCopy, Mark, Consignment, as_arrival, head, is_consignment, shop_of, unmarked, map_map}
+use Rattle.shop_types.proofs.Common.{map_at, arrival_of, seen_parcel_line}
 use Rattle.branch_core.specs.declared.found.ArrivalFound.{ArrivalFound}
 use Rattle.branch_core.specs.declared.found.ListedFound.{ListedFound}
 use Rattle.branch_core.specs.Agreed.{ListedAgrees, seen_arrival, arrival_at}
@@ -10,7 +13,8 @@ use Rattle.branch_core.specs.Marked.{copy_parts, line_parts, parts_at, listed_at
 -- ---- copies that are listed
 
 -- if all of the copies were read
-pub listed_agrees : (b : ℕ) (xs : List ℕ) (books : Books) (it : ListedFound) (parts : List (ℕ × Mark)) → ◌≡◌ {A = Bool × Bool × Bool × List (ℕ × Mark)} (it.has_unknown, it.has_away, it.has_out, parts) (listed_at b xs books)
+pub listed_agrees : (b : ℕ) (xs : List ℕ) (books : Books) (it : ListedFound) (parts : List (ℕ × Mark))
+    → ◌≡◌ {A = Bool × Bool × Bool × List (ℕ × Mark)} (it.has_unknown, it.has_away, it.has_out, parts) (listed_at b xs books)
     → ListedAgrees (shop_of b books) xs it
 listed_agrees b xs books it parts is = record {
   unknown = ap (λ (p : Bool × Bool × Bool × List (ℕ × Mark)). p.0) is;
@@ -33,7 +37,8 @@ module _ (b : ℕ) (books : Books) where
       ∙ ap (λ (parts : List (ℕ × Mark)). parts_at b xs books ++ parts) (append-nil (map copy_parts (at x (of b books.copies))))
 
   -- one number more, whose copy was read
-  module _ (xs : List ℕ) (x : ℕ) (copy : Option BookCopy) (out : Bool) (read : option_to_list copy ≡ at x (of b books.copies)) (is_out : out ≡ not (in_stock x (shop_of b books).rentals)) where
+  module _ (xs : List ℕ) (x : ℕ) (copy : Option BookCopy) (out : Bool) (read : option_to_list copy ≡ at x (of b books.copies))
+      (is_out : out ≡ not (in_stock x (shop_of b books).rentals)) where
     there : at x (shop_of b books).copies ≡ map unmarked (option_to_list copy)
     there = sym (map_at unmarked x (of b books.copies)) ∙ ap (map unmarked) (sym read)
 
@@ -43,7 +48,10 @@ module _ (b : ℕ) (books : Books) where
     away_is : is_away (shop_of b books).copies x ≡ is_gone copy
     away_is =
         ap (list_any (λ (it : Copy). not (is_here it))) there
-        ∙ elim copy as (λ it. list_any (λ (c : Copy). not (is_here c)) (map unmarked (option_to_list it)) ≡ is_gone it) [ None ↦ refl | Some it ↦ or-false (not (is_here (unmarked it))) ]
+        ∙ elim copy as (λ it. list_any (λ (c : Copy). not (is_here c)) (map unmarked (option_to_list it)) ≡ is_gone it) [
+          | None ↦ refl
+          | Some it ↦ or-false (not (is_here (unmarked it)))
+        ]
 
     pub listed_more : ◌≡◌ {A = Bool × Bool × Bool × List (ℕ × Mark)} (listed_at b (xs ++ x ∷ []) books) (
       list_any (lacks (shop_of b books).copies) xs || is_none copy,
@@ -69,13 +77,16 @@ seen_of : (found : Option ArrivalFound) → option_map seen_arrival found ≡ he
 seen_of None = refl
 seen_of (Some it) = let films = map_map (λ (part : ℕ × Mark). part.0) seen_parcel_line it.lines in λ i. Some (it.is_received, sym films i)
 
-told_of : (cs : List Consignment) → map films_of (map consignment_parts cs) ≡ map (λ (it : Arrival). let p : Bool × List ℕ = (it.received, it.films) in p) (map as_arrival cs)
+told_of : (cs : List Consignment)
+    → map films_of (map consignment_parts cs) ≡ map (λ (it : Arrival). let p : Bool × List ℕ = (it.received, it.films) in p) (map as_arrival cs)
 told_of [] = refl
 told_of (c ∷ cs) = let films = map_map (λ (part : ℕ × Mark). part.0) line_parts c.lines in λ i. (c.received, films i) ∷ told_of cs i
 
-pub arrival_agrees : (b source number : ℕ) (books : Books) (found : Option ArrivalFound) → HasNumbers books → IsArrival b source number found books → option_map seen_arrival found ≡ arrival_at source number (shop_of b books)
+pub arrival_agrees : (b source number : ℕ) (books : Books) (found : Option ArrivalFound) → HasNumbers books
+    → IsArrival b source number found books → option_map seen_arrival found ≡ arrival_at source number (shop_of b books)
 arrival_agrees b source number books found numbers is =
     seen_of found
     ∙ ap (λ (ps : List (Bool × List (ℕ × Mark))). head (map films_of ps)) is
     ∙ ap head (told_of (filter (is_consignment source b number) books.consignments))
-    ∙ ap (λ (arrivals : List Arrival). head (map (λ (it : Arrival). let p : Bool × List ℕ = (it.received, it.films) in p) arrivals)) (sym (arrival_of source b number books.consignments (numbers.consignments source b)))
+    ∙ ap (λ (arrivals : List Arrival). head (map (λ (it : Arrival). let p : Bool × List ℕ = (it.received, it.films) in p) arrivals))
+    (sym (arrival_of source b number books.consignments (numbers.consignments source b)))

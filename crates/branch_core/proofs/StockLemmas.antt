@@ -1,5 +1,7 @@
 -- What the rows of a stock file say of the films of its copies.
-use Rattle.shop_types.proofs.Common.{◌≡◌, refl, sym, ap, ◌∙◌, ℕ, zero, suc, ◌+◌, ◌≤◌, Bool, true, false, not, ◌||◌, List, [], ◌∷◌, length, replicate, arith, length-append, or_self, or-false, length-replicate, recursion_from_All, list_any-append, sum_by-cons, AllByRecursion, list_any, lacks, Catalogue, is_film_withdrawn}
+use Rattle.shop_types.proofs.Common.{◌≡◌, refl, sym, ap, ◌∙◌, ℕ, zero, suc, ◌+◌, ◌≤◌, Bool, true, false, not, ◌||◌, List, [], ◌∷◌, length, replicate, arith}
+use Rattle.shop_types.proofs.Common.{length-append, or_self, or-false, length-replicate, recursion_from_All, list_any-append, sum_by-cons, AllByRecursion}
+use Rattle.shop_types.proofs.Common.{list_any, lacks, Catalogue, is_film_withdrawn}
 use Rattle.std.specs.List.{All}
 use Rattle.branch_core.specs.declared.found.StockFound.{StockFound}
 use Rattle.branch_core.specs.StockLists.{films_of, copies_of}
@@ -25,7 +27,8 @@ any_film catalogue p q same (row ∷ rows) agree =
 pub any_withdrawn : (catalogue : Catalogue) (rows : List StockFound) → All (RowAgrees catalogue) rows
     → list_any (is_film_withdrawn catalogue) (films_of rows) ≡ list_any (λ (row : StockFound). row.is_withdrawn) rows
 any_withdrawn catalogue rows agree =
-    sym (any_film catalogue (is_film_withdrawn catalogue) (λ (row : StockFound). row.is_withdrawn) (λ row at. at.withdrawn) rows (recursion_from_All (RowAgrees catalogue) rows agree))
+    sym (any_film catalogue (is_film_withdrawn catalogue) (λ (row : StockFound). row.is_withdrawn)
+    (λ row at. at.withdrawn) rows (recursion_from_All (RowAgrees catalogue) rows agree))
 
 not_not : (b c : Bool) → b ≡ not c → not b ≡ c
 not_not b true is = ap not is
@@ -34,7 +37,8 @@ not_not b false is = ap not is
 pub any_unknown : (catalogue : Catalogue) (rows : List StockFound) → All (RowAgrees catalogue) rows
     → list_any (lacks catalogue.films) (films_of rows) ≡ list_any (λ (row : StockFound). not row.is_there) rows
 any_unknown catalogue rows agree = sym (
-    any_film catalogue (lacks catalogue.films) (λ (row : StockFound). not row.is_there) (λ row at. not_not row.is_there (lacks catalogue.films row.film) at.there) rows
+    any_film catalogue (lacks catalogue.films) (λ (row : StockFound). not row.is_there)
+    (λ row at. not_not row.is_there (lacks catalogue.films row.film) at.there) rows
     (recursion_from_All (RowAgrees catalogue) rows agree))
 
 pub length_films : (rows : List StockFound) → length (films_of rows) ≡ copies_of rows

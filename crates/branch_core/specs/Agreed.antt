@@ -1,5 +1,6 @@
 -- Says when the rows that were found for a command agree with a catalogue and a shop.
-use Rattle.std.specs.Prelude.{◌≡◌, ℕ, ◌==◌, ◌&&◌, ◌≤◌, Bool, false, Option, is_some, not, List, [], ◌∷◌, map, filter, length, option_map, IfSome, Result, Ok, Err, IfOk, Some, None}
+use Rattle.std.specs.Prelude.{◌≡◌, ℕ, ◌==◌, ◌&&◌, ◌≤◌, Bool, false, Option, is_some, not, List, [], ◌∷◌, map, filter, length, option_map, IfSome, Result, Ok}
+use Rattle.std.specs.Prelude.{Err, IfOk, Some, None}
 use Rattle.std.specs.List.{All, list_any}
 use Rattle.std.specs.Str.{bytes_eq}
 use Rattle.shop_model.specs.Calendar.{Moment, same_moment}

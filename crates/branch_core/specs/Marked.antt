@@ -41,7 +41,8 @@ arrival_parts it = (it.is_received, map seen_parcel_line it.lines)
 
 -- what was found is the one consignment of that source and number to the branch, if there is one
 abbrev pub IsArrival : ℕ → ℕ → ℕ → Option ArrivalFound → Books → Type 0
-IsArrival b source number found books = option_to_list (option_map arrival_parts found) ≡ map consignment_parts (filter (is_consignment source b number) books.consignments)
+IsArrival b source number found books =
+    option_to_list (option_map arrival_parts found) ≡ map consignment_parts (filter (is_consignment source b number) books.consignments)
 
 -- A dispatch has the lines that were made of the listed copies, if any were made. A receipt has the consignment that is to be received. Other acts name no
 -- films and marks.

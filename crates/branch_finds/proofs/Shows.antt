@@ -1,5 +1,6 @@
 -- Who has a copy, and whether it is in stock.
-use Rattle.shop_schema.proofs.Common.{◌≡◌, ◌∙◌, refl, sym, ap, inl, inr, arith, ℕ, ◌+◌, ◌-◌, ◌≤◌, Bool, true, false, not, List, [], ◌∷◌, map, Option, is_some, option_to_list, cases_Bool, nat_tests, at, Rental, keeps_out, in_stock, held_by}
+use Rattle.shop_schema.proofs.Common.{◌≡◌, ◌∙◌, refl, sym, ap, inl, inr, arith, ℕ, ◌+◌, ◌-◌, ◌≤◌, Bool, true, false, not, List, [], ◌∷◌, map, Option, is_some}
+use Rattle.shop_schema.proofs.Common.{option_to_list, cases_Bool, nat_tests, at, Rental, keeps_out, in_stock, held_by}
 use Rattle.std.specs.Prelude.{◌==◌}
 use Rattle.consign_finds.specs.Finds.{open_from}
 use Rattle.consign_finds.proofs.Outs.{twice, out_shown}
@@ -15,7 +16,8 @@ none_held k x (rental ∷ rentals) none = elim (cases_Bool (keeps_out x rental))
     empty e = cc
 
 -- the customer of the copy's only open rental
-held_from : (k n x : ℕ) (rentals : List Rental) → n ∷ [] ≡ open_from k x rentals → (k ≤ n) × (held_by x rentals ≡ map (λ (it : Rental). it.customer) (at (n + 1 - k) rentals))
+held_from : (k n x : ℕ) (rentals : List Rental) → n ∷ [] ≡ open_from k x rentals
+    → (k ≤ n) × (held_by x rentals ≡ map (λ (it : Rental). it.customer) (at (n + 1 - k) rentals))
 held_from k n x [] one = cc
 held_from k n x (rental ∷ rentals) one = elim (cases_Bool (keeps_out x rental)) [
   | inl is ↦
@@ -34,7 +36,9 @@ held_from k n x (rental ∷ rentals) one = elim (cases_Bool (keeps_out x rental)
 ]
 
 pub held_at : (n x : ℕ) (rentals : List Rental) → n ∷ [] ≡ open_from 1 x rentals → held_by x rentals ≡ map (λ (it : Rental). it.customer) (at n rentals)
-held_at n x rentals one = let place : n + 1 - 1 ≡ n = omega arith in (held_from 1 n x rentals one).1 ∙ ap (λ (m : ℕ). map (λ (it : Rental). it.customer) (at m rentals)) place
+held_at n x rentals one =
+    let place : n + 1 - 1 ≡ n = omega arith in (held_from 1 n x rentals one).1 ∙ ap (λ (m : ℕ). map (λ (it : Rental). it.customer) (at m rentals)) place
 
-pub stock_of_out : (x : ℕ) (rentals : List Rental) (out : Option ℕ) (is_in : Bool) → is_some out ≡ not is_in → option_to_list out ≡ open_from 1 x rentals → is_in ≡ in_stock x rentals
+pub stock_of_out : (x : ℕ) (rentals : List Rental) (out : Option ℕ) (is_in : Bool)
+    → is_some out ≡ not is_in → option_to_list out ≡ open_from 1 x rentals → is_in ≡ in_stock x rentals
 stock_of_out x rentals out is_in none is = twice is_in ∙ ap not (sym none ∙ out_shown x rentals out is) ∙ sym (twice (in_stock x rentals))

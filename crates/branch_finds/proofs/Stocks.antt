@@ -1,5 +1,6 @@
 -- Lemmas about what is found of the films of a stock file.
-use Rattle.shop_schema.proofs.Common.{◌≡◌, ◌∙◌, refl, sym, ap, ℕ, ◌+◌, ◌<◌, List, [], ◌∷◌, ◌++◌, length, map, take, get_or, replicate, Bool, Option, All, map_more, map_push, take_more, at, Catalogue, head}
+use Rattle.shop_schema.proofs.Common.{◌≡◌, ◌∙◌, refl, sym, ap, ℕ, ◌+◌, ◌<◌, List, [], ◌∷◌, ◌++◌, length, map, take, get_or, replicate, Bool, Option, All}
+use Rattle.shop_schema.proofs.Common.{map_more, map_push, take_more, at, Catalogue, head}
 use Rattle.std.proofs.lemmas.List.Elements.{All-map, All-weaker}
 use Rattle.stock_csv.specs.declared.StockRow.{StockRow}
 use Rattle.stock_csv.specs.Stock.{films_of, IsStockRow, IsStock}
@@ -16,10 +17,17 @@ pub film_found : (catalogue : Catalogue) (row : StockRow) (withdrawn : Option Bo
     → told_row row withdrawn ≡ found_row catalogue row
 film_found catalogue row withdrawn told =
     (λ i. told_row row (told i))
-    ∙ (λ i. record { film = row.film; copies = row.copies; is_there = some_there withdrawn_of (at row.film catalogue.films) i; is_withdrawn = sym (at_most_one row.film catalogue.films) i })
+    ∙ (λ i.
+    record {
+      film = row.film;
+      copies = row.copies;
+      is_there = some_there withdrawn_of (at row.film catalogue.films) i;
+      is_withdrawn = sym (at_most_one row.film catalogue.films) i;
+    })
 
 -- one row of the file more
-pub row_found : (catalogue : Catalogue) (rows : List StockRow) (i : ℕ) (row : StockRow) (found : List StockFound) (withdrawn : Option Bool) → i < length rows → row ≡ get_or rows i row
+pub row_found : (catalogue : Catalogue) (rows : List StockRow) (i : ℕ) (row : StockRow) (found : List StockFound) (withdrawn : Option Bool)
+    → i < length rows → row ≡ get_or rows i row
     → withdrawn ≡ head (map withdrawn_of (at row.film catalogue.films)) → found ≡ map (found_row catalogue) (take i rows)
     → found ++ told_row row withdrawn ∷ [] ≡ map (found_row catalogue) (take (i + 1) rows)
 row_found catalogue rows i row found withdrawn lt is told before =
@@ -43,4 +51,5 @@ row_agrees catalogue row is = record { some = is.copies_low; there = refl; withd
 
 pub rows_agree : (catalogue : Catalogue) (rows : List StockRow) → IsStock rows → All (RowAgrees catalogue) (map (found_row catalogue) rows)
 rows_agree catalogue rows is =
-    All-map (RowAgrees catalogue) (found_row catalogue) rows (All-weaker IsStockRow (λ (row : StockRow). RowAgrees catalogue (found_row catalogue row)) (row_agrees catalogue) rows is.each)
+    All-map (RowAgrees catalogue) (found_row catalogue) rows
+    (All-weaker IsStockRow (λ (row : StockRow). RowAgrees catalogue (found_row catalogue row)) (row_agrees catalogue) rows is.each)

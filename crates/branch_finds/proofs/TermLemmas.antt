@@ -1,6 +1,7 @@
 -- What is found of a copy's film gives the terms of a rental.
 use Rattle.std.proofs.Common.{flat_map}
-use Rattle.shop_schema.proofs.Common.{◌≡◌, ◌∙◌, refl, sym, ap, inl, inr, ℕ, List, [], ◌∷◌, map, append-nil, Bool, Option, Some, None, option_map, option_to_list, at, at_one, Copy, Film, Terms, Catalogue, Shop, head, film_terms, terms_now, seen_terms}
+use Rattle.shop_schema.proofs.Common.{◌≡◌, ◌∙◌, refl, sym, ap, inl, inr, ℕ, List, [], ◌∷◌, map, append-nil, Bool, Option, Some, None, option_map}
+use Rattle.shop_schema.proofs.Common.{option_to_list, at, at_one, Copy, Film, Terms, Catalogue, Shop, head, film_terms, terms_now, seen_terms}
 use Rattle.chain_caches.specs.declared.films.KnownFilm.{KnownFilm}
 use Rattle.chain_caches.specs.Films.{known_of, seen_known}
 use Rattle.shop_store.specs.SharedSeen.{withdrawn_of}
@@ -18,10 +19,12 @@ known_told f None (film ∷ films) is = cc
 known_told f (Some it) [] is = cc
 known_told f (Some it) (film ∷ films) is = ap (option_map f) is
 
-pub terms_told : (o : Option KnownFilm) (films : List Film) → option_map seen_known o ≡ head (map known_of films) → option_map (λ (it : KnownFilm). seen_terms it.terms) o ≡ head (map film_terms films)
+pub terms_told : (o : Option KnownFilm) (films : List Film) → option_map seen_known o ≡ head (map known_of films)
+    → option_map (λ (it : KnownFilm). seen_terms it.terms) o ≡ head (map film_terms films)
 terms_told = known_told (λ it. it.0)
 
-pub withdrawn_told : (o : Option KnownFilm) (films : List Film) → option_map seen_known o ≡ head (map known_of films) → option_map (λ (it : KnownFilm). it.withdrawn) o ≡ head (map withdrawn_of films)
+pub withdrawn_told : (o : Option KnownFilm) (films : List Film) → option_map seen_known o ≡ head (map known_of films)
+    → option_map (λ (it : KnownFilm). it.withdrawn) o ≡ head (map withdrawn_of films)
 withdrawn_told = known_told (λ it. it.1)
 
 -- ---- terms
@@ -36,7 +39,8 @@ one_told t (film ∷ []) is one = ap option_to_list (sym is)
 one_told t (film ∷ other ∷ films) is one = cc
 
 -- the terms of a rental of the copy are the terms of its film
-pub copy_terms : (catalogue : Catalogue) (shop : Shop) (x : ℕ) (copy : Copy) (t : Terms) → copy ∷ [] ≡ at x shop.copies → Some t ≡ head (map film_terms (at copy.film catalogue.films))
+pub copy_terms : (catalogue : Catalogue) (shop : Shop) (x : ℕ) (copy : Copy) (t : Terms)
+    → copy ∷ [] ≡ at x shop.copies → Some t ≡ head (map film_terms (at copy.film catalogue.films))
     → terms_now catalogue shop x ≡ t ∷ []
 copy_terms catalogue shop x copy t found told =
     ap (λ (copies : List Copy). map film_terms (films_at catalogue.films copies)) (sym found)

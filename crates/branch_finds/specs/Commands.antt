@@ -32,4 +32,5 @@ as_listed found = record { film = found.film; copies = found.copies }
 
 -- what was found of the key is what the branch has under the key
 abbrev pub IsKeptFor : ℕ → Command → Option KeptFound → Books → Type 0
-IsKeptFor b command kept books = option_map seen_kept kept ≡ head (map (kept_for command) (filter (λ it. bytes_eq it.command.key command.key) (owned_by b books.kept)))
+IsKeptFor b command kept books =
+    option_map seen_kept kept ≡ head (map (kept_for command) (filter (λ it. bytes_eq it.command.key command.key) (owned_by b books.kept)))

@@ -20,5 +20,6 @@ module _ (b : ℕ) (ask : Ask) (books : Books) where
   shown_answered it there shown = λ rules. subst (λ (answer : Answer). Gives answer b it books) (sym (told_there rules there)) shown
 
   -- a branch that isn't there has one answer to all its readings
-  pub nobody_answered : (it : Answered) → lacks books.catalogue.branches b ≡ true → seen_reply it.reply ≡ answer_of (Sorry NoCounter) → it.is_changed ≡ false → IsAnswered b ask (work.Answered it) books
+  pub nobody_answered : (it : Answered) → lacks books.catalogue.branches b ≡ true
+      → seen_reply it.reply ≡ answer_of (Sorry NoCounter) → it.is_changed ≡ false → IsAnswered b ask (work.Answered it) books
   nobody_answered it none is same = λ rules. subst (λ (answer : Answer). Gives answer b (work.Answered it) books) (sym (told_nobody rules none)) (is, same)

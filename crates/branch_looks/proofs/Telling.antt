@@ -1,5 +1,6 @@
 -- What holds of a reply holds of the work that is made of the reply.
-use Rattle.shop_schema.proofs.Common.{◌≡◌, refl, sym, subst, ℕ, Result, Ok, Err, Bool, true, false, IsOk, IfOk, MutBor, Ghosts, Held, State, DoesWithin, inside_when, within_of, within_when, Ask, seen_reply}
+use Rattle.shop_schema.proofs.Common.{◌≡◌, refl, sym, subst, ℕ, Result, Ok, Err, Bool, true, false, IsOk, IfOk, MutBor, Ghosts, Held, State, DoesWithin}
+use Rattle.shop_schema.proofs.Common.{inside_when, within_of, within_when, Ask, seen_reply}
 use Rattle.shop_types.specs.declared.reply.Reply.{Reply}
 use Rattle.shop_ledger.specs.Calls.{Finds}
 use Rattle.branch_reports.specs.Told.{IsDecision}
@@ -13,7 +14,8 @@ module _ {E : Type 0} where
   was_told (Ok x) ok = refl
   was_told (Err e) ok = ok
 
-  told_says : (r : Result Reply E) (b : ℕ) (ask : Ask) (old new : State) → IfOk r (λ it. Tells b ask it old new) → IfOk (told_of r) (λ it. Finds (IsShown b ask it) old new)
+  told_says : (r : Result Reply E) (b : ℕ) (ask : Ask) (old new : State)
+      → IfOk r (λ it. Tells b ask it old new) → IfOk (told_of r) (λ it. Finds (IsShown b ask it) old new)
   told_says (Ok it) b ask old new tells = λ books holds held. let found = tells books holds held in (found.0, (found.1, refl))
   told_says (Err e) b ask old new tells = tt
 
@@ -23,9 +25,11 @@ module _ {E : Type 0} where
 
 module _ {S E : Type 0} {g : Ghosts S} {a b : MutBor (Held S)} where
   -- a reading is answered, whether or not it reads a row
-  pub told_look : {branch : ℕ} {ask : Ask} (r : Result Reply E) {work : Result (Work Listing) E} → work ≡ told_of r → DoesBy (reads_row ask) g a b r (Tells branch ask)
+  pub told_look : {branch : ℕ} {ask : Ask} (r : Result Reply E) {work : Result (Work Listing) E}
+      → work ≡ told_of r → DoesBy (reads_row ask) g a b r (Tells branch ask)
       → IfOk r (λ it. IsDecision (seen_reply it)) → LooksAt g branch ask a b work
-  told_look {branch = branch} {ask = ask} r is one decided = subst (LooksAt g branch ask a b) (sym is) (record { does = by (reads_row ask) one; decided = told_decided r decided })
+  told_look {branch = branch} {ask = ask} r is one decided =
+      subst (LooksAt g branch ask a b) (sym is) (record { does = by (reads_row ask) one; decided = told_decided r decided })
     where
       by : (is_read : Bool) → DoesBy is_read g a b r (Tells branch ask) → DoesBy is_read g a b (told_of r) (λ it. Finds (IsShown branch ask it))
       by true one = record { inside = inside_when one.inside (was_told r); says = λ clean. told_says r branch ask _ _ (one.says clean) }

@@ -1,5 +1,6 @@
 -- An answer to what was done or read, and a refusal, are decisions on any disk.
-use Rattle.shop_schema.proofs.Common.{◌≡◌, ◌≢◌, ◌∙◌, ℕ, Bool, inl, inr, refl, ap, true, false, not, eqb-true, Text, Problem, problem_status, Answer, accepted_answer, problem_answer, is_decided}
+use Rattle.shop_schema.proofs.Common.{◌≡◌, ◌≢◌, ◌∙◌, ℕ, Bool, inl, inr, refl, ap, true, false, not, eqb-true, Text, Problem, problem_status, Answer}
+use Rattle.shop_schema.proofs.Common.{accepted_answer, problem_answer, is_decided}
 use Rattle.std.specs.Prelude.{◌==◌}
 use Rattle.branch_reports.specs.Told.{IsDecision}
 
@@ -16,7 +17,8 @@ refused_told answer problem is decided = record {
 }
 
 -- any refusal is a decision, except with the store's status
-pub refused_by : (answer : Answer) (problem : Problem) (status : ℕ) → answer ≡ problem_answer problem → status ≡ problem_status problem → status ≢ 503 → IsDecision answer
+pub refused_by : (answer : Answer) (problem : Problem) (status : ℕ) → answer ≡ problem_answer problem
+    → status ≡ problem_status problem → status ≢ 503 → IsDecision answer
 refused_by answer problem status is told other = refused_told answer problem is (by_test (problem_status problem == 503) refl)
   where
     by_test : (is_stores : Bool) → (problem_status problem == 503) ≡ is_stores → not is_stores ≡ true

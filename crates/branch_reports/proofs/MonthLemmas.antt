@@ -1,5 +1,8 @@
 -- The month before a moment's month is the time between the first seconds of both months.
-use Rattle.shop_schema.proofs.Common.{◌≡◌, ◌∙◌, refl, sym, ap, arith, ℕ, ℤ, pos, suc, ◌+◌, ◌*◌, ◌<◌, ◌≤◌, List, [], ◌∷◌, map, filter, Bool, true, false, cond, Option, Some, None, option_map, nat_lt, nat_le, int_le, if◌then◌else◌, AllByRecursion, nat_tests, all-filter, Moment, is_leap_year, days_in_year, days_in_month, is_by, is_earlier, month_days, month_before, Row, is_of, of, Payment, Shop, Books, rewarded_in, IsRow, IsPayment, IsHeld, Payments}
+use Rattle.shop_schema.proofs.Common.{◌≡◌, ◌∙◌, refl, sym, ap, arith, ℕ, ℤ, pos, suc, ◌+◌, ◌*◌, ◌<◌, ◌≤◌, List, [], ◌∷◌, map, filter, Bool, true, false, cond}
+use Rattle.shop_schema.proofs.Common.{Option, Some, None, option_map, nat_lt, nat_le, int_le, if◌then◌else◌, AllByRecursion, nat_tests, all-filter, Moment}
+use Rattle.shop_schema.proofs.Common.{is_leap_year, days_in_year, days_in_month, is_by, is_earlier, month_days, month_before, Row, is_of, of, Payment, Shop}
+use Rattle.shop_schema.proofs.Common.{Books, rewarded_in, IsRow, IsPayment, IsHeld, Payments}
 use Rattle.std.specs.Prelude.{◌-◌, ◌==◌, ◌&&◌, ◌||◌}
 use Rattle.std.proofs.lemmas.Int.{ints}
 use Rattle.shop_model.specs.Calendar.{days_of_years, days_of_months, day_number, day_of, seconds_of}
@@ -61,20 +64,23 @@ next_year year h =
 abbrev Bounds : ℕ × ℕ → Moment → Moment → Type 0
 Bounds days start end = (seconds_of start ≡ days.0 * 86_400) × (seconds_of end ≡ (days.1 + 1) * 86_400)
 
-bounds_of : (days : ℕ × ℕ) (y m year month : ℕ) → days ≡ month_days y m → day_number year month 1 ≡ day_number y m (days_in_month y m) + 1 → Bounds days (month_start y m) (month_start year month)
+bounds_of : (days : ℕ × ℕ) (y m year month : ℕ) → days ≡ month_days y m
+    → day_number year month 1 ≡ day_number y m (days_in_month y m) + 1 → Bounds days (month_start y m) (month_start year month)
 bounds_of days y m year month is next = (
   start_is y m ∙ ap (λ (it : ℕ × ℕ). it.0 * 86_400) (sym is),
   start_is year month ∙ ap (λ (n : ℕ). n * 86_400) (next ∙ ap (λ (it : ℕ × ℕ). it.1 + 1) (sym is)),
 )
 
-pub bounds_within : (at : Moment) (days : ℕ × ℕ) → 1 < at.month → month_before at ≡ Some days → Bounds days (month_start at.year (at.month - 1)) (month_start at.year at.month)
+pub bounds_within : (at : Moment) (days : ℕ × ℕ) → 1 < at.month → month_before at ≡ Some days
+    → Bounds days (month_start at.year (at.month - 1)) (month_start at.year at.month)
 bounds_within at days h is =
     let test : nat_lt 1 at.month ≡ true = grind (arith, nat_tests) in
     let found : Some (month_days at.year (at.month - 1)) ≡ Some days = rw test at is in
     let same : days ≡ month_days at.year (at.month - 1) = cc in
     bounds_of days at.year (at.month - 1) at.year at.month same (next_month at.year at.month h)
 
-pub bounds_before : (at : Moment) (days : ℕ × ℕ) → at.month ≡ 1 → 1970 < at.year → month_before at ≡ Some days → Bounds days (month_start (at.year - 1) 12) (month_start at.year at.month)
+pub bounds_before : (at : Moment) (days : ℕ × ℕ) → at.month ≡ 1 → 1970 < at.year
+    → month_before at ≡ Some days → Bounds days (month_start (at.year - 1) 12) (month_start at.year at.month)
 bounds_before at days first h is =
     let test : nat_lt 1 at.month ≡ false = grind (arith, nat_tests) in
     let also : nat_lt 1970 at.year ≡ true = grind (arith, nat_tests) in
@@ -103,7 +109,8 @@ module _ (month : ℤ × ℤ) (days : ℕ × ℕ) (start end : Moment) (are : mo
       let high = ap (λ (n : ℕ). nat_lt (day_of it.paid * 86_400 + time) n) bounds.1 ∙ to_day days.1 (day_of it.paid) time few in
       (λ i. low i && high i) ∙ ap (λ (m : ℤ × ℤ). is_paid_in m it) (sym are)
 
-  same_days : (own : List (Row Payment)) → AllByRecursion (IsRow IsPayment) own → filter by_time (map (λ (row : Row Payment). row.it) own) ≡ filter (is_paid_in month) (map (λ (row : Row Payment). row.it) own)
+  same_days : (own : List (Row Payment)) → AllByRecursion (IsRow IsPayment) own
+      → filter by_time (map (λ (row : Row Payment). row.it) own) ≡ filter (is_paid_in month) (map (λ (row : Row Payment). row.it) own)
   same_days [] all = refl
   same_days (row ∷ own) all =
       let rest = same_days own all.1 in
@@ -117,7 +124,8 @@ pub of_the_month : (b : ℕ) (month : ℤ × ℤ) (days : Option (ℕ × ℕ)) (
 of_the_month b month None start end are bounds books held = cc
 of_the_month b month (Some days) start end are bounds books held =
     let same : month ≡ seen_days days = cc in
-    same_days month days start end same (bounds days refl) (filter (is_of b) books.payments) (all-filter (IsRow IsPayment) (is_of b) books.payments (held.values.rows Payments))
+    same_days month days start end same (bounds days refl) (filter (is_of b) books.payments)
+    (all-filter (IsRow IsPayment) (is_of b) books.payments (held.values.rows Payments))
 
 pub no_month : (days : Option (ℕ × ℕ)) (shop : Shop) (purchases cents : ℕ) → None ≡ option_map seen_days days → [] ≡ rewarded_in days shop purchases cents
 no_month None shop purchases cents none = refl

@@ -1,5 +1,10 @@
 -- Lemmas about rewarded customers: one payment or customer more, the payments of the month alone, and the customers by number.
-use Rattle.shop_schema.proofs.Common.{◌≡◌, ◌≢◌, ◌∙◌, refl, sym, ap, inl, inr, arith, ℕ, ℤ, suc, ◌+◌, ◌<◌, ◌≤◌, List, [], ◌∷◌, ◌++◌, length, map, filter, take, get_or, subst, cond, Ordering, Less, Equal, Greater, append_assoc, append-nil, Bool, true, false, Option, Some, None, option_map, codes, decimal, nat_lt, sum_by, if◌then◌else◌, cases_Bool, nat_tests, map_more, sum_by-append, sum_by-cons, nat_cmp_is, nat_cmp, numbered, numbered_from, Moment, Text, Payment, Rewards, numbers_text, object, Answer, answer_of, accepted_answer, Catalogue, Shop, rewarded_in, rewarded, Shows, CustomersAre, look, one_more, more_yes, more_no, differ_test, same_test}
+use Rattle.shop_schema.proofs.Common.{◌≡◌, ◌≢◌, ◌∙◌, refl, sym, ap, inl, inr, arith, ℕ, ℤ, suc, ◌+◌, ◌<◌, ◌≤◌, List, [], ◌∷◌, ◌++◌, length, map, filter, take}
+use Rattle.shop_schema.proofs.Common.{get_or, subst, cond, Ordering, Less, Equal, Greater, append_assoc, append-nil, Bool, true, false, Option, Some, None}
+use Rattle.shop_schema.proofs.Common.{option_map, codes, decimal, nat_lt, sum_by, if◌then◌else◌, cases_Bool, nat_tests, map_more, sum_by-append, sum_by-cons}
+use Rattle.shop_schema.proofs.Common.{nat_cmp_is, nat_cmp, numbered, numbered_from, Moment, Text, Payment, Rewards, numbers_text, object, Answer, answer_of}
+use Rattle.shop_schema.proofs.Common.{accepted_answer, Catalogue, Shop, rewarded_in, rewarded, Shows, CustomersAre, look, one_more, more_yes, more_no}
+use Rattle.shop_schema.proofs.Common.{differ_test, same_test}
 use Rattle.std.specs.Prelude.{◌==◌, ◌&&◌, ◌*◌}
 use Rattle.std.proofs.lemmas.List.{length-append}
 use Rattle.std.proofs.lemmas.Map.Lookups.{exact_unsigned}
@@ -20,7 +25,8 @@ is_equal Greater is = cc
 
 -- ---- one row more of a list that is filtered row by row
 
-pub taken : {A B : Type 0} (f : A → B) (rows : List A) (i : ℕ) (row : A) → i < length rows → row ≡ get_or rows i row → map f (take (i + 1) rows) ≡ map f (take i rows) ++ f row ∷ []
+pub taken : {A B : Type 0} (f : A → B) (rows : List A) (i : ℕ) (row : A) → i < length rows
+    → row ≡ get_or rows i row → map f (take (i + 1) rows) ≡ map f (take i rows) ++ f row ∷ []
 taken {A = A} f rows i row lt is = map_more f rows i row lt ∙ ap (λ (r : A). map f (take i rows) ++ f r ∷ []) (sym is)
 
 -- ---- one customer more
@@ -69,7 +75,9 @@ in_month month c (it ∷ payments) = let rest = in_month month c payments in eli
 month_alone : (month : ℤ × ℤ) (purchases cents n : ℕ) (payments : List Payment)
     → rewarded_numbers month purchases cents n (filter (is_paid_in month) payments) ≡ rewarded_numbers month purchases cents n payments
 month_alone month purchases cents n payments =
-    λ i. filter (λ (c : ℕ). nat_lt purchases (length (in_month month c payments i)) && nat_lt cents (sum_by amount_of (in_month month c payments i))) (numbers_to n)
+    λ i.
+    filter (λ (c : ℕ). nat_lt purchases (length (in_month month c payments i)) && nat_lt cents (sum_by amount_of (in_month month c payments i)))
+    (numbers_to n)
 
 -- ---- the customers by number
 
@@ -95,11 +103,15 @@ rewarded_are : (month : ℤ × ℤ) (days : Option (ℕ × ℕ)) (shop : Shop) (
 rewarded_are month None shop purchases cents is = cc
 rewarded_are month (Some days) shop purchases cents is =
     let same : month ≡ seen_days days = cc in
-    λ i. filter (λ (c : ℕ). passes_are shop c days month purchases cents (map paid_of (filter (λ (it : Payment). it.customer == c) shop.payments)) same refl i) (sym (numbers_are shop.customers) i)
+    λ i.
+    filter (λ (c : ℕ). passes_are shop c days month purchases cents (map paid_of (filter (λ (it : Payment). it.customer == c) shop.payments)) same refl i)
+    (sym (numbers_are shop.customers) i)
 
 -- the customers found by the count of customers and by the payments of the month are the customers that the model names
-pub found_are : (month : ℤ × ℤ) (days : Option (ℕ × ℕ)) (shop : Shop) (purchases cents n : ℕ) (payments : List Payment) (numbers : List ℕ) → Some month ≡ option_map seen_days days
-    → n ≡ length shop.customers → payments ≡ filter (is_paid_in month) shop.payments → numbers ≡ rewarded_numbers month purchases cents n payments → numbers ≡ rewarded_in days shop purchases cents
+pub found_are : (month : ℤ × ℤ) (days : Option (ℕ × ℕ)) (shop : Shop) (purchases cents n : ℕ) (payments : List Payment) (numbers : List ℕ)
+    → Some month ≡ option_map seen_days days
+    → n ≡ length shop.customers → payments ≡ filter (is_paid_in month) shop.payments
+    → numbers ≡ rewarded_numbers month purchases cents n payments → numbers ≡ rewarded_in days shop purchases cents
 found_are month days shop purchases cents n payments numbers is count of_month found =
     found ∙ (λ i. rewarded_numbers month purchases cents (count i) (of_month i)) ∙ month_alone month purchases cents (length shop.customers) shop.payments
     ∙ rewarded_are month days shop purchases cents is
@@ -114,8 +126,11 @@ good_thresholds : (b : ℕ) (catalogue : Catalogue) (shop : Shop) (moment : Mome
 good_thresholds b catalogue shop moment purchases cents some some_cents = rw (some_high purchases some, some_high cents some_cents) refl
 
 -- an answer whose body lists the customers is the model's answer
-pub rewards_told : (b : ℕ) (catalogue : Catalogue) (shop : Shop) (moment : Moment) (purchases cents : ℕ) (found numbers : List ℕ) (body : Text) (answer : Answer) → purchases ≢ 0 → cents ≢ 0
-    → numbers ≡ found → found ≡ rewarded shop moment purchases cents → body ≡ object ((codes "count", decimal (length numbers)) ∷ (codes "customers", numbers_text numbers) ∷ []) → answer ≡ accepted_answer body
+pub rewards_told :
+    (b : ℕ) (catalogue : Catalogue) (shop : Shop) (moment : Moment) (purchases cents : ℕ) (found numbers : List ℕ) (body : Text) (answer : Answer)
+    → purchases ≢ 0 → cents ≢ 0
+    → numbers ≡ found → found ≡ rewarded shop moment purchases cents
+    → body ≡ object ((codes "count", decimal (length numbers)) ∷ (codes "customers", numbers_text numbers) ∷ []) → answer ≡ accepted_answer body
     → answer ≡ answer_of (look b catalogue shop (Rewards moment purchases cents))
 rewards_told b catalogue shop moment purchases cents found numbers body answer some some_cents same named listed told =
     told ∙ ap accepted_answer listed ∙ ap (λ (ns : List ℕ). answer_of (Shows (CustomersAre ns))) (same ∙ named)
@@ -148,44 +163,53 @@ paid_own month c payments it own on =
     ap (filter (is_on month)) (more_yes paid_of (λ (p : Payment). p.customer == c) payments it own)
     ∙ one_more (is_on month) (map paid_of (filter (λ (p : Payment). p.customer == c) payments)) (paid_of it) ∙ rw on refl
 
-paid_off : (month : ℤ × ℤ) (c : ℕ) (payments : List Payment) (it : Payment) → is_on month (paid_of it) ≡ false → paid_in month c (payments ++ it ∷ []) ≡ paid_in month c payments
+paid_off : (month : ℤ × ℤ) (c : ℕ) (payments : List Payment) (it : Payment)
+    → is_on month (paid_of it) ≡ false → paid_in month c (payments ++ it ∷ []) ≡ paid_in month c payments
 paid_off month c payments it off = elim (cases_Bool (it.customer == c)) [
   | inl own ↦ ap (filter (is_on month)) (more_yes paid_of (λ (p : Payment). p.customer == c) payments it own)
       ∙ one_more (is_on month) (map paid_of (filter (λ (p : Payment). p.customer == c) payments)) (paid_of it) ∙ rw off refl
   | inr other ↦ paid_other month c payments it other
 ]
   where
-    paid_other : (month : ℤ × ℤ) (c : ℕ) (payments : List Payment) (it : Payment) → (it.customer == c) ≡ false → paid_in month c (payments ++ it ∷ []) ≡ paid_in month c payments
+    paid_other : (month : ℤ × ℤ) (c : ℕ) (payments : List Payment) (it : Payment)
+        → (it.customer == c) ≡ false → paid_in month c (payments ++ it ∷ []) ≡ paid_in month c payments
     paid_other month c payments it other = ap (filter (is_on month)) (more_no paid_of (λ (p : Payment). p.customer == c) payments it other)
 
 -- a payment of another day changes no sum
-pub sums_same : (month : ℤ × ℤ) (sums : BTreeMap ℕ PaidSum) (payments : List Payment) (it : Payment) → AreSummed month sums payments → is_on month (paid_of it) ≡ false
+pub sums_same : (month : ℤ × ℤ) (sums : BTreeMap ℕ PaidSum) (payments : List Payment) (it : Payment)
+    → AreSummed month sums payments → is_on month (paid_of it) ≡ false
     → AreSummed month sums (payments ++ it ∷ [])
 sums_same month sums payments it are off = λ c.
     are c ∙ ap summed (sym (paid_off month c payments it off))
 
 -- a payment of the month changes only its customer's sum
-pub sums_more : (month : ℤ × ℤ) (old new : BTreeMap ℕ PaidSum) (payments : List Payment) (it : Payment) → AreSummed month old payments → is_on month (paid_of it) ≡ true
+pub sums_more : (month : ℤ × ℤ) (old new : BTreeMap ℕ PaidSum) (payments : List Payment) (it : Payment)
+    → AreSummed month old payments → is_on month (paid_of it) ≡ true
     → Updates nat_cmp old new it.customer (Some (one_paid it.amount (get nat_cmp old it.customer))) → AreSummed month new (payments ++ it ∷ [])
 sums_more month old new payments it are on updates = λ c.
     elim (cases_Bool (it.customer == c)) [
       | inl own ↦
           let same : it.customer ≡ c = grind (arith, nat_tests) in
           let there : get nat_cmp new it.customer ≡ Some (one_paid it.amount (get nat_cmp old it.customer)) =
-          updates.0 it.customer ∙ ap (λ (o : Ordering). cond (is_eq o) (Some (one_paid it.amount (get nat_cmp old it.customer))) (get nat_cmp old it.customer)) (sym (nat_cmp_is it.customer it.customer Equal refl)) in
+          updates.0 it.customer
+          ∙ ap (λ (o : Ordering). cond (is_eq o) (Some (one_paid it.amount (get nat_cmp old it.customer))) (get nat_cmp old it.customer))
+          (sym (nat_cmp_is it.customer it.customer Equal refl)) in
           let more : PaidSum → PaidSum = λ sum. record { purchases = sum.purchases + 1; cents = sum.cents + it.amount } in
           let before = are it.customer in
           ap (λ (n : ℕ). sum_or_none (get nat_cmp new n)) (sym same) ∙ ap sum_or_none there ∙ ap more before
-          ∙ sym (one_longer (paid_in month it.customer payments) (paid_of it)) ∙ ap summed (sym (paid_own month it.customer payments it (same_test it.customer) on))
+          ∙ sym (one_longer (paid_in month it.customer payments) (paid_of it))
+          ∙ ap summed (sym (paid_own month it.customer payments it (same_test it.customer) on))
           ∙ ap (λ (n : ℕ). summed (paid_in month n (payments ++ it ∷ []))) same
       | inr other ↦
           let differ : is_at (nat_cmp it.customer) c ≡ false = apart it.customer c other in
-          ap sum_or_none (updates.2 c differ) ∙ are c ∙ ap summed (sym (ap (filter (is_on month)) (more_no paid_of (λ (p : Payment). p.customer == c) payments it other)))
+          ap sum_or_none (updates.2 c differ) ∙ are c
+          ∙ ap summed (sym (ap (filter (is_on month)) (more_no paid_of (λ (p : Payment). p.customer == c) payments it other)))
     ]
 
 -- ---- bounds of the sums
 
-weaker : (n m : ℕ) (sum : Option PaidSum) → n ≤ m → IfSome sum (λ it. (it.purchases ≤ n) × (it.cents ≤ 99999 * n)) → IfSome sum (λ it. (it.purchases ≤ m) × (it.cents ≤ 99999 * m))
+weaker : (n m : ℕ) (sum : Option PaidSum) → n ≤ m → IfSome sum (λ it. (it.purchases ≤ n) × (it.cents ≤ 99999 * n))
+    → IfSome sum (λ it. (it.purchases ≤ m) × (it.cents ≤ 99999 * m))
 weaker n m None le small = tt
 weaker n m (Some sum) le small = let few = small.0 in let low = small.1 in (omega (arith, few, le), omega (arith, low, le))
 

@@ -43,7 +43,8 @@ one_paid amount sum = record { purchases = (sum_or_none sum).purchases + 1; cent
 
 -- each customer's sum is of the customer's payments in the month
 abbrev pub AreSummed : ℤ × ℤ → BTreeMap ℕ PaidSum → List Payment → Type 0
-AreSummed month sums payments = (c : ℕ) → sum_or_none (get nat_cmp sums c) ≡ record { purchases = length (paid_in month c payments); cents = sum_by amount_of (paid_in month c payments) }
+AreSummed month sums payments =
+    (c : ℕ) → sum_or_none (get nat_cmp sums c) ≡ record { purchases = length (paid_in month c payments); cents = sum_by amount_of (paid_in month c payments) }
 
 -- no sum is of more than so many payments, each of at most 999.99
 abbrev pub AreSmall : ℕ → BTreeMap ℕ PaidSum → Type 0

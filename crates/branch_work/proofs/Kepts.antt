@@ -1,5 +1,7 @@
 -- Lemmas about what is found under a key: by the stored form of the command, and by the command itself.
-use Rattle.shop_schema.proofs.Common.{[], inl, inr, cases_Bool, All-map, All-weaker, all-filter, ◌≡◌, ◌∙◌, refl, ap, ℕ, true, List, ◌∷◌, map, filter, Option, Some, option_map, AllByRecursion, bytes_eq, bytes_eq-Decides, IsMoment, Owned, owned_by, Command, Kept, same_command, head, command_form, IsKept}
+use Rattle.shop_schema.proofs.Common.{[], inl, inr, cases_Bool, All-map, All-weaker, all-filter, ◌≡◌, ◌∙◌, refl, ap, ℕ, true, List, ◌∷◌, map, filter, Option}
+use Rattle.shop_schema.proofs.Common.{Some, option_map, AllByRecursion, bytes_eq, bytes_eq-Decides, IsMoment, Owned, owned_by, Command, Kept, same_command}
+use Rattle.shop_schema.proofs.Common.{head, command_form, IsKept}
 use Rattle.std.specs.Prelude.{◌==◌}
 use Rattle.shop_schema.proofs.OneToOne.{forms_are_one_to_one}
 use Rattle.shop_schema.proofs.OfficeOneToOne.{same_truth}
@@ -13,10 +15,12 @@ owned_real : (b : ℕ) (rows : List (Owned Kept)) → AllByRecursion IsKept rows
 unfolding IsReal
 owned_real b rows all =
     All-map IsReal (λ (row : Owned Kept). row.it) (filter (λ row. row.owner == b) rows)
-    (all-filter (λ (row : Owned Kept). IsReal row.it) (λ row. row.owner == b) rows (All-weaker IsKept (λ (row : Owned Kept). IsReal row.it) (λ row such. such.1.moment) rows all))
+    (all-filter (λ (row : Owned Kept). IsReal row.it) (λ row. row.owner == b) rows
+    (All-weaker IsKept (λ (row : Owned Kept). IsReal row.it) (λ row such. such.1.moment) rows all))
 
 -- under one key, the stored forms are the same exactly if the commands are the same
-one_told : (command : Command) (form : List ℕ) (kept : Kept) → form ≡ command_form command → IsMoment command.moment → IsReal kept → bytes_eq kept.command.key command.key ≡ true
+one_told : (command : Command) (form : List ℕ) (kept : Kept) → form ≡ command_form command
+    → IsMoment command.moment → IsReal kept → bytes_eq kept.command.key command.key ≡ true
     → by_form form (stored_kept kept) ≡ kept_for command kept
 unfolding IsReal
 one_told command form kept is real moment key =
@@ -35,7 +39,9 @@ first_told command form (kept ∷ kepts) is real all = elim (cases_Bool (bytes_e
   | inr other ↦ rw other (first_told command form kepts is real all.1)
 ]
 
-pub kept_told : (b : ℕ) (command : Command) (form : List ℕ) (found : Option (List ℕ × List ℕ)) (rows : List (Owned Kept)) → form ≡ command_form command → IsMoment command.moment → AllByRecursion IsKept rows
+pub kept_told : (b : ℕ) (command : Command) (form : List ℕ) (found : Option (List ℕ × List ℕ)) (rows : List (Owned Kept))
+    → form ≡ command_form command → IsMoment command.moment → AllByRecursion IsKept rows
     → found ≡ head (map stored_kept (filter (λ (k : Kept). bytes_eq k.command.key command.key) (owned_by b rows)))
     → option_map (by_form form) found ≡ head (map (kept_for command) (filter (λ (k : Kept). bytes_eq k.command.key command.key) (owned_by b rows)))
-kept_told b command form found rows is real all told = ap (λ (o : Option (List ℕ × List ℕ)). option_map (by_form form) o) told ∙ first_told command form (owned_by b rows) is real (owned_real b rows all)
+kept_told b command form found rows is real all told =
+    ap (λ (o : Option (List ℕ × List ℕ)). option_map (by_form form) o) told ∙ first_told command form (owned_by b rows) is real (owned_real b rows all)

@@ -61,11 +61,13 @@ WorksFor limits b standing request before after it old new =
 -- the same for a branch that is there, if this was found for the decision
 abbrev pub WorksBy : Limits → ℕ → Command → Found → Answered → State → State → Type 0
 WorksBy limits b command found it old new =
-    (books : Books) → Holds old books → IsHeld books → lacks books.catalogue.branches b ≡ false → Agrees (rules_of limits) books.catalogue (shop_of b books) command found
+    (books : Books) → Holds old books → IsHeld books → lacks books.catalogue.branches b ≡ false
+    → Agrees (rules_of limits) books.catalogue (shop_of b books) command found
     → AreMarked b command.act found.rows books → IsDone limits (Counter b) (Do command) it new books
 
 -- afterwards the tables hold the books after the accepted command, and the reply is the reply to the command
 abbrev pub IsAdded : Limits → ℕ → Command → RowsFound → Answer → State → State → Type 0
 IsAdded limits b command rows answer old new =
-    (books : Books) → Holds old books → IsHeld books → ActAgrees (rules_of limits) books.catalogue (shop_of b books) command.moment command.act rows → AreMarked b command.act rows books
+    (books : Books) → Holds old books → IsHeld books
+    → ActAgrees (rules_of limits) books.catalogue (shop_of b books) command.moment command.act rows → AreMarked b command.act rows books
     → Holds new (book_done (rules_of limits) b command books) × (answer ≡ answer_of (Done (reply_text (rules_of limits) command (shop_of b books))))

@@ -1,12 +1,16 @@
 -- Refusals of head office's commands, by what was found.
 use Rattle.std.proofs.Common.{option_map}
 use Rattle.std.specs.Prelude.{◌==◌}
-use Rattle.shop_types.proofs.Common.{◌≡◌, refl, sym, ap, ◌∙◌, ℕ, Bool, true, false, List, [], ◌∷◌, map, filter, Option, Some, None, bytes_eq, Film, Branch, WithdrawFilm, StaffLeaves, SetManager, OfficeCommand, Rules, OfficeKept, Catalogue, same_option, NoBranch, Already, Verdict, Refused, Accepted, first, office_refusals, office_resent, office_verdict, head, found_none, found_some, seen_kept, post_of}
+use Rattle.shop_types.proofs.Common.{◌≡◌, refl, sym, ap, ◌∙◌, ℕ, Bool, true, false, List, [], ◌∷◌, map, filter, Option, Some, None, bytes_eq, Film, Branch}
+use Rattle.shop_types.proofs.Common.{WithdrawFilm, StaffLeaves, SetManager, OfficeCommand, Rules, OfficeKept, Catalogue, same_option, NoBranch, Already}
+use Rattle.shop_types.proofs.Common.{Verdict, Refused, Accepted, first, office_refusals, office_resent, office_verdict, head, found_none, found_some, seen_kept}
+use Rattle.shop_types.proofs.Common.{post_of}
 use Rattle.shop_types.specs.declared.found.KeptFound.{KeptFound}
 use Rattle.catalogue_core.specs.Shares.{film_at, branch_at, staff_at, kept_for}
 use Rattle.catalogue_core.specs.Decided.{fresh_refusals}
 
-pub withdraw_open : (catalogue : Catalogue) (f : ℕ) → Some false ≡ film_at catalogue f → Some Accepted ≡ Some (first (office_refusals catalogue (WithdrawFilm f)))
+pub withdraw_open : (catalogue : Catalogue) (f : ℕ) → Some false ≡ film_at catalogue f
+    → Some Accepted ≡ Some (first (office_refusals catalogue (WithdrawFilm f)))
 withdraw_open catalogue f is = let one = found_some (λ (it : Film). it.withdrawn) f catalogue.films false is in rw (one.1, one.2) refl
 
 -- who is there and hasn't left
@@ -54,7 +58,8 @@ module _ (catalogue : Catalogue) (s : ℕ) (post : ℕ × Bool) (is : Some post 
 
 -- ---- keys
 
-resent_new : (command : OfficeCommand) (kept : List OfficeKept) (new : Verdict) → None ≡ head (map (kept_for command) kept) → office_resent command kept new ≡ new
+resent_new : (command : OfficeCommand) (kept : List OfficeKept) (new : Verdict)
+    → None ≡ head (map (kept_for command) kept) → office_resent command kept new ≡ new
 resent_new command [] new is = refl
 resent_new command (k ∷ kept) new is = absurd (let some = is in cc)
 

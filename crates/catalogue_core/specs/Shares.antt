@@ -3,7 +3,8 @@ use Rattle.std.specs.Prelude.{◌≡◌, ⊤, ℕ, ◌==◌, ◌&&◌, Bool, fal
 use Rattle.std.specs.List.{list_any}
 use Rattle.std.specs.Str.{bytes_eq}
 use Rattle.shop_model.specs.Rows.{at, lacks}
-use Rattle.shop_model.specs.Values.{Text, Film, Cast, Branch, Staff, OfficeAct, AddCountry, AddCity, AddLanguage, AddCategory, AddActor, AddFilm, PriceFilm, WithdrawFilm, AddCast, AddBranch, AddStaff, StaffLeaves, SetManager, ChooseRule, OfficeCommand}
+use Rattle.shop_model.specs.Values.{Text, Film, Cast, Branch, Staff, OfficeAct, AddCountry, AddCity, AddLanguage, AddCategory, AddActor, AddFilm, PriceFilm}
+use Rattle.shop_model.specs.Values.{WithdrawFilm, AddCast, AddBranch, AddStaff, StaffLeaves, SetManager, ChooseRule, OfficeCommand}
 use Rattle.shop_model.specs.Shop.{OfficeKept, Catalogue, same_rule}
 use Rattle.shop_model.specs.OfficeActs.{same_office}
 use Rattle.shop_model.specs.Books.{head}

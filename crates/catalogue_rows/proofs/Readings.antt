@@ -1,5 +1,6 @@
 -- Lemmas about what a read found.
-use Rattle.shop_schema.proofs.Common.{◌≡◌, Ok, Err, Result, refl, sym, subst, IsOk, IfOk, MutBor, Ghosts, Held, DoesWithin, within_err, within_of, within_when, OfficeAct, Books}
+use Rattle.shop_schema.proofs.Common.{◌≡◌, Ok, Err, Result, refl, sym, subst, IsOk, IfOk, MutBor, Ghosts, Held, DoesWithin, within_err, within_of, within_when}
+use Rattle.shop_schema.proofs.Common.{OfficeAct, Books}
 use Rattle.sql_rows.specs.Calls.{DoesInside}
 use Rattle.shop_ledger.specs.Calls.{Finds}
 use Rattle.catalogue_core.specs.declared.shared.SharedRows.{SharedRows}
@@ -17,6 +18,8 @@ module _ {S F : Type 0} {g : Ghosts S} {a b : MutBor (Held S)} {was act : Office
       → DoesInside g a b r (λ it. Finds (Says it)) → DoesWithin g a b s (FindsFor was)
   found_of {X} {E} f Says (Ok rows) is_act more is one = of_act is_act (record {
     inside = within_when (within_of one.inside) (λ _. subst (λ (it : Result X E). IsOk it) (sym is) refl);
-    says = λ clean books holds held. let found = (subst (λ (it : Result X E). DoesInside g a b it (λ it. Finds (Says it))) is one).says clean books holds held in (found.0, more rows books found.1);
+    says = λ clean books holds held.
+        let found = (subst (λ (it : Result X E). DoesInside g a b it (λ it. Finds (Says it))) is one).says clean books holds held in
+        (found.0, more rows books found.1);
   })
   found_of f Says (Err e) is_act more is one = record { inside = within_err (within_of one.inside) refl; says = λ clean. tt }

@@ -1,6 +1,8 @@
 -- Lemmas about the books after the rows of head office's commands are written. A new branch has no last moment.
 use Rattle.std.proofs.Common.{IfOk}
-use Rattle.shop_schema.proofs.Common.{◌≡◌, ◌+◌, Result, ℕ, List, [], ◌∷◌, ◌++◌, map, length, sym, ap, subst, ◌∙◌, arith, ⊤, IsOk, MutBor, Ghosts, Held, state, State, Moment, Owned, owned_by, Text, Branch, OfficeAct, OfficeCommand, Catalogue, office_acted, office_told, office_text, office_done, Books, Counts, counts_of, with_branch, IsHeld, HoldsWith}
+use Rattle.shop_schema.proofs.Common.{◌≡◌, ◌+◌, Result, ℕ, List, [], ◌∷◌, ◌++◌, map, length, sym, ap, subst, ◌∙◌, arith, ⊤, IsOk, MutBor, Ghosts, Held, state}
+use Rattle.shop_schema.proofs.Common.{State, Moment, Owned, owned_by, Text, Branch, OfficeAct, OfficeCommand, Catalogue, office_acted, office_told, office_text}
+use Rattle.shop_schema.proofs.Common.{office_done, Books, Counts, counts_of, with_branch, IsHeld, HoldsWith}
 use Rattle.sql_rows.specs.Calls.{DoesInside}
 use Rattle.shop_ledger.specs.Calls.{Finds, Stores}
 use Rattle.shop_ledger.proofs.CountsOf.{beside}
@@ -16,26 +18,36 @@ pub no_last : (books : Books) → IsHeld books → owned_by (length books.catalo
 no_last books held =
     let branches = books.catalogue.branches in
     let b = length branches + 1 in
-    ap (map (λ (row : Owned Moment). row.it)) (none_of (λ (row : Owned Moment). row.owner) branches b (lacks_next b branches (omega arith)) books.lasts held.owners.lasts)
+    ap (map (λ (row : Owned Moment). row.it))
+    (none_of (λ (row : Owned Moment). row.owner) branches b (lacks_next b branches (omega arith)) books.lasts held.owners.lasts)
 
 -- ---- rows
 
 -- a new branch with its counts
 pub branch_added : (s : State) (books : Books) (n : ℕ) (row branch : Branch) → n ≡ length books.catalogue.branches + 1 → row ≡ branch
     → HoldsWith (with_branch n (counts_of books)) s (record books { catalogue = record books.catalogue { branches = books.catalogue.branches ++ row ∷ [] } })
-    → HoldsWith (with_branch (length books.catalogue.branches + 1) (counts_of books)) s (record books { catalogue = record books.catalogue { branches = books.catalogue.branches ++ branch ∷ [] } })
+    → HoldsWith (with_branch (length books.catalogue.branches + 1) (counts_of books)) s
+    (record books { catalogue = record books.catalogue { branches = books.catalogue.branches ++ branch ∷ [] } })
 branch_added s books n row branch is same holds =
-    subst (λ (it : Branch). HoldsWith (with_branch (length books.catalogue.branches + 1) (counts_of books)) s (record books { catalogue = record books.catalogue { branches = books.catalogue.branches ++ it ∷ [] } })) same
-    (subst (λ (m : ℕ). HoldsWith (with_branch m (counts_of books)) s (record books { catalogue = record books.catalogue { branches = books.catalogue.branches ++ row ∷ [] } })) is holds)
+    subst (λ (it : Branch).
+    HoldsWith (with_branch (length books.catalogue.branches + 1) (counts_of books)) s
+    (record books { catalogue = record books.catalogue { branches = books.catalogue.branches ++ it ∷ [] } }))
+    same
+    (subst (λ (m : ℕ).
+    HoldsWith (with_branch m (counts_of books)) s
+    (record books { catalogue = record books.catalogue { branches = books.catalogue.branches ++ row ∷ [] } }))
+    is holds)
 
 -- an act makes these books and counts, and the reply with the number is its reply
 abbrev pub Makes : OfficeAct → ℕ → Books → Books → Type 0
 Makes act number books made =
-    ◌≡◌ {A = Counts × Books × List (Text × Text)} (counts_of books, made, office_members act number) (with_counts act books, with_act act books, office_told act books.catalogue)
+    ◌≡◌ {A = Counts × Books × List (Text × Text)} (counts_of books, made, office_members act number)
+    (with_counts act books, with_act act books, office_told act books.catalogue)
 
 made_so : (act : OfficeAct) (number : ℕ) (books made : Books) {s : State} → Makes act number books made → HoldsWith (counts_of books) s made
     → IsActed act s books × (office_members act number ≡ office_told act books.catalogue)
-made_so act number books made {s = s} makes holds = (subst (λ (it : Counts × Books × List (Text × Text)). HoldsWith it.0 s it.1) makes holds, ap (λ (it : Counts × Books × List (Text × Text)). it.2) makes)
+made_so act number books made {s = s} makes holds =
+    (subst (λ (it : Counts × Books × List (Text × Text)). HoldsWith it.0 s it.1) makes holds, ap (λ (it : Counts × Books × List (Text × Text)). it.2) makes)
 
 -- the books with these rows instead of a list of the catalogue
 abbrev pub with_rows : {W : Type 0} → (Catalogue → List W → Catalogue) → List W → Books → Books
@@ -48,7 +60,8 @@ module _ {S F : Type 0} {g : Ghosts S} {a b : MutBor (Held S)} {r : Result ℕ F
 
 module _ {S X E F : Type 0} {g : Ghosts S} {b c : MutBor (Held S)} {put : Result X E} {was act : OfficeAct} (r : Result ℕ F) (is_act : was ≡ act) where
   -- a row is put after the last row of its list, and the number of the last row was read before
-  pub row_added : {W : Type 0} {a : MutBor (Held S)} {last : Result ℕ E} {number n : ℕ} {row new : W} (get : Catalogue → List W) (set : Catalogue → List W → Catalogue)
+  pub row_added :
+      {W : Type 0} {a : MutBor (Held S)} {last : Result ℕ E} {number n : ℕ} {row new : W} (get : Catalogue → List W) (set : Catalogue → List W → Catalogue)
       → ((books : Books) → Makes act (length (get books.catalogue) + 1) books (with_rows set (get books.catalogue ++ new ∷ []) books))
       → row ≡ new → n ≡ number → IsNext last number → IfOk r (λ it. (it ≡ number) × IsOk put)
       → DoesInside g a b last (λ last. Finds (λ books. last ≡ length (get books.catalogue)))
@@ -60,7 +73,9 @@ module _ {S X E F : Type 0} {g : Ghosts S} {b c : MutBor (Held S)} {put : Result
       let told = said.0 books holds held in
       let comes : number ≡ length (get books.catalogue) + 1 = next.2 ∙ ap (λ (it : ℕ). it + 1) told.1 in
       let holds_new = said.1 (counts_of books) books (beside (state g b.now) books told.0) (own ∙ comes) in
-      let its = made_so act _ books _ (makes books) (subst (λ (it : W). HoldsWith (counts_of books) (state g c.now) (with_rows set (get books.catalogue ++ it ∷ []) books)) same holds_new) in
+      let its =
+      made_so act _ books _ (makes books)
+      (subst (λ (it : W). HoldsWith (counts_of books) (state g c.now) (with_rows set (get books.catalogue ++ it ∷ []) books)) same holds_new) in
       (its.0, ap (office_members act) comes ∙ its.1)))
 
   -- a row is put that has no number, or a row is changed

@@ -1,5 +1,7 @@
 -- Callers that are known stay so.
-use Rattle.shop_types.proofs.Common.{◌≡◌, ◌∙◌, ℕ, List, [], ◌∷◌, ◌++◌, Bool, true, false, Some, Contains, inl, inr, refl, ap, sym, subst, arith, if◌then◌else◌, Contains-push_cases, lacks, Rules, Catalogue, Request, Books, Caller, Counter, Nobody, after_for, known_caller, known_same, seen_caller}
+use Rattle.shop_types.proofs.Common.{◌≡◌, ◌∙◌, ℕ, List, [], ◌∷◌, ◌++◌, Bool, true, false, Some, Contains, inl, inr, refl, ap, sym, subst, arith, if◌then◌else◌}
+use Rattle.shop_types.proofs.Common.{Contains-push_cases, lacks, Rules, Catalogue, Request, Books, Caller, Counter, Nobody, after_for, known_caller, known_same}
+use Rattle.shop_types.proofs.Common.{seen_caller}
 use Rattle.shop_model.proofs.Resends.{caller_after}
 use Rattle.shop_types.specs.declared.request.Caller.{Caller as Known}
 use Rattle.shop_types.specs.declared.request.Caller.TheVariants as known
@@ -7,13 +9,16 @@ use Rattle.chain_caches.specs.Callers.{AreCallers, KnownCallers, IsCallers}
 
 -- no caller is known
 pub no_callers : (entries : KnownCallers) (catalogue : Catalogue) → entries ≡ [] → AreCallers entries catalogue
-no_callers entries catalogue none = record { caller = λ token caller there. absurd (in_none token caller (subst (λ (es : KnownCallers). Contains es (token, caller)) none there)) }
+no_callers entries catalogue none = record {
+  caller = λ token caller there. absurd (in_none token caller (subst (λ (es : KnownCallers). Contains es (token, caller)) none there));
+}
   where
     in_none : (token : List ℕ) (caller : Known) → Contains {X = List ℕ × Known} [] (token, caller) → ⊥
     in_none token caller (k, there, is) = omega arith
 
 -- a branch that is known is there
-pub branch_there : (entries : KnownCallers) (token : List ℕ) (b : ℕ) (catalogue : Catalogue) → AreCallers entries catalogue → Contains entries (token, known.Branch b)
+pub branch_there : (entries : KnownCallers) (token : List ℕ) (b : ℕ) (catalogue : Catalogue)
+    → AreCallers entries catalogue → Contains entries (token, known.Branch b)
     → lacks catalogue.branches b ≡ false
 branch_there entries token b catalogue callers there =
     let is = (callers.caller token (known.Branch b) there).0 in
@@ -24,7 +29,8 @@ branch_there entries token b catalogue callers there =
     by false e = refl
 
 -- one caller more
-pub one_more : (entries : KnownCallers) (token : List ℕ) (caller : Known) (catalogue : Catalogue) → AreCallers entries catalogue → IsCallers token caller catalogue
+pub one_more : (entries : KnownCallers) (token : List ℕ) (caller : Known) (catalogue : Catalogue)
+    → AreCallers entries catalogue → IsCallers token caller catalogue
     → AreCallers (entries ++ (token, caller) ∷ []) catalogue
 one_more entries token caller catalogue known is = record {
   caller = λ t c there. elim (Contains-push_cases entries (token, caller) (t, c) there) [

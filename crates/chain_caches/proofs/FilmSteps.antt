@@ -1,5 +1,8 @@
 -- KnownFilms that are their films' rows are so after a request.
-use Rattle.shop_types.proofs.Common.{◌≡◌, ℕ, ◌-◌, List, [], ◌∷◌, ◌++◌, map, Some, inl, inr, sym, subst, refl, cases_Bool, at, lacks, Film, OfficeCommand, Rules, Catalogue, Verdict, Again, Refused, Accepted, verdict, office_verdict, Request, Unread, Do, Look, Office, OfficeLook, office_acted, office_done, if_accepted, Books, Counter, HeadOffice, head, shop_of, book_done, branch_after, known_caller, after_for}
+use Rattle.shop_types.proofs.Common.{◌≡◌, ℕ, ◌-◌, List, [], ◌∷◌, ◌++◌, map, Some, inl, inr, sym, subst, refl, cases_Bool, at, lacks, Film, OfficeCommand, Rules}
+use Rattle.shop_types.proofs.Common.{Catalogue, Verdict, Again, Refused, Accepted, verdict, office_verdict, Request, Unread, Do, Look, Office, OfficeLook}
+use Rattle.shop_types.proofs.Common.{office_acted, office_done, if_accepted, Books, Counter, HeadOffice, head, shop_of, book_done, branch_after, known_caller}
+use Rattle.shop_types.proofs.Common.{after_for}
 use Rattle.std.specs.Prelude.{◌==◌}
 use Rattle.shop_model.proofs.Accepted.{catalogue_stays}
 use Rattle.chain_caches.specs.Films.{AreRows, KnownFilms, known_of, seen_known}

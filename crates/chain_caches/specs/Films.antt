@@ -21,7 +21,8 @@ entries_of (Some films) = films.entries
 -- entries are distinguished by their parts
 abbrev pub known_code : Coded KnownFilm
 known_code =
-    code_by ((ℕ × (ℕ × ℕ)) × Bool) (coded× (coded× coded_ℕ (coded× coded_ℕ coded_ℕ)) coded_bool) (λ it. ((it.terms.rate, (it.terms.period, it.terms.replacement)), it.withdrawn))
+    code_by ((ℕ × (ℕ × ℕ)) × Bool) (coded× (coded× coded_ℕ (coded× coded_ℕ coded_ℕ)) coded_bool)
+    (λ it. ((it.terms.rate, (it.terms.period, it.terms.replacement)), it.withdrawn))
     (λ p. record { terms = record { rate = p.0.0; period = p.0.1.0; replacement = p.0.1.1 }; withdrawn = p.1 })
     (λ _. refl)
 

@@ -1,5 +1,7 @@
 -- A chain that has failed stays as it is, and a look at one that hasn't may be refused by the store.
-use Rattle.shop_schema.proofs.Common.{◌≡◌, ◌∙◌, Bool, true, false, inl, inr, refl, sym, ap, subst, Result, Ok, Err, cases_Bool, Ghosts, Held, state, HasCleanDisk, Survives, StoreFault, Memory, Size, Failed, problem_answer, is_store_failure, memory_failure, size_failure, failed_failure, seen_refusal}
+use Rattle.shop_schema.proofs.Common.{◌≡◌, ◌∙◌, Bool, true, false, inl, inr, refl, sym, ap, subst, Result, Ok, Err, cases_Bool, Ghosts, Held, state}
+use Rattle.shop_schema.proofs.Common.{HasCleanDisk, Survives, StoreFault, Memory, Size, Failed, problem_answer, is_store_failure, memory_failure, size_failure}
+use Rattle.shop_schema.proofs.Common.{failed_failure, seen_refusal}
 use Rattle.std.specs.Prelude.{◌||◌}
 use Rattle.shop_types.specs.declared.refusal.Refusal.TheVariants.{StoreFailed}
 use Rattle.chain_requests.specs.Holding.{Chained, holding}
@@ -26,8 +28,11 @@ pub stays_failed : {S : Type 0} (old : Chained S) (conn : Held S) (fault : Store
     → record { limits = old.limits; is_failed = old.is_failed || is_final fault; films = old.films; callers = old.callers; conn = conn } ≡ old
 stays_failed {S} old conn fault was same =
     let still : old.is_failed ≡ (old.is_failed || is_final fault) = was ∙ sym (rw was refl) in
-    let first : old ≡ record { limits = old.limits; is_failed = old.is_failed || is_final fault; films = old.films; callers = old.callers; conn = old.conn } = subst (λ (b : Bool). old ≡ record { limits = old.limits; is_failed = b; films = old.films; callers = old.callers; conn = old.conn }) still refl in
-    subst (λ (h : Held S). record { limits = old.limits; is_failed = old.is_failed || is_final fault; films = old.films; callers = old.callers; conn = h } ≡ old) (sym same) (sym first)
+    let first : old ≡ record { limits = old.limits; is_failed = old.is_failed || is_final fault; films = old.films; callers = old.callers; conn = old.conn } =
+    subst (λ (b : Bool). old ≡ record { limits = old.limits; is_failed = b; films = old.films; callers = old.callers; conn = old.conn }) still refl in
+    subst
+    (λ (h : Held S). record { limits = old.limits; is_failed = old.is_failed || is_final fault; films = old.films; callers = old.callers; conn = h } ≡ old)
+    (sym same) (sym first)
 
 was_none : (b : Bool) → (b ≡ true → ⊥) → (b || false) ≡ false
 was_none true isnt = absurd (isnt refl)
@@ -38,20 +43,25 @@ is_either true = refl
 is_either false = refl
 
 -- after a fault, a chain has failed exactly if the reply for this fault is the store's failure
-pub fails_by : (was : Bool) (fault : StoreFault) → (was ≡ true → fault ≡ Failed) → (was || is_final fault) ≡ is_store_failure (problem_answer (seen_refusal (refusal_for fault)))
+pub fails_by : (was : Bool) (fault : StoreFault) → (was ≡ true → fault ≡ Failed)
+    → (was || is_final fault) ≡ is_store_failure (problem_answer (seen_refusal (refusal_for fault)))
 fails_by was Memory only = was_none was (λ is. let no : Memory ≡ Failed = only is in cc) ∙ sym memory_failure
 fails_by was Size only = was_none was (λ is. let no : Size ≡ Failed = only is in cc) ∙ sym size_failure
 fails_by was Failed only = is_either was ∙ sym failed_failure
 
 -- a chain that has failed answers each request with the store's failure
 refuses_failed : {S : Type 0} (g : Ghosts S) (chain : Chained S) → chain.is_failed ≡ true → Takes g chain chain (IsStoreRefusal StoreFailed)
-refuses_failed g chain was = takes_still (λ books besides. inr (refl, subst (λ (b : Bool). holding chain books besides ≡ record (holding chain books besides) { is_failed = b }) was refl))
+refuses_failed g chain was =
+    takes_still
+    (λ books besides. inr (refl, subst (λ (b : Bool). holding chain books besides ≡ record (holding chain books besides) { is_failed = b }) was refl))
 
 -- after a call that commits nothing, a crash finds no database that it couldn't have found before the call
-pub leaves_no_more : {S : Type 0} (g : Ghosts S) (old self : Chained S) (conn new : Held S) → old ≡ self → Survives (state g old.conn) (state g conn) (λ _. ⊥) → new ≡ conn
+pub leaves_no_more : {S : Type 0} (g : Ghosts S) (old self : Chained S) (conn new : Held S)
+    → old ≡ self → Survives (state g old.conn) (state g conn) (λ _. ⊥) → new ≡ conn
     → LeavesNoMore (state g self.conn) (state g new)
 leaves_no_more {S} g old self conn new is survives same = subst (λ (x : Chained S). LeavesNoMore (state g x.conn) (state g new)) is (λ clean db may.
-    let moved : Survives (state g old.conn) (state g new) (λ _. ⊥) = subst (λ (h : Held S). Survives (state g old.conn) (state g h) (λ _. ⊥)) (sym same) survives in
+    let moved : Survives (state g old.conn) (state g new) (λ _. ⊥) =
+    subst (λ (h : Held S). Survives (state g old.conn) (state g h) (λ _. ⊥)) (sym same) survives in
     elim (moved.crash clean db may) [ inl before ↦ before | inr none ↦ absurd none ])
 
 abbrev refusing : (A : Type 0) → StoreFault → Result A StoreFault
@@ -73,7 +83,8 @@ module _ {S A : Type 0} (g : Ghosts S) (old self new : Chained S) (conn : Held S
   pub refused_fails : new.is_failed ≡ is_store_failure (problem_answer (seen_refusal (refusal_for fault)))
   refused_fails = same_failed told ∙ fails_by old.is_failed fault (λ was. (failed was).1)
 
-  pub look_refused : (HasCleanDisk (state g conn) → HasCleanDisk (state g old.conn)) → (HasCleanDisk (state g conn) → IsUndone (state g old.conn) (state g conn))
+  pub look_refused : (HasCleanDisk (state g conn) → HasCleanDisk (state g old.conn))
+      → (HasCleanDisk (state g conn) → IsUndone (state g old.conn) (state g conn))
       → Takes g self new (IsStoreRefusal (refusal_for fault))
   look_refused clean same = subst (λ (x : Chained S). Takes g x new (IsStoreRefusal (refusal_for fault))) is (elim (cases_Bool old.is_failed) [
     | inl was ↦

@@ -19,7 +19,8 @@ behind_stop events answers = record { events = events; answers = answers; acted 
 
 -- A chain that had the books `old` answered the events `first` with `told`. It was stopped and opened again, and answered the events `rest` with `later`.
 -- The request at which the store failed acted or didn't. The chain's books now are the result of one history: of the requests that acted.
-pub record Resumes {S : Type 0} (g : Ghosts S) (rules : Rules) (first rest : List Event) (told later : List Answer) (old : Books) (chain : Chained S) : Type 0 where
+pub record Resumes {S : Type 0} (g : Ghosts S) (rules : Rules) (first rest : List Event) (told later : List Answer) (old : Books) (chain : Chained S) :
+    Type 0 where
   pub acted : Bool
   pub new : Books
   pub besides : Books
@@ -30,7 +31,8 @@ pub record Resumes {S : Type 0} (g : Ghosts S) (rules : Rules) (first rest : Lis
   -- it is one history, whose every acknowledged command is kept
   pub history : IsOneHistory rules office_look (before_stop first told acted ∷ behind_stop rest later ∷ []) old new
   -- if the request in flight is sent again first, it gets the same answer and acts once
-  pub resent : (event : Event) (more : List Event) (answer : Answer) (others : List Answer) → failing first told ≡ Some event → rest ≡ event ∷ more → later ≡ answer ∷ others
+  pub resent : (event : Event) (more : List Event) (answer : Answer) (others : List Answer)
+      → failing first told ≡ Some event → rest ≡ event ∷ more → later ≡ answer ∷ others
       → is_decided answer ≡ true → IsResentFirst rules office_look (before_stop first told acted) (behind_stop rest later) event answer old new
   -- at the next failure of the store the same holds again
   pub failed : chain.is_failed ≡ has_failed later

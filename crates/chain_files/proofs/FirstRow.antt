@@ -1,5 +1,7 @@
 -- The one row of a table `chain` of version 1: it has a token, since the tables obey their schema.
-use Rattle.shop_schema.proofs.Common.{and_parts, ◌≡◌, ◌&&◌, ◌==◌, pos, List, [], ◌∷◌, map, Bool, true, false, refl, ap, subst, inl, inr, IsPermutation, AllByRecursion, cases_Bool, false≢true, IsPermutation-refl, column, Trees, HasRows, columns_of, number_value, Text, same_if, first_version, versioned_columns, version_1_schema, chain_table, version_of, version_told}
+use Rattle.shop_schema.proofs.Common.{and_parts, ◌≡◌, ◌&&◌, ◌==◌, pos, List, [], ◌∷◌, map, Bool, true, false, refl, ap, subst, inl, inr, IsPermutation}
+use Rattle.shop_schema.proofs.Common.{AllByRecursion, cases_Bool, false≢true, IsPermutation-refl, column, Trees, HasRows, columns_of, number_value, Text}
+use Rattle.shop_schema.proofs.Common.{same_if, first_version, versioned_columns, version_1_schema, chain_table, version_of, version_told}
 use Rattle.shop_schema.specs.declared.known.KnownVersion.TheVariants.{This, First, Other}
 use Rattle.std.specs.Prelude.{negsuc}
 use Rattle.sqlite_value.specs.declared.value.Value.{Value}

@@ -1,5 +1,7 @@
 -- The state that a transaction leaves that turns tables of version 1 into tables of this version.
-use Rattle.shop_schema.proofs.Common.{Ok, MutBor, arith, ◌≡◌, ◌∙◌, true, false, IsTrue, refl, sym, ap, subst, false≢true, Ghosts, Trees, Database, Held, state, State, HasCleanDisk, Survives, AreKeyed, crash_new, Books, migrated, without_terms, migrated_sound, without_terms_sound, Audit, StandsFor, IsShop, IsKeyed, shop_schema, version_1_schema}
+use Rattle.shop_schema.proofs.Common.{Ok, MutBor, arith, ◌≡◌, ◌∙◌, true, false, IsTrue, refl, sym, ap, subst, false≢true, Ghosts, Trees, Database, Held, state}
+use Rattle.shop_schema.proofs.Common.{State, HasCleanDisk, Survives, AreKeyed, crash_new, Books, migrated, without_terms, migrated_sound, without_terms_sound}
+use Rattle.shop_schema.proofs.Common.{Audit, StandsFor, IsShop, IsKeyed, shop_schema, version_1_schema}
 use Rattle.std.specs.Prelude.{◌↔◌}
 use Rattle.sql_rows.specs.Calls.{DoesInside}
 use Rattle.shop_migration.specs.Migrating as tables
@@ -12,7 +14,8 @@ use Rattle.chain_requests.proofs.Resting.{Commits, Settled, begun_does, rests_af
 -- ---- inside
 
 -- the tables were made anew, and an audit of them changed nothing
-pub migrated_inside : (old mid new : State) (audit : Audit) → tables.Migrates old mid → tables.StoodForSame old mid → (IsVersion1 old → IsShop mid × IsKeyed mid)
+pub migrated_inside : (old mid new : State) (audit : Audit) → tables.Migrates old mid
+    → tables.StoodForSame old mid → (IsVersion1 old → IsShop mid × IsKeyed mid)
     → (IsShop mid → AuditsTables mid.now.trees audit × (new.now ≡ mid.now)) → MigratesInside audit.sound old new
 migrated_inside old mid new audit moved stood made audits = record {
   shop = λ is.
@@ -23,10 +26,12 @@ migrated_inside old mid new audit moved stood made audits = record {
       subst (λ (d : Database). IsTrue audit.sound ↔ StandsSoundly d.trees) (sym audited.1) (audited.0.books.sound widest_rules);
   books = λ is books sound.
       let it = made is in
-      subst (λ (d : Database). StandsFor d.trees (migrated books)) (sym (audits it.0).1) (moved widest_rules books sound.2 (record { schema_is = is.0; keyed = is.1; stands = sound.0 })).stands;
+      subst (λ (d : Database). StandsFor d.trees (migrated books)) (sym (audits it.0).1)
+      (moved widest_rules books sound.2 (record { schema_is = is.0; keyed = is.1; stands = sound.0 })).stands;
   were = λ is token tells books stands.
       let it = made is in
-      (stood is.0 is.1 token tells books (record { schema_is = it.0; keyed = it.1; stands = subst (λ (d : Database). StandsFor d.trees books) (audits it.0).1 stands })).stands;
+      (stood is.0 is.1 token tells books
+      (record { schema_is = it.0; keyed = it.1; stands = subst (λ (d : Database). StandsFor d.trees books) (audits it.0).1 stands })).stands;
 }
 
 pub are_migrated : (old new : State) → MigratesInside true old new → IsVersion1 old → AreMigrated old.now.trees new.now.trees
@@ -36,7 +41,8 @@ are_migrated old new it is = record {
   were = λ token tells.
       let now = (it.sound is).0 refl in
       let books = without_terms now.0 in
-      let was : StandsSoundlyForVersion1 old.now.trees books = (it.were is token tells now.0 now.1, values_without now.0 now.2, without_terms_sound widest_rules now.0 now.3) in
+      let was : StandsSoundlyForVersion1 old.now.trees books =
+      (it.were is token tells now.0 now.1, values_without now.0 now.2, without_terms_sound widest_rules now.0 now.3) in
       (books, was, it.books is books was);
 }
 
@@ -47,12 +53,14 @@ were_unsound old new it is books sound =
 
 -- ---- outside
 
-module _ {S E : Type 0} {g : Ghosts S} (old end : Held S) {tx mid : MutBor (Held S)} (is : tx.now ≡ record old { in_transaction = true }) (one : DoesInside {E = E} g tx mid (Ok true) MigratesInside)
+module _ {S E : Type 0} {g : Ghosts S} (old end : Held S) {tx mid : MutBor (Held S)}
+    (is : tx.now ≡ record old { in_transaction = true }) (one : DoesInside {E = E} g tx mid (Ok true) MigratesInside)
     (ending : Survives (state g mid.now) (state g end) (λ db. db ≡ (state g mid.now).now.trees)) where
   did : HasCleanDisk (state g mid.now) → IsTrue (state g old).is_open × MigratesInside true (state g (record old { in_transaction = true })) (state g mid.now)
   did clean = let it = begun_does old is one in ((it.inside.lives clean refl).was_open, it.says clean)
 
-  pub migration_made : Settled g → (HasCleanDisk (state g end) → Commits (state g mid.now) (state g end)) → HasCleanDisk (state g end) → IsMigration (state g old) (state g end)
+  pub migration_made : Settled g → (HasCleanDisk (state g end) → Commits (state g mid.now) (state g end))
+      → HasCleanDisk (state g end) → IsMigration (state g old) (state g end)
   migration_made settled commits clean =
       let it = did (omega (arith, clean, ending.clean)) in
       let shows = commits clean in
@@ -61,12 +69,15 @@ module _ {S E : Type 0} {g : Ghosts S} (old end : Held S) {tx mid : MutBor (Held
         tables = λ first. subst (λ (d : Database). AreMigrated (state g old).now.trees d.trees) (sym shows.now_is) (are_migrated _ _ it.1 first);
         rests = λ first books stands.
             let made = it.1.shop first in
-            rests_after g old mid.now end books settled (record { schema_is = made.0; keyed = made.1; stands = subst (λ (d : Database). StandsFor d.trees books) shows.now_is stands }) shows;
+            rests_after g old mid.now end books settled
+            (record { schema_is = made.0; keyed = made.1; stands = subst (λ (d : Database). StandsFor d.trees books) shows.now_is stands }) shows;
       }
 
   -- what the commit leaves, whether or not it reports success
   pub leaves_migration : Survives (state g old) (state g end) (LeavesMigrated (state g old))
-  leaves_migration = crash_new g old mid.now end (LeavesMigrated (state g old)) (λ clean. let it = did clean in (it.0, λ first. are_migrated _ _ it.1 first)) (begun_does old is one).inside.survives ending
+  leaves_migration =
+      crash_new g old mid.now end (LeavesMigrated (state g old))
+      (λ clean. let it = did clean in (it.0, λ first. are_migrated _ _ it.1 first)) (begun_does old is one).inside.survives ending
 
 -- ---- after a call that changes nothing
 

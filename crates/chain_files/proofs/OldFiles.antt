@@ -1,6 +1,9 @@
 -- What the files of a chain of version 1 hold after its migration, or after a failed migration.
 use Rattle.std.proofs.Common.{◌⊎◌}
-use Rattle.shop_schema.proofs.Common.{◌≡◌, ◌≢◌, ◌∙◌, true, false, map, inl, inr, refl, sym, subst, cases_Bool, ∥∥₁_elim, ∥∥₁_map, Trees, Trees-set, Schema, State, HasCleanDisk, Survives, Held, HoldsDatabase, Finds, IsOpened, file_state, image_of, columns_of, opened_keyed, one_schema, Text, Books, migrated, this_version, first_version, HasVersion, StandsFor, StandsForVersion1, version_1_schema, version_of, HoldsOne, IsHeldIn, OpenFailed}
+use Rattle.shop_schema.proofs.Common.{◌≡◌, ◌≢◌, ◌∙◌, true, false, map, inl, inr, refl, sym, subst, cases_Bool, ∥∥₁_elim, ∥∥₁_map, Trees, Trees-set, Schema}
+use Rattle.shop_schema.proofs.Common.{State, HasCleanDisk, Survives, Held, HoldsDatabase, Finds, IsOpened, file_state, image_of, columns_of, opened_keyed}
+use Rattle.shop_schema.proofs.Common.{one_schema, Text, Books, migrated, this_version, first_version, HasVersion, StandsFor, StandsForVersion1}
+use Rattle.shop_schema.proofs.Common.{version_1_schema, version_of, HoldsOne, IsHeldIn, OpenFailed}
 use Rattle.shop_schema.specs.declared.known.KnownVersion.{KnownVersion}
 use Rattle.shop_schema.specs.declared.known.KnownVersion.TheVariants.{This, First}
 use Rattle.sqlite_disk.specs.declared.Disk.{Ghosts}
@@ -13,12 +16,14 @@ use Rattle.shop_schema.specs.declared.known.KnownVersion.TheVariants.{Missing}
 use Rattle.chain_files.specs.declared.faults.OpenFault.{OpenFault}
 use Rattle.chain_files.specs.declared.faults.OpenFault.TheVariants as fault
 use Rattle.chain_files.specs.Faults.{is_store_fault}
-use Rattle.chain_files.specs.Files.{IsFirst, IsNeither, HoldsNoChain, HoldsNoVersion1, HasNeitherVersion, HasVersion1, HoldsVersion1Books, HoldsVersion1Damage, HoldsVersion1Soundly, KeepsInEither, KeepsVersion1Books, StandsInEither}
+use Rattle.chain_files.specs.Files.{IsFirst, IsNeither, HoldsNoChain, HoldsNoVersion1, HasNeitherVersion, HasVersion1, HoldsVersion1Books, HoldsVersion1Damage}
+use Rattle.chain_files.specs.Files.{HoldsVersion1Soundly, KeepsInEither, KeepsVersion1Books, StandsInEither}
 use Rattle.chain_files.specs.Migrations.{StandsSoundlyForVersion1, AreMigrated, IsUnsoundVersion1, IsVersion1, LeavesMigrated}
 use Rattle.chain_files.specs.Openings.{IsNotMigrated}
 use Rattle.chain_files.proofs.Deciding.{stands_in_any}
 use Rattle.chain_files.proofs.FirstRow.{first_row}
-use Rattle.chain_files.proofs.Opening.{kept_one, only_committed, one_version, begins_with_some, version_there, same_trees, shows_found, shows_what_is_held, committed_database, is_database, holds_no_chain}
+use Rattle.chain_files.proofs.Opening.{kept_one, only_committed, one_version, begins_with_some, version_there, same_trees, shows_found, shows_what_is_held}
+use Rattle.chain_files.proofs.Opening.{committed_database, is_database, holds_no_chain}
 
 -- ---- the version in the first table
 
@@ -71,13 +76,17 @@ module _ {D : Type 0} {g : Ghosts D} (c : Held (FileStore D g)) (files : Files D
 
   pub tells_first : IsFirst opened_state → (token : Text) × Tells first_version token opened_state.now.trees
   tells_first first =
-      let sound : IsDatabaseOf version_1_schema opened_state.now.trees = subst (λ (schema : Schema). IsDatabaseOf schema opened_state.now.trees) first.0 (opened.1 opened.0.is_open).0 in
+      let sound : IsDatabaseOf version_1_schema opened_state.now.trees =
+      subst (λ (schema : Schema). IsDatabaseOf schema opened_state.now.trees) first.0 (opened.1 opened.0.is_open).0 in
       first_row opened_state.now.trees sound.obeys first.1
 
-  pub holds_version_1_soundly : IsFirst opened_state → (books : Books) → StandsSoundlyForVersion1 opened_state.now.trees books → HoldsVersion1Soundly (image_of g files) books
-  holds_version_1_soundly first books stands = (opened_state.committed.trees, held_of_first first.0, subst (λ (t : Trees). StandsSoundlyForVersion1 t books) same stands)
+  pub holds_version_1_soundly : IsFirst opened_state → (books : Books)
+      → StandsSoundlyForVersion1 opened_state.now.trees books → HoldsVersion1Soundly (image_of g files) books
+  holds_version_1_soundly first books stands =
+      (opened_state.committed.trees, held_of_first first.0, subst (λ (t : Trees). StandsSoundlyForVersion1 t books) same stands)
 
-  told_found : (known : KnownVersion) (db : Trees) → HoldsDatabase (image_of g files) db → version_of (map (columns_of 1) (opened_state.now.trees 0)) ≡ known → version_of (map (columns_of 1) (db 0)) ≡ known
+  told_found : (known : KnownVersion) (db : Trees) → HoldsDatabase (image_of g files) db
+      → version_of (map (columns_of 1) (opened_state.now.trees 0)) ≡ known → version_of (map (columns_of 1) (db 0)) ≡ known
   told_found known db held told = subst (λ (t : Trees). version_of (map (columns_of 1) (t 0)) ≡ known) (shows_found c files opened found db held) told
 
   no_chain : IsNeither opened_state → HoldsNoChain (image_of g files)
@@ -91,14 +100,16 @@ module _ {D : Type 0} {g : Ghosts D} (c : Held (FileStore D g)) (files : Files D
       none (subst HasVersion (sym is) begins)
   no_version_1 (inl (inr (inl none))) db held sound books stands = one_version (db 0) _ stands.chain (told_found Missing db held none)
   no_version_1 (inl (inr (inr (told, other)))) db held sound books stands = not_both (told_first db books stands) (told_found This db held told)
-  no_version_1 (inr (first, other)) db held sound books stands = other (one_schema opened_state.now.schema version_1_schema db (is_database c files opened found db held) sound refl)
+  no_version_1 (inr (first, other)) db held sound books stands =
+      other (one_schema opened_state.now.schema version_1_schema db (is_database c files opened found db held) sound refl)
 
   pub holds_neither : IsNeither opened_state → HoldsNoChain (image_of g files) × HoldsNoVersion1 (image_of g files)
   holds_neither it = (no_chain it, no_version_1 it)
 
   pub has_neither_version : IsNeither opened_state → HasNeitherVersion (image_of g files)
   has_neither_version (inl (inl none)) db held = (opened_state.now.schema, is_database c files opened found db held, inl none)
-  has_neither_version (inl (inr (inl none))) db held = (opened_state.now.schema, is_database c files opened found db held, inr (inl (told_found Missing db held none)))
+  has_neither_version (inl (inr (inl none))) db held =
+      (opened_state.now.schema, is_database c files opened found db held, inr (inl (told_found Missing db held none)))
   has_neither_version (inl (inr (inr (told, other)))) db held =
       (opened_state.now.schema, is_database c files opened found db held, inr (inr (inl (told_found This db held told, other))))
   has_neither_version (inr (first, other)) db held =
@@ -116,12 +127,16 @@ module _ {D : Type 0} {g : Ghosts D} (c : Held (FileStore D g)) (files : Files D
   in_either stays books keeps =
       ∥∥₁_map (keeps.left found.honest (image_of g files) (stays _, stays _)) (λ it. subst (StandsInEither books) (sym (found.holds it.0 it.2)) it.1)
 
-  becomes : (books : Books) (db : Trees) → IsFirst opened_state → AreMigrated opened_state.now.trees db → KeepsInEither g files books → StandsInEither books opened_state.committed.trees → StandsFor db (migrated books)
-  becomes books db first tables keeps (inl was) = tables.books books (subst (λ (t : Trees). StandsForVersion1 t books) (sym same) was, keeps.values, keeps.sound)
+  becomes : (books : Books) (db : Trees) → IsFirst opened_state → AreMigrated opened_state.now.trees db
+      → KeepsInEither g files books → StandsInEither books opened_state.committed.trees → StandsFor db (migrated books)
+  becomes books db first tables keeps (inl was) =
+      tables.books books (subst (λ (t : Trees). StandsForVersion1 t books) (sym same) was, keeps.values, keeps.sound)
   becomes books db first tables keeps (inr is) = absurd (not_both (told_committed first) (told_this opened_state.committed.trees (migrated books) is))
 
-  pub stands_as_kept : SeenMayStay g → (books : Books) → KeepsInEither g files books → IsFirst opened_state → (db : Trees) → AreMigrated opened_state.now.trees db → StandsFor db (migrated books)
-  stands_as_kept stays books keeps first db tables = stands_in_any _ (migrated books) (∥∥₁_map (in_either stays books keeps) (λ either. becomes books db first tables keeps either))
+  pub stands_as_kept : SeenMayStay g → (books : Books) → KeepsInEither g files books → IsFirst opened_state
+      → (db : Trees) → AreMigrated opened_state.now.trees db → StandsFor db (migrated books)
+  stands_as_kept stays books keeps first db tables =
+      stands_in_any _ (migrated books) (∥∥₁_map (in_either stays books keeps) (λ either. becomes books db first tables keeps either))
 
   -- ---- what remains if nothing was migrated, or if that isn't certain
 
@@ -131,7 +146,8 @@ module _ {D : Type 0} {g : Ghosts D} (c : Held (FileStore D g)) (files : Files D
   tables_left : (db : Trees) → LeavesFirst db → AreMigrated opened_state.now.trees db
   tables_left db leaves = (leaves.1 opened.0.clean).1 (is_version_1 leaves.0.0)
 
-  module _ (stays : SeenMayStay g) (new : Held (FileStore D g)) (now : Files D) (survives : Survives opened_state (file_state new) LeavesFirst) (clean : HasCleanDisk (file_state new))
+  module _ (stays : SeenMayStay g) (new : Held (FileStore D g)) (now : Files D)
+      (survives : Survives opened_state (file_state new) LeavesFirst) (clean : HasCleanDisk (file_state new))
       (holds : HoldsOne g now (file_state new).may_leave) where
     pub left_or_migrated : (why : OpenFault) → (is_store_fault why ≡ false → Survives opened_state (file_state new) (λ _. ⊥))
         → HoldsOne g now (λ it. (it ≡ opened_state.committed.trees) ⊎ ((is_store_fault why ≡ true) × AreMigrated opened_state.committed.trees it))
@@ -163,7 +179,8 @@ module _ {D : Type 0} {g : Ghosts D} (c : Held (FileStore D g)) (files : Files D
 -- ---- faults
 
 -- a fault by which the database wasn't opened, and what remains in the files
-pub unmigrated_by : {D : Type 0} (g : Ghosts D) (files : Files D) (why : OpenFault) (left : Files D) → why ≢ fault.NotAChain → why ≢ fault.OtherVersion → why ≢ fault.Damaged → why ≢ fault.Already
+pub unmigrated_by : {D : Type 0} (g : Ghosts D) (files : Files D) (why : OpenFault) (left : Files D)
+    → why ≢ fault.NotAChain → why ≢ fault.OtherVersion → why ≢ fault.Damaged → why ≢ fault.Already
     → OpenFailed g files left → IsNotMigrated g files why left
 unmigrated_by g files why left chain version damaged already failed = record {
   already = λ honest is. absurd (already is);

@@ -1,7 +1,13 @@
 -- What opening files finds, and what files hold after the store is closed.
 use Rattle.std.proofs.Common.{◌⊎◌}
 use Rattle.std.specs.Prelude.{◌==◌}
-use Rattle.shop_schema.proofs.Common.{[], ◌≡◌, ◌≢◌, ◌∙◌, inl, inr, refl, sym, ap, subst, true, false, IsTrue, arith, map, take, ℕ, List, ◌∷◌, pos, negsuc, AllZip, cases_Bool, length_permutation, ∥∥₁_elim, ∥∥₁_map, column, Value, Null, Int, Real, Blob, Trees, IsClean, Trees-set, no_doubt, AreListed, IsTableRow, IsIndexRow, IsViewRow, Database, State, HasCleanDisk, Survives, Held, AreDatabases, HoldsDatabase, Finds, IsOpened, IsEmpty, over_files, file_state, image_of, one_permutation, opens_again, no_schema, columns_of, HasRows, number_value, opened_keyed, one_schema, Books, IsSound, AreValues, shop_schema, HasVersion, StandsFor, this_version, first_version, versioned_columns, Schema, version_of, version_told, HoldsOne, IsHeldIn, IsFoundIn, OpenFailed}
+use Rattle.shop_schema.proofs.Common.{[], ◌≡◌, ◌≢◌, ◌∙◌, inl, inr, refl, sym, ap, subst, true, false, IsTrue, arith, map, take, ℕ, List, ◌∷◌, pos, negsuc}
+use Rattle.shop_schema.proofs.Common.{AllZip, cases_Bool, length_permutation, ∥∥₁_elim, ∥∥₁_map, column, Value, Null, Int, Real, Blob, Trees, IsClean}
+use Rattle.shop_schema.proofs.Common.{Trees-set, no_doubt, AreListed, IsTableRow, IsIndexRow, IsViewRow, Database, State, HasCleanDisk, Survives, Held}
+use Rattle.shop_schema.proofs.Common.{AreDatabases, HoldsDatabase, Finds, IsOpened, IsEmpty, over_files, file_state, image_of, one_permutation, opens_again}
+use Rattle.shop_schema.proofs.Common.{no_schema, columns_of, HasRows, number_value, opened_keyed, one_schema, Books, IsSound, AreValues, shop_schema}
+use Rattle.shop_schema.proofs.Common.{HasVersion, StandsFor, this_version, first_version, versioned_columns, Schema, version_of, version_told, HoldsOne}
+use Rattle.shop_schema.proofs.Common.{IsHeldIn, IsFoundIn, OpenFailed}
 use Rattle.shop_schema.specs.declared.known.KnownVersion.{KnownVersion}
 use Rattle.shop_schema.specs.declared.known.KnownVersion.TheVariants.{This, First, Other}
 use mathlib.Core.HLevel.{⊥_prop}
@@ -25,14 +31,17 @@ use Rattle.chain_requests.specs.Holding.{Chained}
 use Rattle.chain_files.proofs.Deciding.{stands_in_any}
 use Rattle.chain_files.specs.declared.faults.OpenFault.{OpenFault}
 use Rattle.chain_files.specs.declared.faults.OpenFault.TheVariants as fault
-use Rattle.chain_files.specs.Files.{HoldsBooks, KeepsBooks, KeepsEither, HoldsNoChain, HoldsSoundly, HoldsDamage, HasThisVersion, HasNoVersion, HasOtherVersion, TellsVersion, Knows}
+use Rattle.chain_files.specs.Files.{HoldsBooks, KeepsBooks, KeepsEither, HoldsNoChain, HoldsSoundly, HoldsDamage, HasThisVersion, HasNoVersion, HasOtherVersion}
+use Rattle.chain_files.specs.Files.{TellsVersion, Knows}
 use Rattle.chain_files.specs.Openings.{IsNotOpened}
 
-pub clean_store : {D : Type 0} {g : Ghosts D} (it : FileStore D g) (files : Files D) → (files.log, files.db) ≡ store_files it → AreClean g files.log files.db → IsClean (view it)
+pub clean_store : {D : Type 0} {g : Ghosts D} (it : FileStore D g) (files : Files D)
+    → (files.log, files.db) ≡ store_files it → AreClean g files.log files.db → IsClean (view it)
 clean_store {D} {g} it files is honest = no_doubt _ (clean_is it.pool ∙ subst (λ (p : D × D). AreClean g p.0 p.1) is honest)
 
 -- any outcome of a crash of a closed store's files is a database that the store allowed
-pub holds_one : {D : Type 0} {g : Ghosts D} (it : FileStore D g) (files : Files D) (P : Trees → Type 0) → (files.log, files.db) ≡ store_files it → AreClean g files.log files.db
+pub holds_one : {D : Type 0} {g : Ghosts D} (it : FileStore D g) (files : Files D) (P : Trees → Type 0)
+    → (files.log, files.db) ≡ store_files it → AreClean g files.log files.db
     → IsTrue (view it).is_numbered → AreDatabases (recovers it) → ((db : Trees) → recovers it db → P db) → HoldsOne g files P
 holds_one {D} {g} it files P is honest numbered sound within image may =
     let clean = subst (λ (p : D × D). AreClean g p.0 p.1) is honest in
@@ -44,7 +53,8 @@ kept_one g files P Q holds weaker image may =
     ∥∥₁_map (holds image may) (λ found. let r : (db : Trees) × Q db × HoldsDatabase image db = (found.0, weaker found.0 found.1, found.2) in r)
 
 -- the files of a chain that is closed keep its books
-pub keeps_books : {D : Type 0} {g : Ghosts D} (chain : Chained (FileStore D g)) (files : Files D) → (AreClean g files.log files.db → HoldsOne g files (file_state chain.conn).may_leave)
+pub keeps_books : {D : Type 0} {g : Ghosts D} (chain : Chained (FileStore D g)) (files : Files D)
+    → (AreClean g files.log files.db → HoldsOne g files (file_state chain.conn).may_leave)
     → chain.is_failed ≡ false → (books besides : Books) → IsAt over_files chain books besides → KeepsBooks g files books
 keeps_books {D} {g} chain files left live books besides at = record {
   sound = at.sound;
@@ -53,16 +63,20 @@ keeps_books {D} {g} chain files left live books besides at = record {
 }
 
 -- whether or not the store has failed, the files keep its books or `besides`
-pub keeps_either : {D : Type 0} {g : Ghosts D} (chain : Chained (FileStore D g)) (files : Files D) → (AreClean g files.log files.db → HoldsOne g files (file_state chain.conn).may_leave)
+pub keeps_either : {D : Type 0} {g : Ghosts D} (chain : Chained (FileStore D g)) (files : Files D)
+    → (AreClean g files.log files.db → HoldsOne g files (file_state chain.conn).may_leave)
     → (books besides : Books) → IsAt over_files chain books besides → KeepsEither g files books besides
 keeps_either {D} {g} chain files left books besides at = record {
   sound = at.sound;
   values = at.values;
-  left = λ honest. kept_one g files _ _ (left honest) (elim (cases_Bool chain.is_failed) [ inl failed ↦ at.left failed | inr live ↦ λ db may. inl ((at.rests live).left db may) ]);
+  left = λ honest.
+      kept_one g files _ _ (left honest)
+      (elim (cases_Bool chain.is_failed) [ inl failed ↦ at.left failed | inr live ↦ λ db may. inl ((at.rests live).left db may) ]);
 }
 
 -- a chain that rests on books, and whose store hasn't failed, has the books
-pub opened_at : {D : Type 0} {g : Ghosts D} (chain : Chained (FileStore D g)) (books : Books) → chain.is_failed ≡ false → chain.films ≡ [] → chain.callers ≡ [] → IsSound widest_rules books → AreValues books
+pub opened_at : {D : Type 0} {g : Ghosts D} (chain : Chained (FileStore D g)) (books : Books)
+    → chain.is_failed ≡ false → chain.films ≡ [] → chain.callers ≡ [] → IsSound widest_rules books → AreValues books
     → Rests (file_state chain.conn) books → IsAt over_files chain books books
 opened_at chain books live none nobody sound values rests = record {
   sound = sound;
@@ -78,7 +92,8 @@ opened_at chain books live none nobody sound values rests = record {
     apart e = cc
 
 -- while a connection is open, a crash leaves only the last commit
-pub only_committed : {D : Type 0} {g : Ghosts D} (c : Held (FileStore D g)) → SeenMayStay g → IsTrue (file_state c).is_open → (db : Trees) → (file_state c).may_leave db → db ≡ (file_state c).committed.trees
+pub only_committed : {D : Type 0} {g : Ghosts D} (c : Held (FileStore D g)) → SeenMayStay g
+    → IsTrue (file_state c).is_open → (db : Trees) → (file_state c).may_leave db → db ≡ (file_state c).committed.trees
 only_committed c stays live db may = settled_at c.store stays db live may
 
 -- ---- tables
@@ -122,7 +137,8 @@ one_version [] row has e = omega (arith, length_permutation _ _ has)
 one_version (r ∷ []) row has e = told_some (column (columns_of 1 r) 0) e
 one_version (r ∷ s ∷ rows) row has e = omega (arith, length_permutation _ _ has)
 
-pub version_there : (version : ℕ) (token : List ℕ) (rows : List Row) → HasRows 2 rows (versioned_columns version token ∷ []) → version_of (map (columns_of 1) rows) ≡ version_told (number_value version)
+pub version_there : (version : ℕ) (token : List ℕ) (rows : List Row) → HasRows 2 rows (versioned_columns version token ∷ [])
+    → version_of (map (columns_of 1) rows) ≡ version_told (number_value version)
 version_there version token [] has = absurd (omega (arith, length_permutation _ _ has))
 version_there version token (r ∷ []) has =
     let same : versioned_columns version token ∷ [] ≡ columns_of 2 r ∷ [] = one_permutation _ _ has in
@@ -143,7 +159,12 @@ module _ {D : Type 0} {g : Ghosts D} (c : Held (FileStore D g)) (files : Files D
   rests_on : SeenMayStay g → opened_state.now.schema ≡ shop_schema → (books : Books) → StandsFor opened_state.committed.trees books → Rests opened_state books
   rests_on stays schema books stands =
       record {
-        now = λ live. record { schema_is = schema; keyed = opened_keyed shop_schema files c opened found schema; stands = subst (λ (d : Database). StandsFor d.trees books) (sym opened.0.clean) stands };
+        now = λ live.
+            record {
+              schema_is = schema;
+              keyed = opened_keyed shop_schema files c opened found schema;
+              stands = subst (λ (d : Database). StandsFor d.trees books) (sym opened.0.clean) stands;
+            };
         committed = λ live. sym opened.0.clean;
         left = λ db may. subst (λ t. StandsFor t books) (sym (only_committed c stays opened.0.is_open db may)) stands;
       }
@@ -224,12 +245,19 @@ module _ {D : Type 0} {g : Ghosts D} (c : Held (FileStore D g)) (files : Files D
 
   pub has_no_version : Knows Missing opened_state → HasNoVersion (image_of g files)
   has_no_version (inl none) db held = (opened_state.now.schema, is_database db held, inl none)
-  has_no_version (inr (inl none)) db held =
-      (opened_state.now.schema, is_database db held, inr (inl (subst (λ (t : Trees). version_of (map (columns_of 1) (t 0)) ≡ Missing) (shows_found db held) none)))
-  has_no_version (inr (inr (told, other))) db held =
-      (opened_state.now.schema, is_database db held, inr (inr (subst (λ (t : Trees). version_of (map (columns_of 1) (t 0)) ≡ This) (shows_found db held) told, other)))
+  has_no_version (inr (inl none)) db held = (
+    opened_state.now.schema,
+    is_database db held,
+    inr (inl (subst (λ (t : Trees). version_of (map (columns_of 1) (t 0)) ≡ Missing) (shows_found db held) none)),
+  )
+  has_no_version (inr (inr (told, other))) db held = (
+    opened_state.now.schema,
+    is_database db held,
+    inr (inr (subst (λ (t : Trees). version_of (map (columns_of 1) (t 0)) ≡ This) (shows_found db held) told, other)),
+  )
 
-  pub tells_version : (known : KnownVersion) → HasVersion opened_state.now.schema → version_of (map (columns_of 1) (opened_state.now.trees 0)) ≡ known → TellsVersion known (image_of g files)
+  pub tells_version : (known : KnownVersion) → HasVersion opened_state.now.schema
+      → version_of (map (columns_of 1) (opened_state.now.trees 0)) ≡ known → TellsVersion known (image_of g files)
   tells_version known begins told = (
     opened_state.committed.trees,
     shows_what_is_held (begins_with_some opened_state.now.schema begins),
@@ -244,7 +272,8 @@ module _ {D : Type 0} {g : Ghosts D} (c : Held (FileStore D g)) (files : Files D
   has_other_version (inr it) = inr (tells_version Other it.0 it.1)
 
   -- calls that commit nothing leave the files so
-  pub left_as_found : SeenMayStay g → (new : Held (FileStore D g)) (now : Files D) → Survives (file_state c) (file_state new) (λ _. ⊥) → HasCleanDisk (file_state new)
+  pub left_as_found : SeenMayStay g → (new : Held (FileStore D g)) (now : Files D)
+      → Survives (file_state c) (file_state new) (λ _. ⊥) → HasCleanDisk (file_state new)
       → HoldsOne g now (file_state new).may_leave → HoldsOne g now (λ left. left ≡ opened_state.committed.trees)
   left_as_found stays new now survives clean holds =
       kept_one g now _ _ holds (λ left may. elim (survives.crash clean left may) [
@@ -253,20 +282,23 @@ module _ {D : Type 0} {g : Ghosts D} (c : Held (FileStore D g)) (files : Files D
       ])
 
   -- files that hold what was found keep what the first files kept
-  still_one : SeenMayStay g → (now : Files D) → HoldsOne g now (λ left. left ≡ opened_state.committed.trees) → (P : Trees → Type 0) → HoldsOne g files P → HoldsOne g now P
+  still_one : SeenMayStay g → (now : Files D) → HoldsOne g now (λ left. left ≡ opened_state.committed.trees)
+      → (P : Trees → Type 0) → HoldsOne g files P → HoldsOne g now P
   still_one stays now same P holds image may =
       ∥∥₁_elim (holds (image_of g files) (stays _, stays _)) squash₁ (λ it.
       let is : P opened_state.committed.trees = subst P (sym (found.holds it.0 it.2)) it.1 in
       ∥∥₁_map (same image may) (λ one. let r : (db : Trees) × P db × HoldsDatabase image db = (one.0, subst P (sym one.1) is, one.2) in r))
 
-  pub still_books : SeenMayStay g → (now : Files D) → HoldsOne g now (λ left. left ≡ opened_state.committed.trees) → (books : Books) → KeepsBooks g files books → KeepsBooks g now books
+  pub still_books : SeenMayStay g → (now : Files D) → HoldsOne g now (λ left. left ≡ opened_state.committed.trees)
+      → (books : Books) → KeepsBooks g files books → KeepsBooks g now books
   still_books stays now same books keeps = record {
     sound = keeps.sound;
     values = keeps.values;
     left = λ _. still_one stays now same (λ db. StandsFor db books) (keeps.left found.honest);
   }
 
-  pub still_either : SeenMayStay g → (now : Files D) → HoldsOne g now (λ left. left ≡ opened_state.committed.trees) → (books besides : Books) → KeepsEither g files books besides → KeepsEither g now books besides
+  pub still_either : SeenMayStay g → (now : Files D) → HoldsOne g now (λ left. left ≡ opened_state.committed.trees)
+      → (books besides : Books) → KeepsEither g files books besides → KeepsEither g now books besides
   still_either stays now same books besides keeps = record {
     sound = keeps.sound;
     values = keeps.values;
@@ -274,7 +306,8 @@ module _ {D : Type 0} {g : Ghosts D} (c : Held (FileStore D g)) (files : Files D
   }
 
 -- the files of a closed chain hold no damage, even if its store had failed
-pub undamaged : {D : Type 0} (g : Ghosts D) (files : Files D) (books besides : Books) → SeenMayStay g → AreClean g files.log files.db → KeepsEither g files books besides → ¬ HoldsDamage (image_of g files)
+pub undamaged : {D : Type 0} (g : Ghosts D) (files : Files D) (books besides : Books) → SeenMayStay g
+    → AreClean g files.log files.db → KeepsEither g files books besides → ¬ HoldsDamage (image_of g files)
 undamaged g files books besides stays honest keeps damage =
     ∥∥₁_elim (keeps.left honest (image_of g files) (stays _, stays _)) ⊥_prop (λ it.
     let held : StandsSoundly it.0 = elim it.1 [ inl first ↦ (books, first, keeps.values, keeps.sound) | inr other ↦ (besides, other.2, other.1, other.0) ] in
@@ -283,7 +316,8 @@ undamaged g files books besides stays honest keeps damage =
 -- ---- faults
 
 -- a fault of the store, and what remains in the files
-pub unopened_by : {D : Type 0} (g : Ghosts D) (files : Files D) (why : OpenFault) (left : Files D) → why ≢ fault.NotAChain → why ≢ fault.OtherVersion → why ≢ fault.Damaged → why ≢ fault.Already
+pub unopened_by : {D : Type 0} (g : Ghosts D) (files : Files D) (why : OpenFault) (left : Files D)
+    → why ≢ fault.NotAChain → why ≢ fault.OtherVersion → why ≢ fault.Damaged → why ≢ fault.Already
     → OpenFailed g files left → IsNotOpened g files why left
 unopened_by g files why left chain version damaged already failed = record {
   no_chain = λ honest is. absurd (chain is);

@@ -27,7 +27,10 @@ use Rattle.chain_files.specs.Migrations.{StandsSoundlyForVersion1}
 -- version, whatever the other tables are.
 abbrev pub Knows : KnownVersion → State → Type 0
 Knows This s = (s.now.schema ≡ shop_schema) × (version_of (map (columns_of 1) (s.now.trees 0)) ≡ This)
-Knows Missing s = (¬ HasVersion s.now.schema) ⊎ ((version_of (map (columns_of 1) (s.now.trees 0)) ≡ Missing) ⊎ ((version_of (map (columns_of 1) (s.now.trees 0)) ≡ This) × (¬ (s.now.schema ≡ shop_schema))))
+Knows Missing s =
+    (¬ HasVersion s.now.schema)
+    ⊎ ((version_of (map (columns_of 1) (s.now.trees 0)) ≡ Missing)
+    ⊎ ((version_of (map (columns_of 1) (s.now.trees 0)) ≡ This) × (¬ (s.now.schema ≡ shop_schema))))
 Knows First s = HasVersion s.now.schema × (version_of (map (columns_of 1) (s.now.trees 0)) ≡ First)
 Knows Other s = HasVersion s.now.schema × (version_of (map (columns_of 1) (s.now.trees 0)) ≡ Other)
 
@@ -73,7 +76,8 @@ HasThisVersion image = (db : Trees) × IsHeldIn image db × IsDatabaseOf shop_sc
 -- version of other tables.
 abbrev pub HasNoVersion : Image → Type 0
 HasNoVersion image = (db : Trees) → HoldsDatabase image db → (schema : Schema) × IsDatabaseOf schema db
-    × ((¬ HasVersion schema) ⊎ ((version_of (map (columns_of 1) (db 0)) ≡ Missing) ⊎ ((version_of (map (columns_of 1) (db 0)) ≡ This) × (¬ (schema ≡ shop_schema)))))
+    × ((¬ HasVersion schema)
+    ⊎ ((version_of (map (columns_of 1) (db 0)) ≡ Missing) ⊎ ((version_of (map (columns_of 1) (db 0)) ≡ This) × (¬ (schema ≡ shop_schema)))))
 
 -- the files hold a database that begins with the table of the version, and the table's one row says this version
 abbrev pub TellsVersion : KnownVersion → Image → Type 0
@@ -130,7 +134,8 @@ HasVersion1 image = (db : Trees) × IsHeldIn image db × IsDatabaseOf version_1_
 -- of the two versions of other tables.
 abbrev pub HasNeitherVersion : Image → Type 0
 HasNeitherVersion image = (db : Trees) → HoldsDatabase image db → (schema : Schema) × IsDatabaseOf schema db
-    × ((¬ HasVersion schema) ⊎ ((version_of (map (columns_of 1) (db 0)) ≡ Missing) ⊎ (((version_of (map (columns_of 1) (db 0)) ≡ This) × (¬ (schema ≡ shop_schema)))
+    × ((¬ HasVersion schema)
+    ⊎ ((version_of (map (columns_of 1) (db 0)) ≡ Missing) ⊎ (((version_of (map (columns_of 1) (db 0)) ≡ This) × (¬ (schema ≡ shop_schema)))
     ⊎ ((version_of (map (columns_of 1) (db 0)) ≡ First) × (¬ (schema ≡ version_1_schema))))))
 
 -- the files hold a database whose tables stand for the books of version 1, which are sound and have values in their ranges
@@ -140,4 +145,5 @@ HoldsVersion1Soundly image books = (db : Trees) × IsHeldIn image db × StandsSo
 -- the files hold a database that has the tables of version 1 and says version 1, but its tables stand for no sound books
 abbrev pub HoldsVersion1Damage : Image → Type 0
 HoldsVersion1Damage image =
-    (db : Trees) × IsHeldIn image db × IsDatabaseOf version_1_schema db × (version_of (map (columns_of 1) (db 0)) ≡ First) × ((books : Books) → ¬ StandsSoundlyForVersion1 db books)
+    (db : Trees) × IsHeldIn image db × IsDatabaseOf version_1_schema db
+    × (version_of (map (columns_of 1) (db 0)) ≡ First) × ((books : Books) → ¬ StandsSoundlyForVersion1 db books)

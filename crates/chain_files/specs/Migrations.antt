@@ -31,7 +31,8 @@ pub record MigratesInside (told : Bool) (old new : State) : Type 0 where
   pub shop : IsVersion1 old → IsShop new × IsKeyed new
   pub sound : IsVersion1 old → IsTrue told ↔ StandsSoundly new.now.trees
   pub books : IsVersion1 old → (books : Books) → StandsSoundlyForVersion1 old.now.trees books → StandsFor new.now.trees (migrated books)
-  pub were : IsVersion1 old → (token : Text) → Tells first_version token old.now.trees → (books : Books) → StandsFor new.now.trees books → StandsForVersion1 old.now.trees (without_terms books)
+  pub were : IsVersion1 old → (token : Text) → Tells first_version token old.now.trees → (books : Books)
+      → StandsFor new.now.trees books → StandsForVersion1 old.now.trees (without_terms books)
 
 -- outside the transaction: the tables were migrated and that was committed, and the connection rests on all books for which the tables stand now
 pub record IsMigration (old new : State) : Type 0 where

@@ -20,7 +20,9 @@ use Rattle.chain_requests.specs.Holding.{Chained}
 use Rattle.chain_requests.specs.Chains.{IsAt}
 use Rattle.chain_files.specs.Faults.{is_store_fault}
 use Rattle.chain_files.specs.Migrations.{AreMigrated}
-use Rattle.chain_files.specs.Files.{HoldsBooks, KeepsBooks, KeepsEither, HoldsNoChain, HoldsSoundly, HoldsDamage, HasThisVersion, HasNoVersion, HasOtherVersion, TellsVersion, HoldsVersion1Books, HoldsVersion1Soundly, KeepsVersion1Books, KeepsInEither, HoldsNoVersion1, HasVersion1, HasNeitherVersion, HoldsVersion1Damage}
+use Rattle.chain_files.specs.Files.{HoldsBooks, KeepsBooks, KeepsEither, HoldsNoChain, HoldsSoundly, HoldsDamage, HasThisVersion, HasNoVersion, HasOtherVersion}
+use Rattle.chain_files.specs.Files.{TellsVersion, HoldsVersion1Books, HoldsVersion1Soundly, KeepsVersion1Books, KeepsInEither, HoldsNoVersion1, HasVersion1}
+use Rattle.chain_files.specs.Files.{HasNeitherVersion, HoldsVersion1Damage}
 use Rattle.sql_rows.specs.Files.{HoldsOne, IsHeldIn, IsFoundIn, OpenFailed, HoldsNoTable}
 
 -- ---- making
@@ -47,7 +49,8 @@ pub record IsNotCreated {D : Type 0} (g : Ghosts D) (files : Files D) (books : B
       → (db : Trees) × IsHeldIn (image_of g files) db × (¬ IsDatabaseOf no_schema db) × HoldsOne g left (λ found. found ≡ db)
   -- Any other fault: the files are as their failed opening left them. Or they held no table; then what they hold, or what a crash leaves of them, has no table
   -- or is the whole chain.
-  pub stopped : AreClean g left.log left.db → why ≢ fault.Already → OpenFailed g files left ⊎ (HoldsNoTable (image_of g files) × HoldsOne g left (IsNoneOrNew books))
+  pub stopped : AreClean g left.log left.db → why ≢ fault.Already
+      → OpenFailed g files left ⊎ (HoldsNoTable (image_of g files) × HoldsOne g left (IsNoneOrNew books))
   -- the faults that only an opening reports don't occur
   pub chain : why ≢ fault.NotAChain
   pub version : why ≢ fault.OtherVersion
@@ -68,7 +71,8 @@ pub record IsOpenedIn {D : Type 0} {g : Ghosts D} (files : Files D) (given : Lim
   -- and the books of the chain that was closed,
   pub again : HasCleanDisk (file_state chain.conn) → (books : Books) → KeepsBooks g files books → IsAt over_files chain books books
   -- or, if the store had failed, one of the two books
-  pub either : HasCleanDisk (file_state chain.conn) → (books besides : Books) → KeepsEither g files books besides → ∥ IsAt over_files chain books books ⊎ IsAt over_files chain besides besides ∥₁
+  pub either : HasCleanDisk (file_state chain.conn) → (books besides : Books) → KeepsEither g files books besides
+      → ∥ IsAt over_files chain books books ⊎ IsAt over_files chain besides besides ∥₁
   -- the files hold a chain of this version
   pub this : HasCleanDisk (file_state chain.conn) → HasThisVersion (image_of g files)
 
@@ -87,7 +91,8 @@ pub record IsNotOpened {D : Type 0} (g : Ghosts D) (files : Files D) (why : Open
   -- So what remains in the files keeps the books that they kept: the books of a chain that was closed,
   pub books : AreClean g left.log left.db → (books : Books) → KeepsBooks g files books → OpenFailed g files left ⊎ KeepsBooks g left books
   -- or, if its store had failed, `books` or `besides`.
-  pub either : AreClean g left.log left.db → (books besides : Books) → KeepsEither g files books besides → OpenFailed g files left ⊎ KeepsEither g left books besides
+  pub either : AreClean g left.log left.db → (books besides : Books)
+      → KeepsEither g files books besides → OpenFailed g files left ⊎ KeepsEither g left books besides
   -- the fault that only making a chain reports doesn't occur
   pub already : why ≢ fault.Already
 
@@ -102,11 +107,14 @@ pub record IsMigratedIn {D : Type 0} {g : Ghosts D} (files : Files D) (given : L
   -- the files held the tables of version 1
   pub first : HasCleanDisk (file_state chain.conn) → HasVersion1 (image_of g files)
   -- even if nothing was known of the files, they held sound books of version 1, and the chain has them with the terms of each rental
-  pub sound : HasCleanDisk (file_state chain.conn) → (books : Books) × HoldsVersion1Soundly (image_of g files) books × IsAt over_files chain (migrated books) (migrated books)
+  pub sound : HasCleanDisk (file_state chain.conn)
+      → (books : Books) × HoldsVersion1Soundly (image_of g files) books × IsAt over_files chain (migrated books) (migrated books)
   -- the chain has the books of version 1 that the files held, with the terms of each rental,
-  pub found : HasCleanDisk (file_state chain.conn) → (books : Books) → HoldsVersion1Books (image_of g files) books → IsAt over_files chain (migrated books) (migrated books)
+  pub found : HasCleanDisk (file_state chain.conn) → (books : Books)
+      → HoldsVersion1Books (image_of g files) books → IsAt over_files chain (migrated books) (migrated books)
   -- or the books of the chain of version 1 that was closed,
-  pub again : HasCleanDisk (file_state chain.conn) → (books : Books) → KeepsVersion1Books g files books → IsAt over_files chain (migrated books) (migrated books)
+  pub again : HasCleanDisk (file_state chain.conn) → (books : Books)
+      → KeepsVersion1Books g files books → IsAt over_files chain (migrated books) (migrated books)
   -- even if a migration had been stopped before
   pub resumed : HasCleanDisk (file_state chain.conn) → (books : Books) → KeepsInEither g files books → IsAt over_files chain (migrated books) (migrated books)
 

@@ -5,7 +5,8 @@ use Rattle.chain_requests.specs.Chains.{Rests, widest_rules}
 use Rattle.chain_requests.specs.Audits.{AuditsState, IsAuditOfBooks, TellsSoundness}
 
 -- if the tables stand for sound books, an audit says so, and counts their copies
-pub audit_of_books : (s : State) (audit : Audit) → AuditsState s audit → (books : Books) → Rests s books → AreValues books → IsSound widest_rules books → IsAuditOfBooks audit books
+pub audit_of_books : (s : State) (audit : Audit) → AuditsState s audit → (books : Books)
+    → Rests s books → AreValues books → IsSound widest_rules books → IsAuditOfBooks audit books
 audit_of_books s audit says books rests values sound =
     let holds = rests.now says.is_open in
     let audits = (says.audits holds.schema_is).books in

@@ -1,5 +1,7 @@
 -- In a run, each branch gets the replies of its own machine.
-use Rattle.shop_schema.proofs.Common.{◌≡◌, ◌∙◌, inl, inr, ℕ, List, [], ◌∷◌, true, map, refl, ap, Bool, filter, cases_Bool, and_parts, OfficeAsk, Rules, Reply, Answer, answer_of, Books, Event, Caller, is_counter, caller_in, after, replies_to, run, state_of, IsRun, counted_in, is_decided, is_store_failure, fails_for_good, alone, decided_failure, failure_undecided, list_all}
+use Rattle.shop_schema.proofs.Common.{◌≡◌, ◌∙◌, inl, inr, ℕ, List, [], ◌∷◌, true, map, refl, ap, Bool, filter, cases_Bool, and_parts, OfficeAsk, Rules, Reply}
+use Rattle.shop_schema.proofs.Common.{Answer, answer_of, Books, Event, Caller, is_counter, caller_in, after, replies_to, run, state_of, IsRun, counted_in}
+use Rattle.shop_schema.proofs.Common.{is_decided, is_store_failure, fails_for_good, alone, decided_failure, failure_undecided, list_all}
 use Rattle.shop_model.specs.Repeats.{marked_ones}
 use Rattle.chain_requests.specs.Branches.{answered_to, KeepsBranches}
 
@@ -21,7 +23,8 @@ told_to b (it ∷ all) = elim (cases_Bool (is_counter b it.0)) [
 ]
 
 -- after a failure, nothing is decided
-none_told : (rules : Rules) (b : ℕ) (events : List Event) (answers : List Answer) (books : Books) → list_all is_store_failure answers ≡ true → answered_to rules b events answers books ≡ []
+none_told : (rules : Rules) (b : ℕ) (events : List Event) (answers : List Answer) (books : Books)
+    → list_all is_store_failure answers ≡ true → answered_to rules b events answers books ≡ []
 none_told rules b [] answers books all = refl
 none_told rules b (event ∷ events) [] books all = refl
 none_told rules b (event ∷ events) (answer ∷ answers) books all =
@@ -29,7 +32,8 @@ none_told rules b (event ∷ events) (answer ∷ answers) books all =
     rw (failure_undecided answer h.0) (none_told rules b events answers books h.1)
 
 -- the branch gets the same answers, event by event or by the run over the counted history
-told_same : (rules : Rules) (look : OfficeAsk → Books → Reply) (b : ℕ) (events : List Event) (answers : List Answer) (books : Books) → fails_for_good answers ≡ true
+told_same : (rules : Rules) (look : OfficeAsk → Books → Reply) (b : ℕ) (events : List Event) (answers : List Answer) (books : Books)
+    → fails_for_good answers ≡ true
     → answered_to rules b events answers books ≡ answers_to rules look b events answers books
 told_same rules look b [] answers books stays = refl
 told_same rules look b (event ∷ events) [] books stays = refl
@@ -48,13 +52,16 @@ told_same rules look b (event ∷ events) (answer ∷ answers) books stays = eli
   ]
 ]
 
-pub runs_keep : (rules : Rules) (look : OfficeAsk → Books → Reply) (events : List Event) (answers : List Answer) (old new : Books) → IsRun rules look events answers old new
+pub runs_keep : (rules : Rules) (look : OfficeAsk → Books → Reply) (events : List Event) (answers : List Answer) (old new : Books)
+    → IsRun rules look events answers old new
     → KeepsBranches rules look events answers old new
 runs_keep rules look events answers old new is has b =
     let history = counted_in events answers in
     let lone = alone rules look history old b has in
     record {
       replies = lone.replies;
-      told = told_same rules look b events answers old is.stays ∙ ap (marked_ones (are_of rules look b history old)) is.decisions ∙ told_to b (run rules look history old) ∙ ap (map answer_of) lone.replies;
+      told =
+          told_same rules look b events answers old is.stays ∙ ap (marked_ones (are_of rules look b history old)) is.decisions
+          ∙ told_to b (run rules look history old) ∙ ap (map answer_of) lone.replies;
       state = ap (state_of b) is.books ∙ lone.state;
     }

@@ -1,5 +1,12 @@
 -- If a consignment is sent or received, the rows of consignments stay such that the program can hold them.
-use Rattle.shop_schema.proofs.Common.{◌≡◌, ◌≤◌, ◌<◌, ◌+◌, ◌*◌, ◌^◌, ◌==◌, ◌&&◌, ℕ, zero, suc, List, [], ◌∷◌, ◌++◌, map, filter, not, cond, length, Bool, true, false, inl, inr, refl, ap, subst, ◌∙◌, arith, length-append, nat_le, nat_lt, if◌then◌else◌, AllByRecursion, flat_map, list_all, and_parts, cases_Bool, leb-true, nat_tests, All-append, All-map, All-push, All-weaker, all-filter, Row, arrived, mem, numbered_from, of, is_row, next, put_all, set_row, set_rows, total, Act, Command, Rules, here, Books, BookCopy, Line, Consignment, as_parcel, between, book_acted, book_done, checked, checked_line, come, is_consignment, new_consignment, put_state, rows_at, shop_of, under_way, unmarked, unpacked, is_parcel, IsSound, one, length_map, put_all_own, put_own, same_test, IsHeld, IsNumber, IsRow, IsCopy, IsLine, IsConsignment, IsAct, IsCommand, AreValues, FitsTables, by_table, AreRowValues, CopyRows}
+use Rattle.shop_schema.proofs.Common.{◌≡◌, ◌≤◌, ◌<◌, ◌+◌, ◌*◌, ◌^◌, ◌==◌, ◌&&◌, ℕ, zero, suc, List, [], ◌∷◌, ◌++◌, map, filter, not, cond, length, Bool, true}
+use Rattle.shop_schema.proofs.Common.{false, inl, inr, refl, ap, subst, ◌∙◌, arith, length-append, nat_le, nat_lt, if◌then◌else◌, AllByRecursion, flat_map}
+use Rattle.shop_schema.proofs.Common.{list_all, and_parts, cases_Bool, leb-true, nat_tests, All-append, All-map, All-push, All-weaker, all-filter, Row, arrived}
+use Rattle.shop_schema.proofs.Common.{mem, numbered_from, of, is_row, next, put_all, set_row, set_rows, total, Act, Command, Rules, here, Books, BookCopy, Line}
+use Rattle.shop_schema.proofs.Common.{Consignment, as_parcel, between, book_acted, book_done, checked, checked_line, come, is_consignment, new_consignment}
+use Rattle.shop_schema.proofs.Common.{put_state, rows_at, shop_of, under_way, unmarked, unpacked, is_parcel, IsSound, one, length_map, put_all_own, put_own}
+use Rattle.shop_schema.proofs.Common.{same_test, IsHeld, IsNumber, IsRow, IsCopy, IsLine, IsConsignment, IsAct, IsCommand, AreValues, FitsTables, by_table}
+use Rattle.shop_schema.proofs.Common.{AreRowValues, CopyRows}
 use Rattle.std.proofs.lemmas.List.Filters.{length-filter_both}
 use Rattle.sqlite_keyed.proofs.ListLemmas.{all-flat_map, filter-filter}
 use Rattle.shop_model.specs.Rows.{put, update_where}
@@ -10,7 +17,8 @@ use Rattle.shop_model.specs.Values as model
 
 -- ---- rows that are changed
 
-updated : {A : Type 0} (P : A → Type 0) (p : A → Bool) (f : A → A) → ((it : A) → P it → P (f it)) → (xs : List A) → AllByRecursion P xs → AllByRecursion P (update_where p f xs)
+updated : {A : Type 0} (P : A → Type 0) (p : A → Bool) (f : A → A) → ((it : A) → P it → P (f it))
+    → (xs : List A) → AllByRecursion P xs → AllByRecursion P (update_where p f xs)
 updated P p f stays [] all = tt
 updated P p f stays (x ∷ xs) all = (by (p x), updated P p f stays xs all.1)
   where
@@ -18,16 +26,20 @@ updated P p f stays (x ∷ xs) all = (by (p x), updated P p f stays xs all.1)
     by true = stays x all.0
     by false = all.0
 
-sent_rows : (b : ℕ) (xs : List ℕ) (rows : List (Row BookCopy)) → AllByRecursion (IsRow IsCopy) rows → AllByRecursion (IsRow IsCopy) (set_rows b xs (put_state model.Sent) rows)
+sent_rows : (b : ℕ) (xs : List ℕ) (rows : List (Row BookCopy)) → AllByRecursion (IsRow IsCopy) rows
+    → AllByRecursion (IsRow IsCopy) (set_rows b xs (put_state model.Sent) rows)
 sent_rows b [] rows all = all
 sent_rows b (x ∷ xs) rows all =
-    sent_rows b xs (set_row b x (put_state model.Sent) rows) (updated (IsRow IsCopy) (is_row b x) (λ row. record row { it = put_state model.Sent row.it }) (λ row such. such) rows all)
+    sent_rows b xs (set_row b x (put_state model.Sent) rows)
+    (updated (IsRow IsCopy) (is_row b x) (λ row. record row { it = put_state model.Sent row.it }) (λ row such. such) rows all)
 
 found_rows : (b : ℕ) (xs : List ℕ) (rows : List (Row BookCopy)) → AllByRecursion (IsRow IsCopy) rows → AllByRecursion (IsRow IsCopy) (rows_at b xs rows)
 found_rows b [] rows all = tt
-found_rows b (x ∷ xs) rows all = All-append (IsRow IsCopy) (filter (is_row b x) rows) (rows_at b xs rows) (all-filter (IsRow IsCopy) (is_row b x) rows all) (found_rows b xs rows all)
+found_rows b (x ∷ xs) rows all =
+    All-append (IsRow IsCopy) (filter (is_row b x) rows) (rows_at b xs rows) (all-filter (IsRow IsCopy) (is_row b x) rows all) (found_rows b xs rows all)
 
-sent_lines : (b : ℕ) (xs : List ℕ) (rows : List (Row BookCopy)) → AllByRecursion (IsRow IsCopy) rows → AllByRecursion IsLine (map (λ (row : Row BookCopy). under_way row.it) (rows_at b xs rows))
+sent_lines : (b : ℕ) (xs : List ℕ) (rows : List (Row BookCopy)) → AllByRecursion (IsRow IsCopy) rows
+    → AllByRecursion IsLine (map (λ (row : Row BookCopy). under_way row.it) (rows_at b xs rows))
 sent_lines b xs rows all =
     All-map IsLine (λ (row : Row BookCopy). under_way row.it) (rows_at b xs rows)
     (All-weaker (IsRow IsCopy) (λ (row : Row BookCopy). IsLine (under_way row.it)) (λ row such. such.2) (rows_at b xs rows) (found_rows b xs rows all))
@@ -41,13 +53,15 @@ each_numbered P k (x ∷ xs) all = (all.0, each_numbered P (k + 1) xs all.1)
 arrived_lines : (missing : List ℕ) (ls : List Line) → AllByRecursion IsLine ls → AllByRecursion IsLine (arrived missing ls)
 arrived_lines missing ls all =
     let came : ℕ × Line → Bool = λ it. not (mem it.0 missing) in
-    All-map IsLine (λ (it : ℕ × Line). it.1) (filter came (numbered_from 1 ls)) (all-filter (λ (it : ℕ × Line). IsLine it.1) came (numbered_from 1 ls) (each_numbered IsLine 1 ls all))
+    All-map IsLine (λ (it : ℕ × Line). it.1) (filter came (numbered_from 1 ls))
+    (all-filter (λ (it : ℕ × Line). IsLine it.1) came (numbered_from 1 ls) (each_numbered IsLine 1 ls all))
 
 come_lines : (missing : List ℕ) (p : Consignment → Bool) (cs : List Consignment) → AllByRecursion IsConsignment cs
     → AllByRecursion IsLine (flat_map (λ (it : Consignment). arrived missing it.lines) (filter p cs))
 come_lines missing p cs all =
     all-flat_map IsLine (λ (it : Consignment). arrived missing it.lines) (filter p cs)
-    (All-weaker IsConsignment (λ (it : Consignment). AllByRecursion IsLine (arrived missing it.lines)) (λ it such. arrived_lines missing it.lines such.lines) (filter p cs) (all-filter IsConsignment p cs all))
+    (All-weaker IsConsignment (λ (it : Consignment). AllByRecursion IsLine (arrived missing it.lines))
+    (λ it such. arrived_lines missing it.lines such.lines) (filter p cs) (all-filter IsConsignment p cs all))
 
 checked_lines : (missing : List ℕ) (k : ℕ) (ls : List Line) → AllByRecursion IsLine ls → AllByRecursion IsLine (map (checked_line missing) (numbered_from k ls))
 checked_lines missing k [] all = tt
@@ -58,15 +72,18 @@ so_many k [] = refl
 so_many k (x ∷ xs) = ap suc (so_many (k + 1) xs)
 
 few_checked : (missing : List ℕ) (k : ℕ) (ls : List Line) → length ls < 2 ^ 32 → length (map (checked_line missing) (numbered_from k ls)) < 2 ^ 32
-few_checked missing k ls few = let same = length_map (checked_line missing) (numbered_from k ls) in let numbered = so_many k ls in omega (arith, few, same, numbered)
+few_checked missing k ls few =
+    let same = length_map (checked_line missing) (numbered_from k ls) in let numbered = so_many k ls in omega (arith, few, same, numbered)
 
 unpacked_rows : (b : ℕ) (ls : List Line) (rows : List (Row BookCopy)) → IsNumber b → AllByRecursion IsLine ls → length (of b rows) + length ls ≤ 1_001_000
     → AllByRecursion (IsRow IsCopy) rows → AllByRecursion (IsRow IsCopy) (put_all b (map unpacked ls) rows)
 unpacked_rows b [] rows branch lines few all = all
 unpacked_rows b (l ∷ ls) rows branch lines few all =
-    let own : length (of b (put b (unpacked l) rows)) ≡ length (of b rows) + 1 = ap length (put_own b (unpacked l) rows) ∙ length-append (of b rows) (unpacked l (next b rows) ∷ []) in
+    let own : length (of b (put b (unpacked l) rows)) ≡ length (of b rows) + 1 =
+    ap length (put_own b (unpacked l) rows) ∙ length-append (of b rows) (unpacked l (next b rows) ∷ []) in
     let row : IsNumber (next b rows) = number_fits (next b rows) (omega arith) (omega (arith, few)) in
-    unpacked_rows b ls (put b (unpacked l) rows) branch lines.1 (omega (arith, own, few)) (All-push (IsRow IsCopy) rows (record { branch = b; number = next b rows; it = unpacked l (next b rows) }) all (branch, row, lines.0))
+    unpacked_rows b ls (put b (unpacked l) rows) branch lines.1 (omega (arith, own, few))
+    (All-push (IsRow IsCopy) rows (record { branch = b; number = next b rows; it = unpacked l (next b rows) }) all (branch, row, lines.0))
 
 -- ---- how many consignments there are
 
@@ -80,7 +97,9 @@ below_none : (cs : List Consignment) → total (λ (it : Consignment). one (nat_
 below_none [] = refl
 below_none (c ∷ cs) = let more = below_none cs in grind (arith, nat_tests)
 
-below_more : (n : ℕ) (cs : List Consignment) → total (λ (it : Consignment). one (nat_lt it.source (suc n))) cs ≡ total (λ (it : Consignment). one (nat_lt it.source n)) cs + total (λ (it : Consignment). one (it.source == n)) cs
+below_more : (n : ℕ) (cs : List Consignment)
+    → total (λ (it : Consignment). one (nat_lt it.source (suc n))) cs
+    ≡ total (λ (it : Consignment). one (nat_lt it.source n)) cs + total (λ (it : Consignment). one (it.source == n)) cs
 below_more n [] = refl
 below_more n (c ∷ cs) = let first = below c.source n in let more = below_more n cs in omega (arith, first, more)
 
@@ -88,7 +107,8 @@ below_all : (cs : List Consignment) → AllByRecursion IsConsignment cs → tota
 below_all [] all = refl
 below_all (c ∷ cs) all = let more = below_all cs all.1 in let low = number_low c.source all.0.source in grind (arith, nat_tests)
 
-below_few : (cs : List Consignment) → ((b : ℕ) → total (λ (it : Consignment). one (it.source == b)) cs ≤ 1_000_000) → (n : ℕ) → total (λ (it : Consignment). one (nat_lt it.source n)) cs ≤ n * 1_000_000
+below_few : (cs : List Consignment) → ((b : ℕ) → total (λ (it : Consignment). one (it.source == b)) cs ≤ 1_000_000)
+    → (n : ℕ) → total (λ (it : Consignment). one (nat_lt it.source n)) cs ≤ n * 1_000_000
 below_few cs few zero = let none = below_none cs in omega (arith, none)
 below_few cs few (suc n) =
     let first = below_few cs few n in
@@ -124,7 +144,8 @@ last_few b (d ∷ cs) c own all = by (d.source == b) (last_few b cs c own) all
     rest : List Consignment
     rest = filter (λ (it : Consignment). it.source == b) (cs ++ c ∷ [])
 
-    by : (hit : Bool) → (list_all is_parcel (map as_parcel rest) ≡ true → length c.lines ≤ 100) → list_all is_parcel (map as_parcel (cond hit (d ∷ rest) rest)) ≡ true
+    by : (hit : Bool) → (list_all is_parcel (map as_parcel rest) ≡ true → length c.lines ≤ 100)
+        → list_all is_parcel (map as_parcel (cond hit (d ∷ rest) rest)) ≡ true
         → length c.lines ≤ 100
     by true more parcels = more (and_parts (is_parcel (as_parcel d)) (list_all is_parcel (map as_parcel rest)) parcels).1
     by false more parcels = more parcels
@@ -146,7 +167,8 @@ module _ (books : Books) (sound : IsSound widest_rules books) where
 -- ---- a dispatch and a receipt
 
 module _ (rules : Rules) (b : ℕ) (command : Command) (books : Books) (branch : IsNumber b) (held : IsHeld books) (sound : IsSound widest_rules books) where
-  dispatch_values : (to : ℕ) (xs : List ℕ) → IsNumber to → length (new_consignment b to xs books).lines ≤ 100 → AreValues (book_acted rules b command (model.Dispatch to xs) books)
+  dispatch_values : (to : ℕ) (xs : List ℕ) → IsNumber to → length (new_consignment b to xs books).lines ≤ 100
+      → AreValues (book_acted rules b command (model.Dispatch to xs) books)
   dispatch_values to xs addressee lines =
       let v = held.values in
       let own = both_few (λ (it : Consignment). it.source == b) (λ (it : Consignment). it.addressee == to) books.consignments in
@@ -169,7 +191,8 @@ module _ (rules : Rules) (b : ℕ) (command : Command) (books : Books) (branch :
         lasts = v.lasts;
       }
 
-  module _ (source number : ℕ) (missing : List ℕ) (few : length (shop_of b (book_acted rules b command (model.Receive source number missing) books)).copies ≤ 1_000_000) where
+  module _ (source number : ℕ) (missing : List ℕ)
+      (few : length (shop_of b (book_acted rules b command (model.Receive source number missing) books)).copies ≤ 1_000_000) where
     abbrev lines : List Line
     lines = come source b number missing books.consignments
 
@@ -184,28 +207,41 @@ module _ (rules : Rules) (b : ℕ) (command : Command) (books : Books) (branch :
         record {
           catalogue = v.catalogue;
           rows = by_table AreRowValues CopyRows _ books
-              (unpacked_rows b lines books.copies branch (come_lines missing (is_consignment source b number) books.consignments v.consignments) fit (v.rows CopyRows))
+              (unpacked_rows b lines books.copies branch
+              (come_lines missing (is_consignment source b number) books.consignments v.consignments) fit (v.rows CopyRows))
               v.rows;
           lots = v.lots;
           consignments = updated IsConsignment (is_consignment source b number) (checked missing)
-              (λ it such. record { source = such.source; addressee = such.addressee; number = such.number; place = such.place; few = few_checked missing 1 it.lines such.few; lines = checked_lines missing 1 it.lines such.lines }) books.consignments v.consignments;
+              (λ it such.
+              record {
+                source = such.source;
+                addressee = such.addressee;
+                number = such.number;
+                place = such.place;
+                few = few_checked missing 1 it.lines such.few;
+                lines = checked_lines missing 1 it.lines such.lines;
+              })
+              books.consignments v.consignments;
           kept = v.kept;
           lasts = v.lasts;
         }
 
 -- what an accepted command makes of sound books
-module _ (rules : Rules) (b : ℕ) (command : Command) (books : Books) (branch : IsNumber b) (is : IsCommand command) (held : IsHeld books) (sound : IsSound widest_rules books)
+module _ (rules : Rules) (b : ℕ) (command : Command) (books : Books) (branch : IsNumber b)
+    (is : IsCommand command) (held : IsHeld books) (sound : IsSound widest_rules books)
     (after : IsSound widest_rules (book_done rules b command books)) (fits : FitsTables rules command.act) where
   few_come : (source number : ℕ) (missing : List ℕ) → command.act ≡ model.Receive source number missing
       → length (shop_of b (book_acted rules b command (model.Receive source number missing) books)).copies ≤ 1_000_000
-  few_come source number missing same = subst (λ (a : Act). length (shop_of b (book_acted rules b command a books)).copies ≤ 1_000_000) same (after.shops b).copies
+  few_come source number missing same =
+      subst (λ (a : Act). length (shop_of b (book_acted rules b command a books)).copies ≤ 1_000_000) same (after.shops b).copies
 
   rows : (act : Act) → command.act ≡ act → IfConsigns act (AreValues (book_acted rules b command act books))
   rows (model.Dispatch to xs) same =
       let act : IsAct (model.Dispatch to xs) = subst IsAct same is.act in
       let parcels = subst (λ (a : Act). list_all is_parcel (shop_of b (book_acted rules b command a books)).sent ≡ true) same (after.links b).parcels in
       dispatch_values rules b command books branch held sound to xs act.0 (last_few b books.consignments (new_consignment b to xs books) (same_test b) parcels)
-  rows (model.Receive source number missing) same = receipt_values rules b command books branch held sound source number missing (few_come source number missing same)
+  rows (model.Receive source number missing) same =
+      receipt_values rules b command books branch held sound source number missing (few_come source number missing same)
   rows act same = tt
 
   pub accepted_values : AreValues (book_done rules b command books)

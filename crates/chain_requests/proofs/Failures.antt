@@ -1,5 +1,6 @@
 -- Which answers say that the store failed.
-use Rattle.shop_schema.proofs.Common.{◌≡◌, ℕ, Bool, true, false, not, refl, bytes_eq, StoreFailed, Reply, Answer, answer_of, problem_text, is_decided, is_store_failure, decided_is}
+use Rattle.shop_schema.proofs.Common.{◌≡◌, ℕ, Bool, true, false, not, refl, bytes_eq, StoreFailed, Reply, Answer, answer_of, problem_text, is_decided}
+use Rattle.shop_schema.proofs.Common.{is_store_failure, decided_is}
 use Rattle.std.specs.Prelude.{◌==◌, ◌&&◌}
 
 -- no decision says so

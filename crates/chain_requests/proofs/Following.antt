@@ -1,5 +1,9 @@
 -- One run follows another.
-use Rattle.shop_schema.proofs.Common.{◌≡◌, List, [], ◌∷◌, ◌++◌, length, map, Bool, true, false, inl, inr, Some, refl, sym, ap, ap₂, subst, arith, ◌∙◌, length-append, if◌then◌else◌, bytes_eq, cases_Bool, and_parts, or_left, or_right, list_all, map-append, filter-append, list_any-append, Limits, OfficeAsk, Rules, StoreFailed, Reply, Answer, answer_of, problem_text, Books, Event, Caller, after, run, last_books, office_look, IsRun, is_decided, is_store_failure, is_answer, counted_in, fails_for_good, has_failed, run_append, last_append, runs_resend}
+use Rattle.shop_schema.proofs.Common.{◌≡◌, List, [], ◌∷◌, ◌++◌, length, map, Bool, true, false, inl, inr, Some, refl, sym, ap, ap₂, subst, arith, ◌∙◌}
+use Rattle.shop_schema.proofs.Common.{length-append, if◌then◌else◌, bytes_eq, cases_Bool, and_parts, or_left, or_right, list_all, map-append, filter-append}
+use Rattle.shop_schema.proofs.Common.{list_any-append, Limits, OfficeAsk, Rules, StoreFailed, Reply, Answer, answer_of, problem_text, Books, Event, Caller}
+use Rattle.shop_schema.proofs.Common.{after, run, last_books, office_look, IsRun, is_decided, is_store_failure, is_answer, counted_in, fails_for_good}
+use Rattle.shop_schema.proofs.Common.{has_failed, run_append, last_append, runs_resend}
 use Rattle.std.specs.Prelude.{◌||◌, ◌==◌}
 use Rattle.shop_model.proofs.Origins.{all_append}
 use Rattle.branch_work.specs.Rules.{rules_of}
@@ -43,7 +47,8 @@ counts_both (e ∷ events) more (a ∷ answers) others same on =
       ]
     ]
 
-stays_both : (answers others : List Answer) → fails_for_good answers ≡ true → fails_for_good others ≡ true → FailsOn answers others → fails_for_good (answers ++ others) ≡ true
+stays_both : (answers others : List Answer) → fails_for_good answers ≡ true
+    → fails_for_good others ≡ true → FailsOn answers others → fails_for_good (answers ++ others) ≡ true
 stays_both [] others good more on = more
 stays_both (a ∷ answers) others good more on = elim (cases_Bool (is_store_failure a)) [
   | inl fails ↦ let all : list_all is_store_failure answers ≡ true = rw fails at good in
@@ -55,7 +60,8 @@ stays_both (a ∷ answers) others good more on = elim (cases_Bool (is_store_fail
 -- ---- the run
 
 run_follows : (rules : Rules) (look : OfficeAsk → Books → Reply) (events more : List Event) (answers others : List Answer) (old mid new : Books)
-    → IsRun rules look events answers old mid → IsRun rules look more others mid new → FailsOn answers others → IsRun rules look (events ++ more) (answers ++ others) old new
+    → IsRun rules look events answers old mid → IsRun rules look more others mid new
+    → FailsOn answers others → IsRun rules look (events ++ more) (answers ++ others) old new
 run_follows rules look events more answers others old mid new first second on =
     let Told : List Event → Books → List Answer = λ history books. map (λ (it : Caller × Reply). answer_of it.1) (run rules look history books) in
     let history = counted_in events answers in
@@ -86,7 +92,8 @@ failing_both (e ∷ events) more (a ∷ answers) others same = elim (cases_Bool 
   | inr isnt ↦ let fewer : length answers ≡ length events = omega arith in rw isnt (failing_both events more answers others fewer)
 ]
 
-module _ (old mid new : Holding) (events more : List Event) (answers others : List Answer) (first : Runs events answers old mid) (second : Runs more others mid new) where
+module _ (old mid new : Holding) (events more : List Event) (answers others : List Answer)
+    (first : Runs events answers old mid) (second : Runs more others mid new) where
   fails_on : FailsOn answers others
   fails_on did = second.stays (first.failed ∙ or_right old.is_failed (has_failed answers) did)
 
@@ -95,7 +102,8 @@ module _ (old mid new : Holding) (events more : List Event) (answers others : Li
       let later = subst (λ (l : Limits). IsRun (rules_of l) office_look more others mid.books new.books) first.limits second.run in
       run_follows (rules_of old.limits) office_look events more answers others old.books mid.books new.books first.run later fails_on
 
-  follows_failed : old.is_failed ≡ false → (e : Event) → failing (events ++ more) (answers ++ others) ≡ Some e → new.besides ≡ after (rules_of old.limits) e new.books
+  follows_failed : old.is_failed ≡ false → (e : Event) → failing (events ++ more) (answers ++ others) ≡ Some e
+      → new.besides ≡ after (rules_of old.limits) e new.books
   follows_failed fine e is = elim (cases_Bool (has_failed answers)) [
     | inl did ↦
         let it : failing events answers ≡ Some e = rw did at (sym (failing_both events more answers others first.run.each) ∙ is) in
@@ -113,7 +121,9 @@ pub runs_follow : (old mid new : Holding) (events more : List Event) (answers ot
     → Runs events answers old mid → Runs more others mid new → Runs (events ++ more) (answers ++ others) old new
 runs_follow old mid new events more answers others first second = record {
   limits = second.limits ∙ first.limits;
-  failed = rw (list_any-append is_store_failure answers others) (or_then old.is_failed (has_failed answers) mid.is_failed (has_failed others) new.is_failed first.failed second.failed);
+  failed =
+      rw (list_any-append is_store_failure answers others)
+      (or_then old.is_failed (has_failed answers) mid.is_failed (has_failed others) new.is_failed first.failed second.failed);
   stays = λ was. all_append is_store_failure answers others (first.stays was) (second.stays (first.failed ∙ or_left old.is_failed (has_failed answers) was));
   same = λ was. second.same (first.failed ∙ or_left old.is_failed (has_failed answers) was) ∙ first.same was;
   at_failure = follows_failed old mid new events more answers others first second;

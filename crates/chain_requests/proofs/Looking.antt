@@ -1,5 +1,6 @@
 -- The result of a branch's request that changes no books.
-use Rattle.shop_schema.proofs.Common.{◌≡◌, ◌∙◌, refl, sym, ap, subst, inl, inr, cases_Bool, ℕ, State, Limits, lacks, Ask, Request, Look, Sorry, NoRoute, reply_to, answer_of, Books, Counter, shop_of, branch_after, seen_reply, Holds}
+use Rattle.shop_schema.proofs.Common.{◌≡◌, ◌∙◌, refl, sym, ap, subst, inl, inr, cases_Bool, ℕ, State, Limits, lacks, Ask, Request, Look, Sorry, NoRoute}
+use Rattle.shop_schema.proofs.Common.{reply_to, answer_of, Books, Counter, shop_of, branch_after, seen_reply, Holds}
 use Rattle.shop_ledger.specs.declared.answered.Answered.{Answered}
 use Rattle.branch_looks.specs.Looks.{IsAnswered, TellsDecision}
 use Rattle.branch_looks.specs.declared.work.Listing.{Listing}
@@ -16,7 +17,8 @@ module _ (limits : Limits) (b : ℕ) (books : Books) where
   left_same request same = elim (cases_Bool (lacks books.catalogue.branches b)) [ inl none ↦ rw none refl | inr there ↦ rw there same ]
 
   -- a reading has its answer, or asks for the report that shows it
-  pub look_come : (ask : Ask) (it : Work Listing) (s : State) → IsAnswered b ask it books → Holds s books → HasCome shown_by limits (Counter b) (Look ask) (for_branch b it) s books
+  pub look_come : (ask : Ask) (it : Work Listing) (s : State) → IsAnswered b ask it books
+      → Holds s books → HasCome shown_by limits (Counter b) (Look ask) (for_branch b it) s books
   look_come ask (work.Answered it) s answered holds =
       let left = left_same (Look ask) refl in
       record { reply = (answered (rules_of limits)).0; holds = subst (Holds s) (sym left) holds; same = λ _. left }
@@ -24,7 +26,8 @@ module _ (limits : Limits) (b : ℕ) (books : Books) where
 
   -- a request of head office has no route for a branch
   pub office_refused : (request : Request) (it : Answered) (s : State) → reply_to (rules_of limits) b books.catalogue (shop_of b books) request ≡ Sorry NoRoute
-      → branch_after (rules_of limits) b request books ≡ books → seen_reply it.reply ≡ no_route b books → Holds s books → IsDone limits (Counter b) request it s books
+      → branch_after (rules_of limits) b request books ≡ books → seen_reply it.reply ≡ no_route b books
+      → Holds s books → IsDone limits (Counter b) request it s books
   office_refused request it s told same is holds =
       let left = left_same request same in
       record {

@@ -1,5 +1,7 @@
 -- A run grows by one answer at a time.
-use Rattle.shop_schema.proofs.Common.{◌≡◌, List, [], ◌∷◌, ◌++◌, length, Bool, true, false, inl, inr, Some, None, refl, sym, ap, subst, arith, ◌∙◌, if◌then◌else◌, cases_Bool, list_all, list_all-append, Limits, Answer, Books, Event, Caller, caller_in, known_caller, after_for, after, office_look, IsStep, IsRun, is_store_failure, has_failed, run_more, run_none, failed_more, runs_resend}
+use Rattle.shop_schema.proofs.Common.{◌≡◌, List, [], ◌∷◌, ◌++◌, length, Bool, true, false, inl, inr, Some, None, refl, sym, ap, subst, arith, ◌∙◌}
+use Rattle.shop_schema.proofs.Common.{if◌then◌else◌, cases_Bool, list_all, list_all-append, Limits, Answer, Books, Event, Caller, caller_in, known_caller}
+use Rattle.shop_schema.proofs.Common.{after_for, after, office_look, IsStep, IsRun, is_store_failure, has_failed, run_more, run_none, failed_more, runs_resend}
 use Rattle.std.specs.Prelude.{◌||◌}
 use Rattle.shop_model.proofs.Callers.{known_same}
 use Rattle.branch_work.specs.Rules.{rules_of}
@@ -37,7 +39,8 @@ runs_none held = record {
     or_false false = refl
 
 run_then : (old mid new : Holding) (events : List Event) (answers : List Answer) (event : Event) (answer : Answer)
-    → Runs events answers old mid → AnswersEvent event answer mid new → IsRun (rules_of old.limits) office_look (events ++ event ∷ []) (answers ++ answer ∷ []) old.books new.books
+    → Runs events answers old mid → AnswersEvent event answer mid new
+    → IsRun (rules_of old.limits) office_look (events ++ event ∷ []) (answers ++ answer ∷ []) old.books new.books
 run_then old mid new events answers event answer runs step =
     let caller : Caller = caller_in event mid.books in
     let Step : Limits → Caller → Type 0 = λ limits asker. IsStep (rules_of limits) office_look asker (event.request caller) answer mid.books new.books in
@@ -64,18 +67,23 @@ failing_more (e ∷ events) (a ∷ answers) event answer same = elim (cases_Bool
 ]
 
 -- the store fails now
-fails_now : (limits : Limits) (mid new : Holding) (event : Event) (answer : Answer) → mid.limits ≡ limits → AnswersEvent event answer mid new → mid.is_failed ≡ false → is_store_failure answer ≡ true
+fails_now : (limits : Limits) (mid new : Holding) (event : Event) (answer : Answer) → mid.limits ≡ limits
+    → AnswersEvent event answer mid new → mid.is_failed ≡ false → is_store_failure answer ≡ true
     → new.besides ≡ after (rules_of limits) event new.books
 fails_now limits mid new event answer same step fine is =
     let caller = caller_in event mid.books in
     let fails = step.at_failure is in
     let next : Books = after_for (rules_of mid.limits) (known_caller mid.books.catalogue caller) (event.request caller) mid.books in
     let now : new ≡ record mid { is_failed = true; besides = next } = rw fine at fails in
-    let known : next ≡ after (rules_of mid.limits) event mid.books = ap (λ (c : Caller). after_for (rules_of mid.limits) c (event.request caller) mid.books) (known_same event.token mid.books.catalogue) in
-    ap (λ (h : Holding). h.besides) now ∙ known ∙ ap (λ (l : Limits). after (rules_of l) event mid.books) same ∙ ap (λ (b : Books). after (rules_of limits) event b) (sym (ap (λ (h : Holding). h.books) now))
+    let known : next ≡ after (rules_of mid.limits) event mid.books =
+    ap (λ (c : Caller). after_for (rules_of mid.limits) c (event.request caller) mid.books) (known_same event.token mid.books.catalogue) in
+    ap (λ (h : Holding). h.besides) now ∙ known ∙ ap (λ (l : Limits). after (rules_of l) event mid.books) same
+    ∙ ap (λ (b : Books). after (rules_of limits) event b) (sym (ap (λ (h : Holding). h.books) now))
 
-module _ (old mid new : Holding) (events : List Event) (answers : List Answer) (event : Event) (answer : Answer) (runs : Runs events answers old mid) (step : AnswersEvent event answer mid new) where
-  more_fails : old.is_failed ≡ false → (e : Event) → failing (events ++ event ∷ []) (answers ++ answer ∷ []) ≡ Some e → new.besides ≡ after (rules_of old.limits) e new.books
+module _ (old mid new : Holding) (events : List Event) (answers : List Answer) (event : Event)
+    (answer : Answer) (runs : Runs events answers old mid) (step : AnswersEvent event answer mid new) where
+  more_fails : old.is_failed ≡ false → (e : Event) → failing (events ++ event ∷ []) (answers ++ answer ∷ []) ≡ Some e
+      → new.besides ≡ after (rules_of old.limits) e new.books
   more_fails fine e is = elim (cases_Bool (has_failed answers)) [
     | inl did ↦
         let first : failing events answers ≡ Some e = rw did at (sym (failing_more events answers event answer runs.run.each) ∙ is) in
@@ -83,17 +91,20 @@ module _ (old mid new : Holding) (events : List Event) (answers : List Answer) (
         let same = failed_stays event answer mid new step was in
         ap (λ (h : Holding). h.besides) same ∙ runs.at_failure fine e first ∙ ap (λ (h : Holding). after (rules_of old.limits) e h.books) (sym same)
     | inr none ↦
-        let now : (if is_store_failure answer then Some event else None) ≡ Some e = rw none at (sym (failing_more events answers event answer runs.run.each) ∙ is) in
+        let now : (if is_store_failure answer then Some event else None) ≡ Some e =
+        rw none at (sym (failing_more events answers event answer runs.run.each) ∙ is) in
         let sound : mid.is_failed ≡ false = rw (fine, none) at runs.failed in
         one_fails sound e now
   ]
     where
-      one_fails : mid.is_failed ≡ false → (e : Event) → (if is_store_failure answer then Some event else None) ≡ Some e → new.besides ≡ after (rules_of old.limits) e new.books
+      one_fails : mid.is_failed ≡ false → (e : Event) → (if is_store_failure answer then Some event else None) ≡ Some e
+          → new.besides ≡ after (rules_of old.limits) e new.books
       one_fails sound e now = elim (cases_Bool (is_store_failure answer)) [
         | inl does ↦
             let it : Some event ≡ Some e = rw does at now in
             let who : event ≡ e = cc in
-            subst (λ (x : Event). new.besides ≡ after (rules_of old.limits) x new.books) who (fails_now old.limits mid new event answer runs.limits step sound does)
+            subst (λ (x : Event). new.besides ≡ after (rules_of old.limits) x new.books) who
+            (fails_now old.limits mid new event answer runs.limits step sound does)
         | inr not ↦ let no : None ≡ Some e = rw not at now in cc
       ]
 
@@ -101,7 +112,9 @@ pub runs_more : (old mid new : Holding) (events : List Event) (answers : List An
     → Runs events answers old mid → AnswersEvent event answer mid new → Runs (events ++ event ∷ []) (answers ++ answer ∷ []) old new
 runs_more old mid new events answers event answer runs step = record {
   limits = step.limits ∙ runs.limits;
-  failed = rw (failed_more answers answer) (has_failed_then old.is_failed (has_failed answers) mid.is_failed new.is_failed (is_store_failure answer) runs.failed step.failed step.stays);
+  failed =
+      rw (failed_more answers answer)
+      (has_failed_then old.is_failed (has_failed answers) mid.is_failed new.is_failed (is_store_failure answer) runs.failed step.failed step.stays);
   stays = λ was.
       let all : list_all is_store_failure answers ≡ true = runs.stays was in
       let so : mid.is_failed ≡ true = rw was at runs.failed in

@@ -4,7 +4,8 @@ use Rattle.chain_requests.specs.Holding.{Chained, Holding, holding}
 use Rattle.chain_requests.specs.Chains.{Takes}
 
 -- nothing is done, whatever the books are
-pub takes_still : {S : Type 0} {g : Ghosts S} {chain : Chained S} {P : Holding → Holding → Type 0} → ((books besides : Books) → P (holding chain books besides) (holding chain books besides)) → Takes g chain chain P
+pub takes_still : {S : Type 0} {g : Ghosts S} {chain : Chained S} {P : Holding → Holding → Type 0}
+    → ((books besides : Books) → P (holding chain books besides) (holding chain books besides)) → Takes g chain chain P
 takes_still {S} {g} {chain} {P} is = record {
   clean = λ now. now;
   goes = λ now books besides at. (books, besides, is books besides, at);

@@ -13,7 +13,9 @@ abbrev pub answered_to : Rules → ℕ → List Event → List Answer → Books 
 answered_to rules b [] answers books = []
 answered_to rules b (event ∷ events) [] books = []
 answered_to rules b (event ∷ events) (answer ∷ answers) books =
-    if is_decided answer then (if is_counter b (caller_in event books) then answer ∷ answered_to rules b events answers (after rules event books) else answered_to rules b events answers (after rules event books))
+    if is_decided answer
+    then (if is_counter b (caller_in event books) then answer ∷ answered_to rules b events answers (after rules event books)
+    else answered_to rules b events answers (after rules event books))
     else answered_to rules b events answers books
 
 -- the part of the counted history that the branch sees

@@ -76,7 +76,8 @@ pub record Takes {S : Type 0} (g : Ghosts S) (old new : Chained S) (P : Holding 
 -- The store fails at this request: a crash may leave the books after the request, too. A chain that had failed doesn't change.
 abbrev pub failed_at : Caller → Request → Holding → Holding
 failed_at caller request old =
-    if old.is_failed then old else record old { is_failed = true; besides = after_for (rules_of old.limits) (known_caller old.books.catalogue caller) request old.books }
+    if old.is_failed then old
+    else record old { is_failed = true; besides = after_for (rules_of old.limits) (known_caller old.books.catalogue caller) request old.books }
 
 -- One request of a caller. Either the books make their step and the caller gets its reply, or memory or room ran out and the books stay, or the store fails.
 -- Once the store has failed, it fails at all later requests.

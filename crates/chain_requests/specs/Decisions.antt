@@ -15,7 +15,8 @@ use Rattle.chain_requests.specs.Audits.{IsAuditOfBooks}
 
 -- out of memory or room, the chain stays as it was; once the store has failed, it fails at all later calls
 abbrev pub IsStoreRefusal : Refusal → Holding → Holding → Type 0
-IsStoreRefusal refusal old new = (((refusal ≡ Memory) ⊎ (refusal ≡ Size)) × (new ≡ old) × (old.is_failed ≡ false)) ⊎ ((refusal ≡ StoreFailed) × (new ≡ record old { is_failed = true }))
+IsStoreRefusal refusal old new =
+    (((refusal ≡ Memory) ⊎ (refusal ≡ Size)) × (new ≡ old) × (old.is_failed ≡ false)) ⊎ ((refusal ≡ StoreFailed) × (new ≡ record old { is_failed = true }))
 
 -- the same at a request: if the store fails at the request, a crash may leave the books after the request, too
 abbrev pub IsStoreRefusalAt : Caller → Request → Refusal → Holding → Holding → Type 0

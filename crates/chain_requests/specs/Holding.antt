@@ -18,7 +18,8 @@ pub record Chained (S : Type 0) : Type 0 where
 -- two chains are the same if all their parts are
 abbrev pub chained_code : {S : Type 0} → Coded S → Coded (Chained S)
 chained_code {S} store =
-    code_by ((ℕ × ℕ) × (Bool × (KnownFilms × (KnownCallers × Held S)))) (coded× (coded× coded_ℕ coded_ℕ) (coded× coded_bool (coded× entries_code (coded× callers_code (held_code store)))))
+    code_by ((ℕ × ℕ) × (Bool × (KnownFilms × (KnownCallers × Held S))))
+    (coded× (coded× coded_ℕ coded_ℕ) (coded× coded_bool (coded× entries_code (coded× callers_code (held_code store)))))
     (λ c. ((c.limits.commands, c.limits.copies), (c.is_failed, (c.films, (c.callers, c.conn)))))
     (λ p. record { limits = record { commands = p.0.0; copies = p.0.1 }; is_failed = p.1.0; films = p.1.1.0; callers = p.1.1.1.0; conn = p.1.1.1.1 })
     (λ _. refl)

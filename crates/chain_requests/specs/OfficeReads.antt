@@ -24,4 +24,5 @@ abbrev pub TellsAudit : Answer → State → Type 0
 TellsAudit answer old = (books : Books) → Rests old books → IsHeld books → IsSound widest_rules books → answer ≡ answer_of (office_look Audit books)
 
 abbrev pub TellsOffice : OfficeAsk → Answer → State → Type 0
-TellsOffice ask answer old = (books : Books) → Rests old books → IsHeld books → IsSound widest_rules books → answer ≡ answer_of (office_look (seen_office_ask ask) books)
+TellsOffice ask answer old =
+    (books : Books) → Rests old books → IsHeld books → IsSound widest_rules books → answer ≡ answer_of (office_look (seen_office_ask ask) books)

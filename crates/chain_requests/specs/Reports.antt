@@ -19,7 +19,8 @@ use Rattle.chain_requests.specs.Chains.{Rests}
 
 abbrev pub shown_by : Report → Books → Shown
 shown_by (OfBranch b list) books = listed b list books
-shown_by Sales books = RowsAre (map listed_store (flat_map (λ (it : ℕ × Branch). sales_by_store it.0 books.catalogue (shop_of it.0 books)) (numbered books.catalogue.branches)))
+shown_by Sales books =
+    RowsAre (map listed_store (flat_map (λ (it : ℕ × Branch). sales_by_store it.0 books.catalogue (shop_of it.0 books)) (numbered books.catalogue.branches)))
 shown_by Transit books = TransitIs (under_way books)
 
 -- the branch's work, with its list as a report

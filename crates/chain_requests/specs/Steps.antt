@@ -77,10 +77,12 @@ HasCome shown limits caller request (work.Shows it) new books =
 -- after it are rows of the books after it.
 abbrev pub Works : Limits → Caller → Request → (Books → Type 0) → KnownFilms → Work Report → State → State → Type 0
 Works limits caller request Given after work old new =
-    (books : Books) → Holds old books → Given books → HasCome shown_by limits caller request work new books × AreRows after (left_by limits caller request books).catalogue.films
+    (books : Books) → Holds old books → Given books
+    → HasCome shown_by limits caller request work new books × AreRows after (left_by limits caller request books).catalogue.films
 
 -- the step is made
-pub record IsMade (limits : Limits) (caller : Caller) (request : Request) (answer : Answer) (Given : Books → Type 0) (after : KnownFilms) (old new : State) : Type 0 where
+pub record IsMade (limits : Limits) (caller : Caller) (request : Request) (answer : Answer) (Given : Books → Type 0) (after : KnownFilms) (old new : State) :
+    Type 0 where
   pub reply : (books : Books) → Rests old books → Given books → answer ≡ told_to limits caller request books
   pub books : (books : Books) → Rests old books → Given books → Rests new (left_by limits caller request books)
   pub films : (books : Books) → Rests old books → Given books → AreRows after (left_by limits caller request books).catalogue.films

@@ -1,7 +1,9 @@
 -- What is found of listed copies and of a consignment is what the books have of them.
 use Rattle.std.proofs.Common.{flat_map}
 use Rattle.std.specs.Prelude.{◌||◌}
-use Rattle.shop_schema.proofs.Common.{◌≡◌, ◌∙◌, refl, sym, ap, ℕ, ◌+◌, ◌<◌, Bool, true, false, not, List, [], ◌∷◌, ◌++◌, length, map, take, get_or, Option, Some, None, append-nil, IfSome, if◌then◌else◌, list_any, map_push, take_more, at, lacks, numbered_from, of, in_stock, Books, Mark, Consignment, shop_of, map_map, ParcelLine, seen_parcel_line}
+use Rattle.shop_schema.proofs.Common.{◌≡◌, ◌∙◌, refl, sym, ap, ℕ, ◌+◌, ◌<◌, Bool, true, false, not, List, [], ◌∷◌, ◌++◌, length, map, take, get_or, Option}
+use Rattle.shop_schema.proofs.Common.{Some, None, append-nil, IfSome, if◌then◌else◌, list_any, map_push, take_more, at, lacks, numbered_from, of, in_stock}
+use Rattle.shop_schema.proofs.Common.{Books, Mark, Consignment, shop_of, map_map, ParcelLine, seen_parcel_line}
 use Rattle.shop_types.specs.NumberLists.{are_few}
 use Rattle.shop_store.specs.declared.copies.CopyRow.{CopyRow}
 use Rattle.shop_store.specs.Seen.{seen_copy_row}
@@ -16,12 +18,16 @@ use Rattle.consign_finds.specs.Finds.{AreListed, copy_parcel, line_parcel}
 -- ---- listed copies
 
 -- one copy more
-pub one_listed : (b : ℕ) (xs : List ℕ) (i x : ℕ) (books : Books) (row : CopyRow) (away outs out : Bool) (lines : List ParcelLine) → i < length xs → x ≡ get_or xs i x
+pub one_listed : (b : ℕ) (xs : List ℕ) (i x : ℕ) (books : Books) (row : CopyRow) (away outs out : Bool) (lines : List ParcelLine)
+    → i < length xs → x ≡ get_or xs i x
     → ◌≡◌ {A = Bool × Bool × Bool × List (ℕ × Mark)} (false, away, outs, map seen_parcel_line lines) (listed_at b (take i xs) books)
     → (seen_copy_row row).it ∷ [] ≡ at x (of b books.copies) → out ≡ not (in_stock x (shop_of b books).rentals)
-    → ◌≡◌ {A = Bool × Bool × Bool × List (ℕ × Mark)} (false, away || is_gone (Some (seen_copy_row row).it), outs || out, map seen_parcel_line (lines ++ copy_parcel row ∷ [])) (listed_at b (take (i + 1) xs) books)
+    → ◌≡◌ {A = Bool × Bool × Bool × List (ℕ × Mark)}
+    (false, away || is_gone (Some (seen_copy_row row).it), outs || out, map seen_parcel_line (lines ++ copy_parcel row ∷ []))
+    (listed_at b (take (i + 1) xs) books)
 one_listed b xs i x books row away outs out lines lt is before read is_out =
-    let grown : Bool × Bool × Bool × List (ℕ × Mark) → Bool × Bool × Bool × List (ℕ × Mark) = λ p. (p.0 || false, p.1 || is_gone (Some (seen_copy_row row).it), p.2 || out, p.3 ++ copy_parts (seen_copy_row row).it ∷ []) in
+    let grown : Bool × Bool × Bool × List (ℕ × Mark) → Bool × Bool × Bool × List (ℕ × Mark) =
+    λ p. (p.0 || false, p.1 || is_gone (Some (seen_copy_row row).it), p.2 || out, p.3 ++ copy_parts (seen_copy_row row).it ∷ []) in
     (λ j. (false, away || is_gone (Some (seen_copy_row row).it), outs || out, map_push seen_parcel_line lines (copy_parcel row) j))
     ∙ ap grown before
     ∙ sym (listed_more b books (take i xs) x (Some (seen_copy_row row).it) out read is_out)
@@ -33,11 +39,13 @@ few_lines lines P false is = tt
 
 -- if each of the listed copies was read
 pub each_listed : (b : ℕ) (xs : List ℕ) (books : Books) (away outs : Bool) (lines : List ParcelLine) (told : Option (List ParcelLine))
-    → ◌≡◌ {A = Bool × Bool × Bool × List (ℕ × Mark)} (false, away, outs, map seen_parcel_line lines) (listed_at b xs books) → told ≡ (if are_few lines then Some lines else None)
+    → ◌≡◌ {A = Bool × Bool × Bool × List (ℕ × Mark)} (false, away, outs, map seen_parcel_line lines) (listed_at b xs books)
+    → told ≡ (if are_few lines then Some lines else None)
     → AreListed b xs (record { has_unknown = false; has_away = away; has_out = outs; lines = told }) books
 each_listed b xs books away outs lines told is few = (
   listed_agrees b xs books (record { has_unknown = false; has_away = away; has_out = outs; lines = told }) (map seen_parcel_line lines) is,
-  rw few (few_lines lines (λ these. map seen_parcel_line these ≡ parts_at b xs books) (are_few lines) (ap (λ (p : Bool × Bool × Bool × List (ℕ × Mark)). p.3) is)),
+  rw few
+      (few_lines lines (λ these. map seen_parcel_line these ≡ parts_at b xs books) (are_few lines) (ap (λ (p : Bool × Bool × Bool × List (ℕ × Mark)). p.3) is)),
 )
 
 -- if one of the listed copies is unknown, nothing more is found
@@ -62,7 +70,8 @@ parcels_placed : (rows : List LineRow) → map seen_parcel_line (map line_parcel
 parcels_placed rows = map_map seen_parcel_line line_parcel rows ∙ sym (map_map (λ (p : Placed). line_parts p.it) seen_line rows)
 
 -- no header
-pub none_read : (found : List Consignment) → ◌≡◌ {A = List Header} [] (map header_of found) → ◌≡◌ {A = List (Bool × List (ℕ × Mark))} [] (map consignment_parts found)
+pub none_read : (found : List Consignment) → ◌≡◌ {A = List Header} [] (map header_of found)
+    → ◌≡◌ {A = List (Bool × List (ℕ × Mark))} [] (map consignment_parts found)
 none_read [] none = refl
 none_read (c ∷ cs) none = absurd (some none)
   where
@@ -74,7 +83,8 @@ first_received [] = false
 first_received (h ∷ hs) = h.received
 
 -- one header, and the lines
-pub arrival_read : (header : HeaderRow) (rows : List LineRow) (found : List Consignment) → seen_header header ∷ [] ≡ map header_of found → map seen_line rows ≡ flat_map placed_in found
+pub arrival_read : (header : HeaderRow) (rows : List LineRow) (found : List Consignment)
+    → seen_header header ∷ [] ≡ map header_of found → map seen_line rows ≡ flat_map placed_in found
     → ◌≡◌ {A = List (Bool × List (ℕ × Mark))} ((header.received, map seen_parcel_line (map line_parcel rows)) ∷ []) (map consignment_parts found)
 arrival_read header rows [] one lines = absurd (none one)
   where

@@ -10,7 +10,8 @@ map_stays g p f same (x ∷ xs) = λ i. go (p x) i ∷ map_stays g p f same xs i
     go true = same x
     go false = refl
 
-pub lists_stay : {X Y : Type 0} (g : X → List Y) (p : X → Bool) (f : X → X) → ((x : X) → g (f x) ≡ g x) → (xs : List X) → flat_map g (update_where p f xs) ≡ flat_map g xs
+pub lists_stay : {X Y : Type 0} (g : X → List Y) (p : X → Bool) (f : X → X)
+    → ((x : X) → g (f x) ≡ g x) → (xs : List X) → flat_map g (update_where p f xs) ≡ flat_map g xs
 lists_stay g p f same xs = sym (flat_map-map (λ l. l) g (update_where p f xs)) ∙ ap (flat_map (λ l. l)) (map_stays g p f same xs) ∙ flat_map-map (λ l. l) g xs
 
 -- nothing passes
@@ -18,7 +19,8 @@ pub unpicked : {X : Type 0} (p : X → Bool) (f : X → X) (xs : List X) → fil
 unpicked p f [] none = refl
 unpicked p f (x ∷ xs) none = go (p x) none (unpicked p f xs)
   where
-    go : (b : Bool) → cond b (x ∷ filter p xs) (filter p xs) ≡ [] → (filter p xs ≡ [] → update_where p f xs ≡ xs) → cond b (f x) x ∷ update_where p f xs ≡ x ∷ xs
+    go : (b : Bool) → cond b (x ∷ filter p xs) (filter p xs) ≡ []
+        → (filter p xs ≡ [] → update_where p f xs ≡ xs) → cond b (f x) x ∷ update_where p f xs ≡ x ∷ xs
     go true e more = absurd cc
     go false e more = ap (λ l. x ∷ l) (more e)
 
@@ -52,6 +54,7 @@ module _ {X : Type 0} (p : X → Bool) (f : X → X) (stays : (x : X) → p (f x
       rest : List X
       rest = filter p (update_where p f xs)
 
-      go : (b : Bool) → p x ≡ b → rest ≡ map f (filter p xs) → cond (p (cond b (f x) x)) (cond b (f x) x ∷ rest) rest ≡ map f (cond b (x ∷ filter p xs) (filter p xs))
+      go : (b : Bool) → p x ≡ b → rest ≡ map f (filter p xs)
+          → cond (p (cond b (f x) x)) (cond b (f x) x ∷ rest) rest ≡ map f (cond b (x ∷ filter p xs) (filter p xs))
       go true is more = ap (λ c. cond c (f x ∷ rest) rest) (stays x ∙ is) ∙ ap (λ l. f x ∷ l) more
       go false is more = ap (λ c. cond c (x ∷ rest) rest) is ∙ more

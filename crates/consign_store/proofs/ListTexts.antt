@@ -1,5 +1,9 @@
 -- The texts of a branch's two lists of consignments, and what they show of the books.
-use Rattle.shop_schema.proofs.Common.{number_total, ascending_weaker, shown_of, overlay, end, consignment_columns, is_true, true, ◌&&◌, Compare, Eq, Trees, Null, ◌≡◌, ◌==◌, ◌<◌, ℕ, List, [], ◌∷◌, map, filter, Bool, cond, refl, ap, ◌∙◌, Equal, nat_cmp, ordering_then, IsPermutation-refl, Value, column, value_cmp, ascending, Key, Binary, Term, col, Output, output_cmp, State, ascending-filter, number_value, IsQuery, is_query, Selects, number_cmp, one_tested, number_tested, are_equal, Books, Consignment, shop_schema, IsHeld, IsShop, StandsFor}
+use Rattle.shop_schema.proofs.Common.{number_total, ascending_weaker, shown_of, overlay, end, consignment_columns, is_true, true, ◌&&◌, Compare, Eq, Trees}
+use Rattle.shop_schema.proofs.Common.{Null, ◌≡◌, ◌==◌, ◌<◌, ℕ, List, [], ◌∷◌, map, filter, Bool, cond, refl, ap, ◌∙◌, Equal, nat_cmp, ordering_then}
+use Rattle.shop_schema.proofs.Common.{IsPermutation-refl, Value, column, value_cmp, ascending, Key, Binary, Term, col, Output, output_cmp, State}
+use Rattle.shop_schema.proofs.Common.{ascending-filter, number_value, IsQuery, is_query, Selects, number_cmp, one_tested, number_tested, are_equal, Books}
+use Rattle.shop_schema.proofs.Common.{Consignment, shop_schema, IsHeld, IsShop, StandsFor}
 use Rattle.sqlite_value.specs.Order as sql
 use Rattle.sqlite_sql.specs.Ops.{binary}
 use Rattle.sqlite_tied.specs.Compute.{everything}
@@ -26,11 +30,13 @@ module _ (tests : List Term) (params : sql.Row) (p : Consignment → Bool) where
       ≡ ordering_then (nat_cmp a.0.place b.0.place) (ordering_then (value_cmp (line_key a) (line_key b)) Equal)
   compares a b = ap (λ o. ordering_then o (ordering_then (value_cmp (line_key a) (line_key b)) Equal)) (number_cmp a.0.place b.0.place)
 
-  shows_by_place : (text : List ℕ) → Selects shop_schema text (list_query tests place_order) → Ends tests place_order params p place_keys → ReadsColumns tests place_order params p place_keys
+  shows_by_place : (text : List ℕ) → Selects shop_schema text (list_query tests place_order)
+      → Ends tests place_order params p place_keys → ReadsColumns tests place_order params p place_keys
       → (old new : State) (rows : List sql.Row) (books : Books) → IsShop old → Shown text params old new rows → StandsFor old.now.trees books → IsHeld books
       → rows ≡ map shown_line (list_lines (filter p books.consignments))
   shows_by_place text means ends columns old new rows books shop h s held =
-      shows_list tests place_order params p place_keys (λ x y. nat_cmp x.place y.place) (number_total (λ (it : Consignment). it.place)) compares text means ends columns
+      shows_list tests place_order params p place_keys (λ x y. nat_cmp x.place y.place)
+      (number_total (λ (it : Consignment). it.place)) compares text means ends columns
       old new rows books shop h s held.numbers.consignments (filter p books.consignments) (IsPermutation-refl _)
       (ascending_weaker (λ (x y : Consignment). x.place < y.place) _ (λ x y h. less x.place y.place h) (filter p books.consignments)
       (ascending-filter (λ (x y : Consignment). x.place < y.place) p books.consignments (places_rise books.consignments held.places)))
@@ -45,29 +51,40 @@ module _ (at : ℕ) (of : Consignment → ℕ) (b : ℕ) where
   own it = of it == b
 
   pub shows_own : (text : List ℕ) → Selects shop_schema text (list_query of_branch place_order)
-      → ((db : Trees) (it : Consignment) (r2 : sql.Row) → shown_of (list_query of_branch place_order) (overlay db []) end ((number_value b ∷ []) ∷ (Null ∷ consignment_columns it) ∷ r2 ∷ [])
-      ≡ cond (is_true (binary (Compare Eq Binary) (number_value (of it)) (number_value b)) && true) ((place_keys it (column r2 4), shown_by it (column r2 4) (column r2 5)) ∷ []) [])
+      → ((db : Trees) (it : Consignment) (r2 : sql.Row)
+      → shown_of (list_query of_branch place_order) (overlay db []) end ((number_value b ∷ []) ∷ (Null ∷ consignment_columns it) ∷ r2 ∷ [])
+      ≡ cond (is_true (binary (Compare Eq Binary) (number_value (of it)) (number_value b)) && true)
+      ((place_keys it (column r2 4), shown_by it (column r2 4) (column r2 5)) ∷ []) [])
       → ReadsColumns of_branch place_order (number_value b ∷ []) own place_keys
-      → (old new : State) (rows : List sql.Row) (books : Books) → IsShop old → Shown text (number_value b ∷ []) old new rows → StandsFor old.now.trees books → IsHeld books
+      → (old new : State) (rows : List sql.Row) (books : Books) → IsShop old
+      → Shown text (number_value b ∷ []) old new rows → StandsFor old.now.trees books → IsHeld books
       → rows ≡ map shown_line (list_lines (filter own books.consignments))
   shows_own text means given =
       shows_by_place of_branch (number_value b ∷ []) own text means
-      (λ db it r2. given db it r2 ∙ ap (λ t. cond t ((place_keys it (column r2 4), shown_by it (column r2 4) (column r2 5)) ∷ []) []) (one_tested _ (number_tested (of it) b)))
+      (λ db it r2.
+      given db it r2
+      ∙ ap (λ t. cond t ((place_keys it (column r2 4), shown_by it (column r2 4) (column r2 5)) ∷ []) []) (one_tested _ (number_tested (of it) b)))
 
 pub arrivals_ask : IsQuery SELECT_ARRIVALS.now
 unfolding everything
 arrivals_ask = is_query SELECT_ARRIVALS.now (record { parsed = _; is = refl; selects = refl; untimed = refl })
 
-pub shows_arrivals : (old new : State) (b : ℕ) (rows : List sql.Row) (books : Books) → IsShop old → Shown SELECT_ARRIVALS.now (number_value b ∷ []) old new rows → StandsFor old.now.trees books → IsHeld books
+pub shows_arrivals : (old new : State) (b : ℕ) (rows : List sql.Row) (books : Books) → IsShop old
+    → Shown SELECT_ARRIVALS.now (number_value b ∷ []) old new rows → StandsFor old.now.trees books → IsHeld books
     → rows ≡ map shown_line (list_lines (filter (λ (it : Consignment). it.addressee == b) books.consignments))
 unfolding understood everything
-shows_arrivals old new b = shows_own 2 (λ it. it.addressee) b SELECT_ARRIVALS.now (record { names = _; is = refl; plain = (refl, refl); unlisted = refl }) (λ db it r2. refl) (λ db r. refl) old new
+shows_arrivals old new b =
+    shows_own 2 (λ it. it.addressee) b SELECT_ARRIVALS.now
+    (record { names = _; is = refl; plain = (refl, refl); unlisted = refl }) (λ db it r2. refl) (λ db r. refl) old new
 
 pub sent_asks : IsQuery SELECT_SENT.now
 unfolding everything
 sent_asks = is_query SELECT_SENT.now (record { parsed = _; is = refl; selects = refl; untimed = refl })
 
-pub shows_sent : (old new : State) (b : ℕ) (rows : List sql.Row) (books : Books) → IsShop old → Shown SELECT_SENT.now (number_value b ∷ []) old new rows → StandsFor old.now.trees books → IsHeld books
+pub shows_sent : (old new : State) (b : ℕ) (rows : List sql.Row) (books : Books) → IsShop old
+    → Shown SELECT_SENT.now (number_value b ∷ []) old new rows → StandsFor old.now.trees books → IsHeld books
     → rows ≡ map shown_line (list_lines (filter (λ (it : Consignment). it.source == b) books.consignments))
 unfolding understood everything
-shows_sent old new b = shows_own 1 (λ it. it.source) b SELECT_SENT.now (record { names = _; is = refl; plain = (refl, refl); unlisted = refl }) (λ db it r2. refl) (λ db r. refl) old new
+shows_sent old new b =
+    shows_own 1 (λ it. it.source) b SELECT_SENT.now
+    (record { names = _; is = refl; plain = (refl, refl); unlisted = refl }) (λ db it r2. refl) (λ db r. refl) old new

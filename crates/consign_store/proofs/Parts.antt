@@ -1,7 +1,13 @@
 -- The rows of the two tables as lists of the books, and what each change of the books makes of them.
-use Rattle.shop_schema.proofs.Common.{append-nil, append_assoc, ◌≡◌, ◌≤◌, ◌<◌, ◌+◌, ◌-◌, ◌==◌, ◌&&◌, ℕ, List, [], ◌∷◌, ◌++◌, map, filter, length, Bool, true, false, cond, refl, sym, ap, subst, ◌∙◌, arith, IsPermutation, flat_map, and_parts, nat_tests, map-append, filter-append, IsPermutation-sym, IsPermutation-trans, IsPermutation-middle, IsPermutation-to_front, IsPermutation-append_right, update_where, PicksOne, same_flag, set_at, numbered, numbered_from, IsCounted, Line, LineState, UnderWay, Arrived, Missing, Consignment, is_consignment, same_if, length_map, filter_map, numbered_push, consignment_columns, line_value, line_columns, line_rows}
+use Rattle.shop_schema.proofs.Common.{append-nil, append_assoc, ◌≡◌, ◌≤◌, ◌<◌, ◌+◌, ◌-◌, ◌==◌, ◌&&◌, ℕ, List, [], ◌∷◌, ◌++◌, map, filter, length, Bool, true}
+use Rattle.shop_schema.proofs.Common.{false, cond, refl, sym, ap, subst, ◌∙◌, arith, IsPermutation, flat_map, and_parts, nat_tests, map-append, filter-append}
+use Rattle.shop_schema.proofs.Common.{IsPermutation-sym, IsPermutation-trans, IsPermutation-middle, IsPermutation-to_front, IsPermutation-append_right}
+use Rattle.shop_schema.proofs.Common.{update_where, PicksOne, same_flag, set_at, numbered, numbered_from, IsCounted, Line, LineState, UnderWay, Arrived}
+use Rattle.shop_schema.proofs.Common.{Missing, Consignment, is_consignment, same_if, length_map, filter_map, numbered_push, consignment_columns, line_value}
+use Rattle.shop_schema.proofs.Common.{line_columns, line_rows}
 use Rattle.shop_schema.proofs.Lists.{counted_once, filter_twice}
-use Rattle.consign_store.specs.Parts.{Header, header_of, header_columns, Placed, placed_at, placed_in, all_placed, placed_columns, is_header, is_within, is_placed, push_line, put_state, set_state, receive}
+use Rattle.consign_store.specs.Parts.{Header, header_of, header_columns, Placed, placed_at, placed_in, all_placed, placed_columns, is_header, is_within}
+use Rattle.consign_store.specs.Parts.{is_placed, push_line, put_state, set_state, receive}
 use Rattle.shop_ledger.proofs.Rising.{Rises, counted_rise}
 use Rattle.consign_store.proofs.ListLemmas.{update_append, unpicked}
 
@@ -46,7 +52,14 @@ same_placed a b h =
     let branch : a.it.mark.branch ≡ b.it.mark.branch = cc in
     let copy : a.it.mark.copy ≡ b.it.mark.copy = cc in
     let state : a.it.state ≡ b.it.state = same_state a.it.state b.it.state cc in
-    (λ i. record { source = source i; addressee = addressee i; number = number i; line = line i; it = record { film = film i; mark = record { branch = branch i; copy = copy i }; state = state i } })
+    (λ i.
+    record {
+      source = source i;
+      addressee = addressee i;
+      number = number i;
+      line = line i;
+      it = record { film = film i; mark = record { branch = branch i; copy = copy i }; state = state i };
+    })
 
 -- ---- what passes tests
 
@@ -72,7 +85,8 @@ module _ (s a n : ℕ) where
   lines_pass [] = refl
   lines_pass (it ∷ cs) = filter-append (is_within s a n) (placed_in it) (all_placed cs) ∙ go (is it) refl (lines_pass cs)
     where
-      go : (b : Bool) → is it ≡ b → filter (is_within s a n) (all_placed cs) ≡ all_placed (filter is cs) → filter (is_within s a n) (placed_in it) ++ filter (is_within s a n) (all_placed cs) ≡ all_placed (cond b (it ∷ filter is cs) (filter is cs))
+      go : (b : Bool) → is it ≡ b → filter (is_within s a n) (all_placed cs) ≡ all_placed (filter is cs)
+          → filter (is_within s a n) (placed_in it) ++ filter (is_within s a n) (all_placed cs) ≡ all_placed (cond b (it ∷ filter is cs) (filter is cs))
       go true hit more = λ i. all_within it hit (numbered it.lines) i ++ more i
       go false miss more = λ i. none_within it miss (numbered it.lines) i ++ more i
 
@@ -83,7 +97,9 @@ module _ (s a n : ℕ) where
   -- the lines of at most one consignment
   pub lines_rise : (found : List Consignment) → length found ≤ 1 → Rises (λ (row : Placed). row.line) (all_placed found)
   lines_rise [] few = tt
-  lines_rise (it ∷ []) few = subst (Rises (λ (row : Placed). row.line)) (sym (append-nil (placed_in it))) (counted_rise (λ (row : Placed). row.line) 1 (placed_in it) (placed_counted it 1 it.lines))
+  lines_rise (it ∷ []) few =
+      subst (Rises (λ (row : Placed). row.line)) (sym (append-nil (placed_in it)))
+      (counted_rise (λ (row : Placed). row.line) 1 (placed_in it) (placed_counted it 1 it.lines))
   lines_rise (it ∷ other ∷ more) few = absurd (omega (arith, few))
 
   pub picks_placed : (k : ℕ) (cs : List Consignment) → PicksOne is cs → PicksOne (is_placed s a n k) (all_placed cs)
@@ -123,9 +139,12 @@ module _ (s a n : ℕ) where
     none_set it miss [] = refl
     none_set it miss (l ∷ ls) = rw miss (ap (λ rows. placed_at it l ∷ rows) (none_set it miss ls))
 
-    later_set : (it : Consignment) → is it ≡ true → (j : ℕ) → k < j → (ls : List Line) → set_here (map (placed_at it) (numbered_from j ls)) ≡ map (placed_at it) (numbered_from j ls)
+    later_set : (it : Consignment) → is it ≡ true → (j : ℕ) → k < j → (ls : List Line)
+        → set_here (map (placed_at it) (numbered_from j ls)) ≡ map (placed_at it) (numbered_from j ls)
     later_set it hit j above [] = refl
-    later_set it hit j above (l ∷ ls) = let other : (j == k) ≡ false = grind (arith, nat_tests) in rw (hit, other) (ap (λ rows. placed_at it (j, l) ∷ rows) (later_set it hit (j + 1) (omega arith) ls))
+    later_set it hit j above (l ∷ ls) =
+        let other : (j == k) ≡ false = grind (arith, nat_tests) in
+        rw (hit, other) (ap (λ rows. placed_at it (j, l) ∷ rows) (later_set it hit (j + 1) (omega arith) ls))
 
     one_set : (it : Consignment) → is it ≡ true → (j m : ℕ) → 1 ≤ m → k + 1 ≡ j + m → (ls : List Line)
         → map (placed_at it) (numbered_from j (set_at m (put_state state) ls)) ≡ set_here (map (placed_at it) (numbered_from j ls))
@@ -133,8 +152,11 @@ module _ (s a n : ℕ) where
     one_set it hit j m low is_at (l ∷ ls) = go (m == 1) refl (λ lower next. one_set it hit (j + 1) (m - 1) lower next ls)
       where
         go : (b : Bool) → (m == 1) ≡ b
-            → (1 ≤ m - 1 → k + 1 ≡ j + 1 + (m - 1) → map (placed_at it) (numbered_from (j + 1) (set_at (m - 1) (put_state state) ls)) ≡ set_here (map (placed_at it) (numbered_from (j + 1) ls)))
-            → map (placed_at it) (numbered_from j (cond b (put_state state l ∷ ls) (l ∷ set_at (m - 1) (put_state state) ls))) ≡ set_here (map (placed_at it) (numbered_from j (l ∷ ls)))
+            → (1 ≤ m - 1 → k + 1 ≡ j + 1 + (m - 1)
+            → map (placed_at it) (numbered_from (j + 1) (set_at (m - 1) (put_state state) ls))
+            ≡ set_here (map (placed_at it) (numbered_from (j + 1) ls)))
+            → map (placed_at it) (numbered_from j (cond b (put_state state l ∷ ls) (l ∷ set_at (m - 1) (put_state state) ls)))
+            ≡ set_here (map (placed_at it) (numbered_from j (l ∷ ls)))
         go true first further_on =
             let one : m ≡ 1 = grind (arith, nat_tests) in
             let here : (j == k) ≡ true = grind (arith, nat_tests, one, is_at) in
@@ -167,16 +189,21 @@ module _ (row : Placed) where
   behind it hit next =
       let key = its_key it hit in
       let line : 1 + length it.lines ≡ row.line = omega (arith, next) in
-      let last : placed_at it (1 + length it.lines, row.it) ≡ row = (λ i. record { source = key.0 i; addressee = key.1 i; number = key.2 i; line = line i; it = row.it }) in
-      ap (map (placed_at it)) (numbered_push 1 it.lines row.it) ∙ map-append (placed_at it) (numbered it.lines) ((1 + length it.lines, row.it) ∷ []) ∙ ap (λ (it_is : Placed). placed_in it ++ it_is ∷ []) last
+      let last : placed_at it (1 + length it.lines, row.it) ≡ row =
+      (λ i. record { source = key.0 i; addressee = key.1 i; number = key.2 i; line = line i; it = row.it }) in
+      ap (map (placed_at it)) (numbered_push 1 it.lines row.it) ∙ map-append (placed_at it) (numbered it.lines) ((1 + length it.lines, row.it) ∷ [])
+      ∙ ap (λ (it_is : Placed). placed_in it ++ it_is ∷ []) last
 
-  pub lines_put : (cs : List Consignment) → map (λ (it : Consignment). length it.lines + 1) (filter its cs) ≡ row.line ∷ [] → IsPermutation (all_placed cs ++ row ∷ []) (all_placed (update_where its (push_line row.it) cs))
+  pub lines_put : (cs : List Consignment) → map (λ (it : Consignment). length it.lines + 1) (filter its cs) ≡ row.line ∷ []
+      → IsPermutation (all_placed cs ++ row ∷ []) (all_placed (update_where its (push_line row.it) cs))
   lines_put [] next = absurd cc
   lines_put (it ∷ cs) next = go (its it) refl next (lines_put cs)
     where
       go : (b : Bool) → its it ≡ b → map (λ (it : Consignment). length it.lines + 1) (cond b (it ∷ filter its cs) (filter its cs)) ≡ row.line ∷ []
-          → (map (λ (it : Consignment). length it.lines + 1) (filter its cs) ≡ row.line ∷ [] → IsPermutation (all_placed cs ++ row ∷ []) (all_placed (update_where its (push_line row.it) cs)))
-          → IsPermutation ((placed_in it ++ all_placed cs) ++ row ∷ []) (placed_in (cond b (push_line row.it it) it) ++ all_placed (update_where its (push_line row.it) cs))
+          → (map (λ (it : Consignment). length it.lines + 1) (filter its cs) ≡ row.line ∷ []
+          → IsPermutation (all_placed cs ++ row ∷ []) (all_placed (update_where its (push_line row.it) cs)))
+          → IsPermutation ((placed_in it ++ all_placed cs) ++ row ∷ [])
+          (placed_in (cond b (push_line row.it it) it) ++ all_placed (update_where its (push_line row.it) cs))
       go true hit now more =
           let number : length it.lines + 1 ≡ row.line = cc in
           let none : filter its cs ≡ [] = unmapped_none (filter its cs) cc in
@@ -184,11 +211,13 @@ module _ (row : Placed) where
           let goal : placed_in (push_line row.it it) ++ all_placed (update_where its (push_line row.it) cs) ≡ placed_in it ++ row ∷ all_placed cs =
           (λ i. behind it hit number i ++ all_placed (rest i)) ∙ append_assoc (placed_in it) (row ∷ []) (all_placed cs) in
           subst (IsPermutation ((placed_in it ++ all_placed cs) ++ row ∷ [])) (sym goal)
-          (IsPermutation-trans _ _ _ (IsPermutation-to_front (placed_in it ++ all_placed cs) row) (IsPermutation-sym _ _ (IsPermutation-middle (placed_in it) row (all_placed cs))))
+          (IsPermutation-trans _ _ _ (IsPermutation-to_front (placed_in it ++ all_placed cs) row)
+          (IsPermutation-sym _ _ (IsPermutation-middle (placed_in it) row (all_placed cs))))
         where
           unmapped_none : (found : List Consignment) → map (λ (it : Consignment). length it.lines + 1) found ≡ [] → found ≡ []
           unmapped_none [] e = refl
           unmapped_none (x ∷ found) e = absurd cc
       go false miss now more =
-          subst (λ (l : List Placed). IsPermutation l (placed_in it ++ all_placed (update_where its (push_line row.it) cs))) (sym (append_assoc (placed_in it) (all_placed cs) (row ∷ [])))
+          subst (λ (l : List Placed). IsPermutation l (placed_in it ++ all_placed (update_where its (push_line row.it) cs)))
+          (sym (append_assoc (placed_in it) (all_placed cs) (row ∷ [])))
           (IsPermutation-append_right (placed_in it) _ _ (more now))

@@ -1,5 +1,9 @@
 -- The text of the list of all consignments that are under way, and what it shows of the books.
-use Rattle.shop_schema.proofs.Common.{Ordering, Less, Greater, ◌≡◌, pos, List, [], ◌∷◌, map, filter, not, true, false, Bool, cond, refl, ap, ◌∙◌, Equal, nat_cmp, ordering_then, Value, Int, column, value_cmp, ascending, Key, Binary, Compare, Eq, is_true, Term, col, lit, Output, output_cmp, State, ascending-filter, number_value, flag_value, IsQuery, is_query, Selects, number_cmp, one_tested, number_tested, are_equal, sorted_by, Books, Consignment, goes_before, transit_text, shop_schema, IsHeld, IsShop, StandsFor}
+use Rattle.shop_schema.proofs.Common.{Ordering, Less, Greater, ◌≡◌, pos, List, [], ◌∷◌, map, filter, not, true, false, Bool, cond, refl, ap, ◌∙◌, Equal}
+use Rattle.shop_schema.proofs.Common.{nat_cmp, ordering_then, Value, Int, column, value_cmp, ascending, Key, Binary, Compare, Eq, is_true, Term, col, lit}
+use Rattle.shop_schema.proofs.Common.{Output, output_cmp, State, ascending-filter, number_value, flag_value, IsQuery, is_query, Selects, number_cmp, one_tested}
+use Rattle.shop_schema.proofs.Common.{number_tested, are_equal, sorted_by, Books, Consignment, goes_before, transit_text, shop_schema, IsHeld, IsShop}
+use Rattle.shop_schema.proofs.Common.{StandsFor}
 use Rattle.sqlite_value.specs.Order as sql
 use Rattle.sqlite_sql.specs.Ops.{binary}
 use Rattle.sqlite_tied.specs.Compute.{everything}
@@ -37,7 +41,14 @@ open_tested false = number_tested 0 0
 
 transit_ends : Ends transit_tests key_order [] is_open keys
 transit_ends db it r2 =
-    ap (λ t. cond t ((keys it (column r2 4), number_value it.source ∷ number_value it.addressee ∷ number_value it.number ∷ flag_value it.received ∷ column r2 4 ∷ column r2 5 ∷ []) ∷ []) [])
+    ap (λ t.
+    cond t
+    ((
+      keys it (column r2 4),
+      number_value it.source ∷ number_value it.addressee ∷ number_value it.number ∷ flag_value it.received ∷ column r2 4 ∷ column r2 5 ∷ [],
+    )
+    ∷ [])
+    [])
     (one_tested _ (open_tested it.received))
 
 abbrev out : ListLine → Output
@@ -48,14 +59,19 @@ then_assoc Less q r = refl
 then_assoc Equal q r = refl
 then_assoc Greater q r = refl
 
-compares : (a b : ListLine) → output_cmp (list_query transit_tests key_order) (out a) (out b) ≡ ordering_then (key_cmp a.0 b.0) (ordering_then (value_cmp (line_key a) (line_key b)) Equal)
+compares : (a b : ListLine)
+    → output_cmp (list_query transit_tests key_order) (out a) (out b)
+    ≡ ordering_then (key_cmp a.0 b.0) (ordering_then (value_cmp (line_key a) (line_key b)) Equal)
 compares a b =
     let rest : Ordering = ordering_then (value_cmp (line_key a) (line_key b)) Equal in
-    (λ i. ordering_then (number_cmp a.0.source b.0.source i) (ordering_then (number_cmp a.0.addressee b.0.addressee i) (ordering_then (number_cmp a.0.number b.0.number i) rest)))
+    (λ i.
+    ordering_then (number_cmp a.0.source b.0.source i)
+    (ordering_then (number_cmp a.0.addressee b.0.addressee i) (ordering_then (number_cmp a.0.number b.0.number i) rest)))
     ∙ ap (ordering_then (nat_cmp a.0.source b.0.source)) (then_assoc (nat_cmp a.0.addressee b.0.addressee) (nat_cmp a.0.number b.0.number) rest)
     ∙ then_assoc (nat_cmp a.0.source b.0.source) (ordering_then (nat_cmp a.0.addressee b.0.addressee) (nat_cmp a.0.number b.0.number)) rest
 
-pub shows_transit : (old new : State) (rows : List sql.Row) (books : Books) → IsShop old → Shown SELECT_TRANSIT.now [] old new rows → StandsFor old.now.trees books → IsHeld books
+pub shows_transit : (old new : State) (rows : List sql.Row) (books : Books) → IsShop old
+    → Shown SELECT_TRANSIT.now [] old new rows → StandsFor old.now.trees books → IsHeld books
     → rows ≡ map shown_line (list_lines (sorted_by goes_before (filter is_open books.consignments)))
 shows_transit old new rows books shop h s held =
     let open_ones = filter is_open books.consignments in
@@ -64,6 +80,8 @@ shows_transit old new rows books shop h s held =
     (sorted_up open_ones (ascending-filter Apart is_open books.consignments (keys_apart books.consignments held.numbers.consignments)))
 
 -- both definitions of a consignment's text give the same text
-pub transit_are : (cs : List Consignment) → map bodies.transit_text (map listed cs) ≡ map transit_text (map (λ (it : Consignment). (it.source, it.addressee, it.number, map (λ line. line.film) it.lines)) cs)
+pub transit_are : (cs : List Consignment)
+    → map bodies.transit_text (map listed cs)
+    ≡ map transit_text (map (λ (it : Consignment). (it.source, it.addressee, it.number, map (λ line. line.film) it.lines)) cs)
 transit_are [] = refl
 transit_are (it ∷ cs) = ap (λ rest. bodies.transit_text (listed it) ∷ rest) (transit_are cs)

@@ -95,4 +95,5 @@ HasConsignments start it given =
 -- what head office is shown of the consignments that aren't received, by sender, addressee and number: the list of `office_look Transit`
 abbrev pub under_way : Books → List (ℕ × ℕ × ℕ × List ℕ)
 under_way books =
-    map (λ (it : Consignment). (it.source, it.addressee, it.number, map (λ line. line.film) it.lines)) (sorted_by goes_before (filter (λ (it : Consignment). not it.received) books.consignments))
+    map (λ (it : Consignment). (it.source, it.addressee, it.number, map (λ line. line.film) it.lines))
+    (sorted_by goes_before (filter (λ (it : Consignment). not it.received) books.consignments))

@@ -15,7 +15,8 @@ IsNewKey source addressee number books = filter (is_consignment source addressee
 
 -- one consignment has the key, and the consignment has `count` lines
 abbrev pub HasSoMany : ℕ → ℕ → ℕ → ℕ → Books → Type 0
-HasSoMany source addressee number count books = map (λ (it : Consignment). length it.lines) (filter (is_consignment source addressee number) books.consignments) ≡ count ∷ []
+HasSoMany source addressee number count books =
+    map (λ (it : Consignment). length it.lines) (filter (is_consignment source addressee number) books.consignments) ≡ count ∷ []
 
 abbrev pub HasNoLine : ℕ → ℕ → ℕ → Books → Type 0
 HasNoLine source addressee number = HasSoMany source addressee number 0
@@ -24,10 +25,13 @@ abbrev pub put_behind : List Line → Consignment → Consignment
 put_behind lines it = record it { lines = it.lines ++ lines }
 
 abbrev pub with_lines : ℕ → ℕ → ℕ → List Line → Books → Books
-with_lines source addressee number lines books = record books { consignments = update_where (is_consignment source addressee number) (put_behind lines) books.consignments }
+with_lines source addressee number lines books = record books {
+  consignments = update_where (is_consignment source addressee number) (put_behind lines) books.consignments;
+}
 
 abbrev pub sent_off : ℕ → ℕ → ℕ → ℕ → List Line → Consignment
-sent_off source addressee number place lines = record { source = source; addressee = addressee; number = number; place = place; received = false; lines = lines }
+sent_off source addressee number place lines =
+    record { source = source; addressee = addressee; number = number; place = place; received = false; lines = lines }
 
 -- the state of a line after a receipt with the given missing lines
 abbrev pub state_at : List ℕ → ℕ → LineState

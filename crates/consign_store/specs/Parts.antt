@@ -47,7 +47,8 @@ all_placed consignments = flat_map placed_in consignments
 
 abbrev pub placed_columns : Placed → sql.Row
 placed_columns it =
-    number_value it.source ∷ number_value it.addressee ∷ number_value it.number ∷ number_value it.line ∷ number_value it.it.film ∷ number_value it.it.mark.branch
+    number_value it.source ∷ number_value it.addressee ∷ number_value it.number
+    ∷ number_value it.line ∷ number_value it.it.film ∷ number_value it.it.mark.branch
     ∷ number_value it.it.mark.copy ∷ line_value it.it.state ∷ []
 
 -- ---- tests
@@ -69,7 +70,8 @@ IsOnce source addressee number books = PicksOne (is_consignment source addressee
 
 -- one consignment has the line's key, and the line's number is one more than the count of the consignment's lines
 abbrev pub IsNextLine : Placed → Books → Type 0
-IsNextLine row books = map (λ (it : Consignment). length it.lines + 1) (filter (is_consignment row.source row.addressee row.number) books.consignments) ≡ row.line ∷ []
+IsNextLine row books =
+    map (λ (it : Consignment). length it.lines + 1) (filter (is_consignment row.source row.addressee row.number) books.consignments) ≡ row.line ∷ []
 
 abbrev pub push_line : Line → Consignment → Consignment
 push_line line it = record it { lines = it.lines ++ line ∷ [] }

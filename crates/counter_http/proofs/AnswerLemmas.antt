@@ -1,6 +1,8 @@
 -- What may be answered to a message.
 use Rattle.std.proofs.Common.{Result}
-use Rattle.shop_types.proofs.Common.{◌≡◌, inl, refl, sym, subst, ap, ◌∙◌, List, ℕ, true, false, None, Some, Option, Ok, Err, IfOk, Rules, NoCounter, Decision, StoreFailed, Request, Unread, Sorry, Answer, answer_of, problem_answer, Books, Caller, Counter, HeadOffice, Nobody, caller_of, reply_for, after_for, known_same, seen_refusal}
+use Rattle.shop_types.proofs.Common.{◌≡◌, inl, refl, sym, subst, ap, ◌∙◌, List, ℕ, true, false, None, Some, Option, Ok, Err, IfOk, Rules, NoCounter, Decision}
+use Rattle.shop_types.proofs.Common.{StoreFailed, Request, Unread, Sorry, Answer, answer_of, problem_answer, Books, Caller, Counter, HeadOffice, Nobody}
+use Rattle.shop_types.proofs.Common.{caller_of, reply_for, after_for, known_same, seen_refusal}
 use Rattle.http_messages.specs.Message.{Message}
 use Rattle.shop_model.specs.Refusals.{Refusal, Memory}
 use Rattle.shop_model.specs.Office.{office_look}
@@ -111,9 +113,11 @@ reads_decided (Err e) request reads = tt
 pub read_answers : {E : Type 0} (meaning : Meaning) (message : Message) (caller : Caller) (read : Result Reading E) (answer : Answer) (old mid new : Holding)
     → IfOk read (λ it. Reads it (reading_of meaning message caller)) → caller ≡ sender_of message old → mid ≡ old → old.is_failed ≡ false
     → AnswersRead caller read answer mid new → AnswersMessage meaning message answer old new
-read_answers meaning message caller (Ok (Asked asked)) answer old mid new reads who same fine answers = asked_answers meaning message caller _ answer old mid new same who reads answers
+read_answers meaning message caller (Ok (Asked asked)) answer old mid new reads who same fine answers =
+    asked_answers meaning message caller _ answer old mid new same who reads answers
 read_answers meaning message caller (Ok (Refused refusal)) answer old mid new reads who same fine answers =
     let what : reading_of meaning message (sender_of message old) ≡ Unread reads.0 = ap (reading_of meaning message) (sym who) ∙ reads.2 in
     let is : answer ≡ problem_answer (Decision reads.0) = answers.0 ∙ ap problem_answer reads.1 in
     subst (λ (a : Answer). AnswersMessage meaning message a old new) (sym is) (refused_answers meaning message reads.0 old new what (answers.1 ∙ same) fine)
-read_answers meaning message caller (Err e) answer old mid new reads who same fine answers = memory_answers meaning message answer old new answers.0 (answers.1 ∙ same) fine
+read_answers meaning message caller (Err e) answer old mid new reads who same fine answers =
+    memory_answers meaning message answer old new answers.0 (answers.1 ∙ same) fine

@@ -47,5 +47,6 @@ RunsOverSome g meaning old new = (exchanges : List Exchange) × RunsOver g meani
 pub some_start : {S : Type 0} {g : Ghosts S} {meaning : Meaning} {chain : Chained S} → RunsOverSome g meaning chain chain
 some_start {S} {g} {meaning} {chain} = ([], run_starts)
 
-pub some_follow : {S : Type 0} {g : Ghosts S} {meaning : Meaning} {old mid new : Chained S} → RunsOverSome g meaning old mid → RunsOverSome g meaning mid new → RunsOverSome g meaning old new
+pub some_follow : {S : Type 0} {g : Ghosts S} {meaning : Meaning} {old mid new : Chained S}
+    → RunsOverSome g meaning old mid → RunsOverSome g meaning mid new → RunsOverSome g meaning old new
 some_follow {S} {g} {meaning} {old} {mid} {new} first second = (first.0 ++ second.0, run_follows first.0 second.0 first.1 second.1)

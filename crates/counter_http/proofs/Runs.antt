@@ -26,7 +26,8 @@ fails_once true now last so stays = stays refl
 fails_once false now last so stays = so ∙ sym (or-false last)
 
 -- one message is answered
-pub run_one : {S : Type 0} {g : Ghosts S} {meaning : Meaning} {old new : Chained S} (e : Exchange) → Takes g old new (AnswersMessage meaning e.message e.answer) → IsTold e.answer
+pub run_one : {S : Type 0} {g : Ghosts S} {meaning : Meaning} {old new : Chained S} (e : Exchange)
+    → Takes g old new (AnswersMessage meaning e.message e.answer) → IsTold e.answer
     → new.is_failed ≡ is_store_failure e.answer → (old.is_failed ≡ true → new ≡ old) → RunsOver g meaning old new (e ∷ [])
 run_one {S} {g} {meaning} {old} {new} e step told fails failed = record {
   takes = takes_as step (λ before after x. runs_more before before after [] [] (event_of meaning e.message) e.answer (runs_none before) x);
@@ -43,5 +44,6 @@ run_one {S} {g} {meaning} {old} {new} e step told fails failed = record {
     still was = ap (λ (x : Chained S). x.is_failed) (failed was) ∙ was
 
 -- the same with another statement on the run
-pub ran_as : (Ran Ran' : List Exchange → Type 0) (read : List ℕ) (es : List Exchange) (rest : List ℕ) → HasRun Ran read es rest → ((es : List Exchange) → Ran es → Ran' es) → HasRun Ran' read es rest
+pub ran_as : (Ran Ran' : List Exchange → Type 0) (read : List ℕ) (es : List Exchange) (rest : List ℕ)
+    → HasRun Ran read es rest → ((es : List Exchange) → Ran es → Ran' es) → HasRun Ran' read es rest
 ran_as Ran Ran' read es rest x tell = record { splits = x.splits; ran = tell es x.ran }

@@ -1,5 +1,7 @@
 -- A connection that is served alone.
-use Rattle.shop_types.proofs.Common.{◌≡◌, ◌⊎◌, ℕ, ◌+◌, ◌-◌, ◌==◌, ◌<◌, Bool, true, false, inl, inr, List, [], ◌∷◌, ◌++◌, length, refl, sym, ap, ◌∙◌, arith, append-nil, append_assoc, length-append, eqb-true, Option, Some, None, All, if◌then◌else◌, same_from_push, append_cancel_right, All-nil, All-pop, flat_map-append, Answer, problem_answer}
+use Rattle.shop_types.proofs.Common.{◌≡◌, ◌⊎◌, ℕ, ◌+◌, ◌-◌, ◌==◌, ◌<◌, Bool, true, false, inl, inr, List, [], ◌∷◌, ◌++◌, length, refl, sym, ap, ◌∙◌, arith}
+use Rattle.shop_types.proofs.Common.{append-nil, append_assoc, length-append, eqb-true, Option, Some, None, All, if◌then◌else◌, same_from_push}
+use Rattle.shop_types.proofs.Common.{append_cancel_right, All-nil, All-pop, flat_map-append, Answer, problem_answer}
 use Rattle.sqlite_trees.specs.declared.store.Store.{Ghosts}
 use Rattle.http_messages.specs.Text.{head_text}
 use Rattle.http_messages.specs.declared.messages.Fault.{Fault}
@@ -63,8 +65,10 @@ pub turns_serve : {S : Type 0} (g : Ghosts S) → TurnsServe g
 turns_serve {S} g meaning old new most line end input left output written x empty ends = served_by most line end _ input left output written x (empty, ends)
 
 -- if no request is allowed
-pub served_none : (Ran : List Exchange → Type 0) (input output : Option (List ℕ)) → Ran [] → IsServed (record { replies = 0; end = Limit }) 0 Ran input input output output
-served_none Ran input output start = served_by 0 (opened 0) Limit Ran input input output output (turn_none (opened 0) Ran input output (opened_may_answer 0) start) (refl, refl)
+pub served_none : (Ran : List Exchange → Type 0) (input output : Option (List ℕ)) → Ran []
+    → IsServed (record { replies = 0; end = Limit }) 0 Ran input input output output
+served_none Ran input output start =
+    served_by 0 (opened 0) Limit Ran input input output output (turn_none (opened 0) Ran input output (opened_may_answer 0) start) (refl, refl)
 
 -- ---- when a read or a write fails
 
@@ -87,7 +91,8 @@ pub read_fails : (most : ℕ) (line : Line) (Ran : List Exchange → Type 0) (in
 read_fails most line Ran input left output written some x (empty, live, cut) =
     let goes = rw live at (goes_by most line Ran input left output written some x) in
     let all : texts x.exchanges ≡ x.sent =
-    sym (append-nil (texts x.exchanges)) ∙ ap (λ (l : List ℕ). texts x.exchanges ++ l) (sym goes.2) ∙ x.splits ∙ ap (λ (l : List ℕ). x.sent ++ l) empty ∙ append-nil x.sent in
+    sym (append-nil (texts x.exchanges)) ∙ ap (λ (l : List ℕ). texts x.exchanges ++ l) (sym goes.2)
+    ∙ x.splits ∙ ap (λ (l : List ℕ). x.sent ++ l) empty ∙ append-nil x.sent in
     record {
       read = x.read;
       exchanges = x.exchanges;
@@ -165,7 +170,8 @@ write_fails most line Ran input left output written some x unfinished = by x.alo
     refused part is (inl nothing) = absurd (omega (arith, ap length (sym nothing ∙ is), length-append part line.unsent))
     refused part is (inr ends) =
         let ended = rw ends at goes in
-        let sent = sent_is (texts x.exchanges ++ part) (ap (λ (l : List ℕ). texts x.exchanges ++ l) is ∙ sym (append_assoc (texts x.exchanges) part line.unsent)) in
+        let sent =
+        sent_is (texts x.exchanges ++ part) (ap (λ (l : List ℕ). texts x.exchanges ++ l) is ∙ sym (append_assoc (texts x.exchanges) part line.unsent)) in
         record {
           read = x.read;
           exchanges = x.exchanges;
@@ -194,7 +200,8 @@ write_fails most line Ran input left output written some x unfinished = by x.alo
         ap (λ (l : List ℕ). texts x.exchanges ++ l) nothing ∙ append-nil (texts x.exchanges) ∙ ap (λ (es : List Exchange). texts es) is ∙ texts-snoc front e
         ∙ ap (λ (l : List ℕ). texts front ++ l) told ∙ sym (append_assoc (texts front) part line.unsent) in
         let sent = sent_is (texts front ++ part) all in
-        let before : told_of line.ending line.replies ≡ line.replies - 1 = told_before line.ending most x.exchanges left line.inbox x.last goes nothing line.replies in
+        let before : told_of line.ending line.replies ≡ line.replies - 1 =
+        told_before line.ending most x.exchanges left line.inbox x.last goes nothing line.replies in
         let count = x.count in
         record {
           read = x.read;
@@ -217,7 +224,8 @@ write_fails most line Ran input left output written some x unfinished = by x.alo
 
 -- ---- the same with another statement on the run
 
-pub served_as : (served : Served) (most : ℕ) (Ran Ran' : List Exchange → Type 0) (input left output written : Option (List ℕ)) → IsServed served most Ran input left output written
+pub served_as : (served : Served) (most : ℕ) (Ran Ran' : List Exchange → Type 0) (input left output written : Option (List ℕ))
+    → IsServed served most Ran input left output written
     → ((es : List Exchange) → Ran es → Ran' es) → IsServed served most Ran' input left output written
 served_as served most Ran Ran' input left output written x tell = record {
   read = x.read;
@@ -232,7 +240,8 @@ served_as served most Ran Ran' input left output written x tell = record {
   ends = x.ends;
 }
 
-pub fault_as : (fault : ServeFault) (most : ℕ) (Ran Ran' : List Exchange → Type 0) (input left output written : Option (List ℕ)) → IsFault fault most Ran input left output written
+pub fault_as : (fault : ServeFault) (most : ℕ) (Ran Ran' : List Exchange → Type 0) (input left output written : Option (List ℕ))
+    → IsFault fault most Ran input left output written
     → ((es : List Exchange) → Ran es → Ran' es) → IsFault fault most Ran' input left output written
 fault_as kind.Memory most Ran Ran' input left output written x tell = (tell [] x.0, x.1, x.2)
 fault_as (kind.Read replies) most Ran Ran' input left output written x tell = record {

@@ -1,5 +1,6 @@
 -- Several connections, and one more turn of one of them.
-use Rattle.shop_types.proofs.Common.{◌≡◌, ℕ, ◌-◌, List, [], ◌∷◌, ◌++◌, refl, ap, ◌∙◌, map, Option, All, map-append, All-nil, All-cons, All-head, All-tail, All-push}
+use Rattle.shop_types.proofs.Common.{◌≡◌, ℕ, ◌-◌, List, [], ◌∷◌, ◌++◌, refl, ap, ◌∙◌, map, Option, All, map-append, All-nil, All-cons, All-head, All-tail}
+use Rattle.shop_types.proofs.Common.{All-push}
 use Rattle.sqlite_trees.specs.declared.store.Store.{Ghosts}
 use Rattle.counter_routes.specs.Words.{Meaning}
 use Rattle.chain_requests.specs.Holding.{Chained}

@@ -1,6 +1,8 @@
 -- Turns of a connection, one after another.
 use Rattle.std.proofs.Common.{length-drop}
-use Rattle.shop_types.proofs.Common.{◌≡◌, ◌⊎◌, inl, inr, ℕ, ◌+◌, ◌-◌, ◌<◌, ◌≤◌, List, [], ◌∷◌, ◌++◌, length, drop, arith, length-append, refl, sym, subst, ap, ◌∙◌, append_assoc, append-nil, Option, Some, None, All, map-append, All-nil, All-append, flat_map-append, nat_tests, Appends, Consumes, Consumes-nil, Appends-nil, Appends-trans, Consumes-trans}
+use Rattle.shop_types.proofs.Common.{◌≡◌, ◌⊎◌, inl, inr, ℕ, ◌+◌, ◌-◌, ◌<◌, ◌≤◌, List, [], ◌∷◌, ◌++◌, length, drop, arith, length-append, refl, sym, subst, ap}
+use Rattle.shop_types.proofs.Common.{◌∙◌, append_assoc, append-nil, Option, Some, None, All, map-append, All-nil, All-append, flat_map-append, nat_tests}
+use Rattle.shop_types.proofs.Common.{Appends, Consumes, Consumes-nil, Appends-nil, Appends-trans, Consumes-trans}
 use Rattle.http_messages.specs.Message.{Message}
 use Rattle.http_messages.specs.Input.{HasMessage, HasMessages}
 use Rattle.http_messages.specs.Shown.{IsReading}
@@ -67,7 +69,8 @@ turn_sent old unsent Ran input output written sent may appends parts start = rec
   kept = refl;
 }
 
-pub turn_none : (line : Line) (Ran : List Exchange → Type 0) (input output : Option (List ℕ)) → MayAnswer line → Ran [] → IsTurn line line Ran input input output output
+pub turn_none : (line : Line) (Ran : List Exchange → Type 0) (input output : Option (List ℕ))
+    → MayAnswer line → Ran [] → IsTurn line line Ran input input output output
 turn_none line Ran input output may start = turn_sent line line.unsent Ran input output output [] may (Appends-nil output) refl start
 
 -- bytes were read, and they may be the last
@@ -98,7 +101,8 @@ pub turn_grown : (old : Line) (inbox : List ℕ) (Ran : List Exchange → Type 0
     → MayAnswer old → old.ending ≡ None → Consumes input left more → inbox ≡ old.inbox ++ more → length inbox ≤ ROOM → Ran []
     → IsTurn old (record old { inbox = inbox }) Ran input left output output
 turn_grown old inbox Ran input left output more may live consumes grown near start =
-    turn_read old inbox old.ending Ran input left output more live consumes grown near (let lt = may.0 live in rw live (All-nil GoesOn, omega arith, refl)) start
+    turn_read old inbox old.ending Ran input left output more live consumes grown near
+    (let lt = may.0 live in rw live (All-nil GoesOn, omega arith, refl)) start
 
 -- one more message was answered, and nothing was left to write before
 pub turn_answer : (old new : Line) (Ran : List Exchange → Type 0) (input output : Option (List ℕ)) (e : Exchange)
@@ -182,16 +186,20 @@ goes_behind (Some Cut) most n es more left rest last goes few is (all, lt, at_en
     (All-append GoesOn es more goes all, omega (arith, length-append es more), at_end, some, cut, none)
 goes_behind (Some Refused) most n es more left rest last goes few is (all, lt, fault, refused, told) =
     (All-append GoesOn es more goes all, omega (arith, length-append es more), fault, refused, told)
-goes_behind (Some Limit) most n es more left rest last goes few is (all, eq, none) = (All-append GoesOn es more goes all, omega (arith, length-append es more), none)
-goes_behind (Some Asked) most n es more left rest last goes few is (ends, le, none) = (ends_behind Asks es more goes ends, omega (arith, length-append es more), none)
-goes_behind (Some StoreFailed) most n es more left rest last goes few is (ends, le, none) = (ends_behind Fails es more goes ends, omega (arith, length-append es more), none)
+goes_behind (Some Limit) most n es more left rest last goes few is (all, eq, none) =
+    (All-append GoesOn es more goes all, omega (arith, length-append es more), none)
+goes_behind (Some Asked) most n es more left rest last goes few is (ends, le, none) =
+    (ends_behind Asks es more goes ends, omega (arith, length-append es more), none)
+goes_behind (Some StoreFailed) most n es more left rest last goes few is (ends, le, none) =
+    (ends_behind Fails es more goes ends, omega (arith, length-append es more), none)
 
 -- after more is written, what is left to write is still part of the last reply
 alone_still : (es : List Exchange) (last mid sent unsent : List ℕ) → mid ≡ sent ++ unsent → IsOfLast es last mid → IsOfLast es last unsent
 alone_still es last mid sent unsent parts (inl none) = inl none
 alone_still es last mid sent unsent parts (inr (inl (front, e, part, is, none, told))) =
     inr (inl (front, e, part ++ sent, is, none, told ∙ ap (λ (l : List ℕ). part ++ l) parts ∙ sym (append_assoc part sent unsent)))
-alone_still es last mid sent unsent parts (inr (inr (part, is))) = inr (inr (part ++ sent, is ∙ ap (λ (l : List ℕ). part ++ l) parts ∙ sym (append_assoc part sent unsent)))
+alone_still es last mid sent unsent parts (inr (inr (part, is))) =
+    inr (inr (part ++ sent, is ∙ ap (λ (l : List ℕ). part ++ l) parts ∙ sym (append_assoc part sent unsent)))
 
 -- after more is answered, what is left to write is still part of the last reply
 alone_then : (es more : List Exchange) (last behind mid sent unsent : List ℕ) → mid ++ (texts more ++ behind) ≡ sent ++ unsent
@@ -207,7 +215,14 @@ alone_then es more last behind mid sent unsent parts order x y = by order y
     by (inr (none, none_too)) any = nothing_more none none_too
     by (inl none) (inl (none_more, none_too)) = nothing_more none_more none_too
     by (inl none) (inr (inl (front, e, part, is, none_too, told))) =
-        inr (inl (es ++ front, e, part, ap (λ (l : List Exchange). es ++ l) is ∙ sym (append_assoc es front (e ∷ [])), ap (λ (l : List ℕ). l ++ behind) none ∙ none_too, told))
+        inr (inl (
+          es ++ front,
+          e,
+          part,
+          ap (λ (l : List Exchange). es ++ l) is ∙ sym (append_assoc es front (e ∷ [])),
+          ap (λ (l : List ℕ). l ++ behind) none ∙ none_too,
+          told,
+        ))
     by (inl none) (inr (inr (part, is))) = inr (inr (part, ap (λ (l : List ℕ). l ++ behind) none ∙ is))
 
 -- two turns one after another: what both read, answered and wrote
@@ -265,7 +280,9 @@ turn_then {old} {mid} {new} {First} {Second} {Both} {input} {left} {after} {outp
         → GoesOrEnds new.ending (old.most - old.replies) (x.exchanges ++ y.exchanges) after new.inbox (x.last ++ y.last)
     goes_by None is (all, few, none) =
         let e = x.count in let f = x.kept in
-        rw none (goes_behind new.ending (old.most - old.replies) (mid.most - mid.replies) x.exchanges y.exchanges after new.inbox y.last all few (omega arith) (y.goes is))
+        rw none
+        (goes_behind new.ending (old.most - old.replies)
+        (mid.most - mid.replies) x.exchanges y.exchanges after new.inbox y.last all few (omega arith) (y.goes is))
     goes_by (Some end) is ends =
         let stop = y.stopped end is in
         let inbox : new.inbox ≡ mid.inbox = kept_inbox y.read y.exchanges stop.0 stop.2 y.ran.splits in
@@ -289,7 +306,8 @@ turn_then {old} {mid} {new} {First} {Second} {Both} {input} {left} {after} {outp
         ap (λ (l : List ℕ). u ++ l) (same_text es more last behind order) ∙ chained u v w s t (texts es ++ last) (texts more ++ behind) p q
 
 -- a turn, with another statement on its exchanges
-pub turn_as : {old new : Line} {Ran Ran' : List Exchange → Type 0} {input left output written : Option (List ℕ)} (x : IsTurn old new Ran input left output written)
+pub turn_as :
+    {old new : Line} {Ran Ran' : List Exchange → Type 0} {input left output written : Option (List ℕ)} (x : IsTurn old new Ran input left output written)
     → Ran' x.exchanges → IsTurn old new Ran' input left output written
 turn_as {old} {new} {Ran} {Ran'} {input} {left} {output} {written} x ran = record {
   read = x.read;

@@ -1,5 +1,6 @@
 -- What the proofs on bodies cite.
-use Rattle.shop_types.proofs.Common.{◌≡◌, ℕ, List, [], ◌∷◌, length, refl, ap, Some, None, suc, inl, inr, cases_Bool, IsUtf8-from_is_utf8, is_utf8, String, IsUtf8, Global}
+use Rattle.shop_types.proofs.Common.{◌≡◌, ℕ, List, [], ◌∷◌, length, refl, ap, Some, None, suc, inl, inr, cases_Bool, IsUtf8-from_is_utf8, is_utf8, String}
+use Rattle.shop_types.proofs.Common.{IsUtf8, Global}
 use Rattle.std.specs.Prelude.{◌==◌}
 use Rattle.serde_json.specs.Data.{Data}
 use Rattle.serde_json.specs.Find.{as_object}

@@ -1,5 +1,7 @@
 -- The reading of a moment, as a function of its text.
-use Rattle.shop_types.proofs.Common.{◌≡◌, ◌∙◌, ℕ, ◌<◌, ◌/◌, ◌%◌, List, [], ◌∷◌, true, ◌&&◌, cond, refl, sym, ap, subst, arith, Option, Some, None, and_parts, nat_tests, leb-true, false_from_ne_true, cond-false, bytes_eq-Decides, digit_value_digit, IfNone, digit_value, bytes_eq, digits_value, Moment, IsMoment, moment_text, digit}
+use Rattle.shop_types.proofs.Common.{◌≡◌, ◌∙◌, ℕ, ◌<◌, ◌/◌, ◌%◌, List, [], ◌∷◌, true, ◌&&◌, cond, refl, sym, ap, subst, arith, Option, Some, None, and_parts}
+use Rattle.shop_types.proofs.Common.{nat_tests, leb-true, false_from_ne_true, cond-false, bytes_eq-Decides, digit_value_digit, IfNone, digit_value, bytes_eq}
+use Rattle.shop_types.proofs.Common.{digits_value, Moment, IsMoment, moment_text, digit}
 use Rattle.std.specs.Prelude.{IfSome}
 use Rattle.shop_model.proofs.NumberLemmas.{few_days}
 use Rattle.counter_routes.specs.Moments.{moment_parts, is_moment, moment_of}

@@ -1,5 +1,6 @@
 -- What the proofs on routes cite.
-use Rattle.shop_types.proofs.Common.{◌≡◌, Bool, true, false, refl, List, ℕ, Option, Some, subst, Result, is_none, IsUtf8, is_utf8, false_from_ne_true, IsUtf8-from_is_utf8, is_utf8-from_IsUtf8}
+use Rattle.shop_types.proofs.Common.{◌≡◌, Bool, true, false, refl, List, ℕ, Option, Some, subst, Result, is_none, IsUtf8, is_utf8, false_from_ne_true}
+use Rattle.shop_types.proofs.Common.{IsUtf8-from_is_utf8, is_utf8-from_IsUtf8}
 use Rattle.std.specs.Prelude.{Ok, Err}
 use Rattle.matchit.specs.Route.{Scan}
 use Rattle.matchit.specs.Seek.{first}

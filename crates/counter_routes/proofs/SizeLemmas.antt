@@ -1,6 +1,7 @@
 -- A value that a body writes is made of no more values than the body has bytes, so that no list in it is longer.
 use Rattle.std.proofs.Common.{option_map, option_and_then, nat_cmp, ◌++◌, ap, length-append}
-use Rattle.shop_types.proofs.Common.{◌≡◌, ℕ, suc, ◌+◌, ◌≤◌, Bool, true, false, List, [], ◌∷◌, length, Option, Some, None, Ordering, Less, Equal, Greater, refl, subst, inl, inr, arith, ⊤, if◌then◌else◌, match_ordering, slice_cmp, is_utf8, cases_Bool, le-leb}
+use Rattle.shop_types.proofs.Common.{◌≡◌, ℕ, suc, ◌+◌, ◌≤◌, Bool, true, false, List, [], ◌∷◌, length, Option, Some, None, Ordering, Less, Equal, Greater, refl}
+use Rattle.shop_types.proofs.Common.{subst, inl, inr, arith, ⊤, if◌then◌else◌, match_ordering, slice_cmp, is_utf8, cases_Bool, le-leb}
 use Rattle.json.specs.Token.{Token}
 use Rattle.json.specs.Lex.{Lexeme, Mode, Class, Place, lex, lex_byte, class, punctuate, place_token, if_allowed, begins_colon, tokens}
 use Rattle.json.specs.Json as json
@@ -15,7 +16,8 @@ use Rattle.counter_routes.specs.Bodies.{body_of, row_number_in, numbers_in, list
 
 -- ---- tokens
 
-byte_few : (m : Mode) (c : Class) (x : ℕ) (xs : List ℕ) (k : Mode → List Lexeme) (n : ℕ) → ((next : Mode) → length (k next) ≤ n) → length (lex_byte m c x xs k) ≤ suc n
+byte_few : (m : Mode) (c : Class) (x : ℕ) (xs : List ℕ) (k : Mode → List Lexeme) (n : ℕ)
+    → ((next : Mode) → length (k next) ≤ n) → length (lex_byte m c x xs k) ≤ suc n
 byte_few Mode.between Class.quote x xs k n h = omega (arith, h Mode.in_string)
 byte_few Mode.in_word Class.quote x xs k n h = omega (arith, h Mode.in_word)
 byte_few Mode.in_string Class.quote x xs k n h = omega (arith, h Mode.between)
@@ -56,11 +58,13 @@ abbrev AtMost : {A : Type 0} → (A → ℕ) → ℕ → Option A → Type 0
 AtMost f n None = ⊤
 AtMost f n (Some a) = f a ≤ n
 
-at_most_map : {A B : Type 0} (f : A → ℕ) (g : B → ℕ) (m n : ℕ) (h : A → B) → ((a : A) → f a ≤ m → g (h a) ≤ n) → (o : Option A) → AtMost f m o → AtMost g n (option_map h o)
+at_most_map : {A B : Type 0} (f : A → ℕ) (g : B → ℕ) (m n : ℕ) (h : A → B)
+    → ((a : A) → f a ≤ m → g (h a) ≤ n) → (o : Option A) → AtMost f m o → AtMost g n (option_map h o)
 at_most_map f g m n h k None x = tt
 at_most_map f g m n h k (Some a) x = k a x
 
-at_most_then : {A B : Type 0} (f : A → ℕ) (g : B → ℕ) (m n : ℕ) (h : A → Option B) → ((a : A) → f a ≤ m → AtMost g n (h a)) → (o : Option A) → AtMost f m o → AtMost g n (option_and_then h o)
+at_most_then : {A B : Type 0} (f : A → ℕ) (g : B → ℕ) (m n : ℕ) (h : A → Option B)
+    → ((a : A) → f a ≤ m → AtMost g n (h a)) → (o : Option A) → AtMost f m o → AtMost g n (option_and_then h o)
 at_most_then f g m n h k None x = tt
 at_most_then f g m n h k (Some a) x = k a x
 
@@ -76,7 +80,8 @@ put_one Greater a b c n p q r = r
 put_size : (k : List ℕ) (d : Data) (ms : Members) → members_size (put k d ms) ≤ size d + members_size ms
 put_size k d no_members = omega arith
 put_size k d (member l e ms) =
-    put_one (slice_cmp nat_cmp k l) (member k d (member l e ms)) (member l d ms) (member l e (put k d ms)) (size d + (size e + members_size ms)) (omega arith) (omega arith) (omega (arith, put_size k d ms))
+    put_one (slice_cmp nat_cmp k l) (member k d (member l e ms)) (member l d ms) (member l e (put k d ms))
+    (size d + (size e + members_size ms)) (omega arith) (omega arith) (omega (arith, put_size k d ms))
 
 mutual
   made_size : (j : json.Json) → AtMost size (length (json_tokens j)) (of_json j)
@@ -84,8 +89,11 @@ mutual
   made_size (json.boolean b) = omega arith
   made_size (json.number s) = at_most_map (λ _. 0) size 0 1 number (λ a x. omega arith) (number_of s) (flat (number_of s))
   made_size (json.string s) = omega arith
-  made_size (json.array js) = let n = length (items_tokens js) in at_most_map items_size size n (suc n) array (λ a x. omega (arith, x)) (of_items js) (made_items js)
-  made_size (json.object ms) = let n = length (members_tokens ms) in at_most_map members_size size n (suc n) object (λ a x. omega (arith, x)) (of_members ms no_members) (made_members ms no_members n (omega arith))
+  made_size (json.array js) =
+      let n = length (items_tokens js) in at_most_map items_size size n (suc n) array (λ a x. omega (arith, x)) (of_items js) (made_items js)
+  made_size (json.object ms) =
+      let n = length (members_tokens ms) in
+      at_most_map members_size size n (suc n) object (λ a x. omega (arith, x)) (of_members ms no_members) (made_members ms no_members n (omega arith))
 
   made_items : (js : json.Items) → AtMost items_size (length (items_tokens js)) (of_items js)
   made_items json.no_items = omega arith
@@ -97,7 +105,8 @@ mutual
       at_most_then size items_size m all (λ d. option_map (item d) (of_items js))
       (λ d x. at_most_map items_size items_size n all (item d) (λ ds y. omega (arith, x, y, both)) (of_items js) (made_items js)) (of_json j) (made_size j)
 
-  made_members : (ms : json.Members) (found : Members) (n : ℕ) → length (members_tokens ms) + members_size found ≤ n → AtMost members_size n (of_members ms found)
+  made_members : (ms : json.Members) (found : Members) (n : ℕ)
+      → length (members_tokens ms) + members_size found ≤ n → AtMost members_size n (of_members ms found)
   made_members json.no_members found n h = omega (arith, h)
   made_members (json.member k j ms) found n h =
       let both = length-append (json_tokens j) (members_tokens ms) in
@@ -105,7 +114,8 @@ mutual
       (λ d x. made_members ms (put k d found) n (omega (arith, h, x, both, put_size k d found))) (of_json j) (made_size j)
 
 -- a document has the same tokens as its value
-spelled : (ts : List Token) (o : Option (json.Json × List Token)) → json.value max_depth ts ≡ o → AtMost (λ j. length (json_tokens j)) (length ts) (option_and_then (λ p. json.if_last p.0 p.1) o)
+spelled : (ts : List Token) (o : Option (json.Json × List Token)) → json.value max_depth ts ≡ o
+    → AtMost (λ j. length (json_tokens j)) (length ts) (option_and_then (λ p. json.if_last p.0 p.1) o)
 spelled ts None e = tt
 spelled ts (Some (j, [])) e =
     let same = ap length (value-json_tokens_back max_depth ts [] j e) in
@@ -121,7 +131,8 @@ read_size : (text : List ℕ) (d : Data) → read text ≡ Some d → size d ≤
 read_size text d e =
     let n = length (tokens text) in
     let whole : AtMost size n (read text) =
-    at_most_then (λ j. length (json_tokens j)) size n n of_json (λ j x. at_more j n x) (option_and_then (λ p. json.if_last p.0 p.1) (json.value max_depth (tokens text)))
+    at_most_then (λ j. length (json_tokens j)) size n n of_json (λ j x. at_more j n x)
+    (option_and_then (λ p. json.if_last p.0 p.1) (json.value max_depth (tokens text)))
     (spelled (tokens text) (json.value max_depth (tokens text)) refl) in
     omega (arith, within_of (read text) n d whole e, few_tokens text)
   where
@@ -146,7 +157,8 @@ some_size : (d : Data) → 1 ≤ size d
 some_size null = omega arith
 some_size d = omega arith
 
-one_found : (o : Ordering) (a b : Option Data) (e d : Data) (m n : ℕ) → (a ≡ Some d → size d ≤ n) → (b ≡ Some d → size d ≤ n) → size e ≤ n → match_ordering o a (Some e) b ≡ Some d → size d ≤ n
+one_found : (o : Ordering) (a b : Option Data) (e d : Data) (m n : ℕ) → (a ≡ Some d → size d ≤ n)
+    → (b ≡ Some d → size d ≤ n) → size e ≤ n → match_ordering o a (Some e) b ≡ Some d → size d ≤ n
 one_found Less a b e d m n p q r is = p is
 one_found Equal a b e d m n p q r is = let same : e ≡ d = cc in subst (λ it. size it ≤ n) same r
 one_found Greater a b e d m n p q r is = q is
@@ -161,7 +173,8 @@ got_size : (k : List ℕ) (d e : Data) → get k d ≡ Some e → suc (size e) �
 got_size k (object ms) e is = omega (arith, member_size k ms e is)
 got_size k d e is = absurd (let none = is in cc)
 
-step : (o : Option ℕ) (p : Option (List ℕ)) (ns : List ℕ) → option_and_then (λ n. option_and_then (λ more. Some (n ∷ more)) p) o ≡ Some ns → (n : ℕ) × (more : List ℕ) × (p ≡ Some more) × (n ∷ more ≡ ns)
+step : (o : Option ℕ) (p : Option (List ℕ)) (ns : List ℕ) → option_and_then (λ n. option_and_then (λ more. Some (n ∷ more)) p) o ≡ Some ns
+    → (n : ℕ) × (more : List ℕ) × (p ≡ Some more) × (n ∷ more ≡ ns)
 step None p ns is = absurd (let none = is in cc)
 step (Some n) None ns is = absurd (let none = is in cc)
 step (Some n) (Some more) ns is = (n, more, refl, cc)
@@ -181,7 +194,8 @@ pub few_listed : (k : List ℕ) (d e : Data) (ns : List ℕ) → get k d ≡ Som
 few_listed k d e ns found are small = omega (arith, got_size k d e found, listed_size e ns are, small)
 
 -- so none is too long
-pub not_long : (k : List ℕ) (d e : Data) (ns : List ℕ) → get k d ≡ Some e → list_of_numbers e ≡ Some ns → size d ≤ 65_537 → None ≡ (if is_number_list ns then Some ns else None) → ⊥
+pub not_long : (k : List ℕ) (d e : Data) (ns : List ℕ) → get k d ≡ Some e → list_of_numbers e ≡ Some ns
+    → size d ≤ 65_537 → None ≡ (if is_number_list ns then Some ns else None) → ⊥
 not_long k d e ns found are small none =
     let few : is_number_list ns ≡ true = le-leb (length ns) 65_536 (few_listed k d e ns found are small) in
     let some : ◌≡◌ {A = Option (List ℕ)} None (Some ns) = rw few at none in cc

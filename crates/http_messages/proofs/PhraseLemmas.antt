@@ -1,5 +1,6 @@
 -- The phrases: how long each is, and that a number that is no status code has none.
-use Rattle.std.proofs.Common.{◌≡◌, ℕ, zero, suc, ◌<◌, ◌≤◌, Bool, true, ◌&&◌, List, [], nat_le, nat_lt, length, refl, ap, unwrap_or, IsTrue, Option, Some, None, ◌==◌, if◌then◌else◌, leb-true, ltb-true, arith}
+use Rattle.std.proofs.Common.{◌≡◌, ℕ, zero, suc, ◌<◌, ◌≤◌, Bool, true, ◌&&◌, List, [], nat_le, nat_lt, length, refl, ap, unwrap_or, IsTrue, Option, Some, None}
+use Rattle.std.proofs.Common.{◌==◌, if◌then◌else◌, leb-true, ltb-true, arith}
 use Rattle.std.proofs.lemmas.Bool.{ne_eqb}
 use Rattle.std.proofs.lemmas.Bool.Decides.{Decides-below_and}
 use Rattle.http.specs.StatusCode.{IsStatusCode, reason_phrase}

@@ -1,5 +1,7 @@
 -- What clap reads of a number is the number that its text writes.
-use Rattle.shop_types.proofs.Common.{◌≡◌, ◌^◌, ◌&&◌, refl, sym, ap, ℕ, Bool, true, false, List, [], ◌∷◌, length, Option, Some, None, Ok, Err, nat_lt, lt-ltb, option_and_then, list_all, result_ok, digit_value, AllDigits, ParsesUnsigned, ExplainsUnsignedError, HasUnsignedDigitsIfOk, digits_value, without_leading_plus}
+use Rattle.shop_types.proofs.Common.{◌≡◌, ◌^◌, ◌&&◌, refl, sym, ap, ℕ, Bool, true, false, List, [], ◌∷◌, length, Option, Some, None, Ok, Err, nat_lt, lt-ltb}
+use Rattle.shop_types.proofs.Common.{option_and_then, list_all, result_ok, digit_value, AllDigits, ParsesUnsigned, ExplainsUnsignedError, HasUnsignedDigitsIfOk}
+use Rattle.shop_types.proofs.Common.{digits_value, without_leading_plus}
 use Rattle.std.proofs.Common.{◌∙◌, Result, ltb-true}
 use Rattle.std.specs.declared.num.ParseIntError.{ParseIntError}
 use Rattle.clap.specs.Matches.{ReadsOne}
@@ -42,9 +44,11 @@ Gives bits text r = ParsesUnsigned bits 10 text r × ExplainsUnsignedError 10 te
 
 pub got_number : (bits : ℕ) (given : ArgMatches) (id : Text) (r : Option ℕ) → (one_text (found_of given) id ≡ None → r ≡ None)
     → ((t : Text) → one_text (found_of given) id ≡ Some t → ReadsOne (Gives bits) t r) → r ≡ number_given bits id (values_of given)
-got_number bits given id r none value = got (one_text (found_of given) id) r none value ∙ ap (option_and_then (number_of bits)) (one_text-rows (found_of given) id)
+got_number bits given id r none value =
+    got (one_text (found_of given) id) r none value ∙ ap (option_and_then (number_of bits)) (one_text-rows (found_of given) id)
   where
-    got : (o : Option Text) (r : Option ℕ) → (o ≡ None → r ≡ None) → ((t : Text) → o ≡ Some t → ReadsOne (Gives bits) t r) → r ≡ option_and_then (number_of bits) o
+    got : (o : Option Text) (r : Option ℕ) → (o ≡ None → r ≡ None)
+        → ((t : Text) → o ≡ Some t → ReadsOne (Gives bits) t r) → r ≡ option_and_then (number_of bits) o
     got None r none value = none refl
     got (Some t) (Some n) none value = sym (parsed {E = ParseIntError} bits t (Ok n) (value t refl).0)
     got (Some t) None none value = let failed = value t refl in sym (parsed {E = ParseIntError} bits t (Err failed.0) failed.1.0)

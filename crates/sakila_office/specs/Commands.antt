@@ -46,7 +46,8 @@ pub record IsMigrated {D : Type 0} (g : Ghosts D) : Type 0 where
 -- from these books on, the request gets this answer, and unless the store fails, these files then keep the books after it
 abbrev pub AnswersFrom : {D : Type 0} → Ghosts D → Files D → Request → Answer → Books → Type 0
 AnswersFrom g left request answer books =
-    (after : Holding) × Answers HeadOffice (seen_request request) answer (opened_holding books) after × (after.is_failed ≡ false → KeepsBooks g left after.books)
+    (after : Holding) × Answers HeadOffice (seen_request request) answer (opened_holding books) after
+    × (after.is_failed ≡ false → KeepsBooks g left after.books)
 
 -- The files hold a chain of this version. It was opened, got the request, gave this answer, and was closed. The answer follows from the sound books that the
 -- files hold, and from whatever books they are known to hold.
@@ -63,7 +64,8 @@ RunsFrom g left status exchanges books =
     (after : Holding) × Runs (events_of line_of exchanges) (answers_of exchanges) (opened_holding books) after
     × (after.is_failed ≡ false → KeepsBooks g left after.books) × (status ≡ 0 → after.is_failed ≡ false)
 
--- The files hold a chain of this version. It was opened in them, ran over some exchanges, and was closed. The run begins at the sound books which the files hold,
+-- The files hold a chain of this version. It was opened in them, ran over some exchanges, and was closed. The run begins at the sound books which the files
+-- hold,
 -- and at whatever books they are known to hold.
 pub record IsServedIn {D : Type 0} (g : Ghosts D) (status : ℕ) : Type 0 where
   pub files : Files D
@@ -89,7 +91,8 @@ pub data Migrates {D : Type 0} (g : Ghosts D) (status : ℕ) (output written err
 
 -- The request was answered, and the answer is printed. Or no chain was opened, and the request did nothing.
 pub data Puts {D : Type 0} (g : Ghosts D) (request : Request) (status : ℕ) (output written errors told : Option (List ℕ)) : Type 0 where
-  answered : (answer : Answer) → IsAnswered g request answer → IsTold answer status output written errors told → Puts g request status output written errors told
+  answered : (answer : Answer) → IsAnswered g request answer
+      → IsTold answer status output written errors told → Puts g request status output written errors told
   not_opened : IsSilent 3 status output written → Puts g request status output written errors told
 
 -- The chain served connections, and nothing is printed. Or no chain was opened, and nothing was done.

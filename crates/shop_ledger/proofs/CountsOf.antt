@@ -1,5 +1,9 @@
 -- The counts of the books themselves: which row has which, and what a new row makes of them.
-use Rattle.shop_schema.proofs.Common.{◌≡◌, ◌+◌, ◌<◌, ◌≤◌, ◌^◌, ◌==◌, ◌&&◌, ℕ, suc, List, [], ◌∷◌, ◌++◌, map, filter, length, true, false, Bool, cond, Some, refl, sym, ap, subst, ◌∙◌, arith, IsPermutation, slice_get, AllByRecursion, all_map, all_weaker, cases_Bool, inl, inr, nat_tests, column, all-slice_get, PicksOne, number_value, same_number, numbered, Branch, Books, same_if, IsHeld, Count, Counts, is_count, count_in, branch_counts, office_count, counts_of, State, StandsWith, AreTermed, Holds, HoldsWith, all-permutation, Customers, CopyRows, Rentals, Payments}
+use Rattle.shop_schema.proofs.Common.{◌≡◌, ◌+◌, ◌<◌, ◌≤◌, ◌^◌, ◌==◌, ◌&&◌, ℕ, suc, List, [], ◌∷◌, ◌++◌, map, filter, length, true, false, Bool, cond, Some}
+use Rattle.shop_schema.proofs.Common.{refl, sym, ap, subst, ◌∙◌, arith, IsPermutation, slice_get, AllByRecursion, all_map, all_weaker, cases_Bool, inl, inr}
+use Rattle.shop_schema.proofs.Common.{nat_tests, column, all-slice_get, PicksOne, number_value, same_number, numbered, Branch, Books, same_if, IsHeld, Count}
+use Rattle.shop_schema.proofs.Common.{Counts, is_count, count_in, branch_counts, office_count, counts_of, State, StandsWith, AreTermed, Holds, HoldsWith}
+use Rattle.shop_schema.proofs.Common.{all-permutation, Customers, CopyRows, Rentals, Payments}
 use Rattle.std.specs.Prelude.{flat_map}
 use Rattle.sqlite_value.specs.Order as sql
 use Rattle.shop_schema.proofs.Stands.{with_own, for_own}
@@ -58,10 +62,12 @@ all_told : {Y : Type 0} (f : Count → Y) (g : ℕ → Y) → ((c : Count) → f
 all_told f g same b k books low =
     let counters = (counts_of books).counters in
     all_map _ f (filter (is_count b k) counters)
-    (all_weaker (λ (c : Count). c.last ≡ count_in k b books) _ (λ c is. same c ∙ ap g is) (filter (is_count b k) counters) (kept_all _ (is_count b k) counters (counts_right b k books low)))
+    (all_weaker (λ (c : Count). c.last ≡ count_in k b books) _ (λ c is. same c ∙ ap g is)
+    (filter (is_count b k) counters) (kept_all _ (is_count b k) counters (counts_right b k books low)))
 
 -- the first row has the number that the books give
-pub told_count : (b k : ℕ) (books : Books) (rows : List sql.Row) (row : sql.Row) (n : ℕ) → 1 ≤ b → IsPermutation (map last_value (filter (is_count b k) (counts_of books).counters)) rows
+pub told_count : (b k : ℕ) (books : Books) (rows : List sql.Row) (row : sql.Row) (n : ℕ) → 1 ≤ b
+    → IsPermutation (map last_value (filter (is_count b k) (counts_of books).counters)) rows
     → slice_get rows 0 ≡ Some row → column row 0 ≡ number_value n → n ≡ count_in k b books
 told_count b k books rows row n low same some is =
     let P : sql.Row → Type 0 = λ vs. vs ≡ number_value (count_in k b books) ∷ [] in
@@ -70,15 +76,18 @@ told_count b k books rows row n low same some is =
     same_number _ _ (sym is ∙ ap (λ r. column r 0) one)
 
 -- the count raised by `m` is the number that the books give, plus `m`
-pub told_more : (b k m : ℕ) (books : Books) (n : ℕ) → 1 ≤ b → map (λ (c : Count). c.last + m) (filter (is_count b k) (counts_of books).counters) ≡ n ∷ [] → n ≡ count_in k b books + m
+pub told_more : (b k m : ℕ) (books : Books) (n : ℕ) → 1 ≤ b
+    → map (λ (c : Count). c.last + m) (filter (is_count b k) (counts_of books).counters) ≡ n ∷ [] → n ≡ count_in k b books + m
 told_more b k m books n low is =
-    let all : AllByRecursion (λ p. p ≡ count_in k b books + m) (n ∷ []) = subst (AllByRecursion (λ p. p ≡ count_in k b books + m)) is (all_told (λ c. c.last + m) (λ last. last + m) (λ c. refl) b k books low) in
+    let all : AllByRecursion (λ p. p ≡ count_in k b books + m) (n ∷ []) =
+    subst (AllByRecursion (λ p. p ≡ count_in k b books + m)) is (all_told (λ c. c.last + m) (λ last. last + m) (λ c. refl) b k books low) in
     all.0
 
 -- ---- there is one of each kind
 
 per_branch : (kind : CountKind) (b : ℕ) (books : Books) (it : ℕ × Branch) (rest : List Count) (t : Bool) → (it.0 == b) ≡ t
-    → length (filter (is_count b (kind_number kind)) (branch_counts books it ++ rest)) ≡ cond t (suc (length (filter (is_count b (kind_number kind)) rest))) (length (filter (is_count b (kind_number kind)) rest))
+    → length (filter (is_count b (kind_number kind)) (branch_counts books it ++ rest))
+    ≡ cond t (suc (length (filter (is_count b (kind_number kind)) rest))) (length (filter (is_count b (kind_number kind)) rest))
 per_branch kind.Customers b books it rest true e = rw e refl
 per_branch kind.Customers b books it rest false e = rw e refl
 per_branch kind.Copies b books it rest true e = rw e refl
@@ -90,33 +99,39 @@ per_branch kind.Payments b books it rest false e = rw e refl
 per_branch kind.Kept b books it rest true e = rw e refl
 per_branch kind.Kept b books it rest false e = rw e refl
 
-as_many : (kind : CountKind) (b : ℕ) (books : Books) (its : List (ℕ × Branch)) → length (filter (is_count b (kind_number kind)) (flat_map (branch_counts books) its)) ≡ length (filter (λ (it : ℕ × Branch). it.0 == b) its)
+as_many : (kind : CountKind) (b : ℕ) (books : Books) (its : List (ℕ × Branch))
+    → length (filter (is_count b (kind_number kind)) (flat_map (branch_counts books) its)) ≡ length (filter (λ (it : ℕ × Branch). it.0 == b) its)
 as_many kind b books [] = refl
 as_many kind b books (it ∷ its) =
     let mine = length (filter (is_count b (kind_number kind)) (flat_map (branch_counts books) its)) in
     per_branch kind b books it (flat_map (branch_counts books) its) (it.0 == b) refl
-    ∙ elim (it.0 == b) as (λ t. cond t (suc mine) mine ≡ length (cond t (it ∷ filter (λ (it : ℕ × Branch). it.0 == b) its) (filter (λ (it : ℕ × Branch). it.0 == b) its)))
+    ∙ elim (it.0 == b) as
+    (λ t. cond t (suc mine) mine ≡ length (cond t (it ∷ filter (λ (it : ℕ × Branch). it.0 == b) its) (filter (λ (it : ℕ × Branch). it.0 == b) its)))
     [ true ↦ ap suc (as_many kind b books its) | false ↦ as_many kind b books its ]
 
 without_office : (b k : ℕ) (books : Books) (rest : List Count) → 1 ≤ b → filter (is_count b k) (office_count books ∷ rest) ≡ filter (is_count b k) rest
-without_office b k books rest low = ap (λ s. cond (s && 4 == k) (office_count books ∷ filter (is_count b k) rest) (filter (is_count b k) rest)) (not_office b low)
+without_office b k books rest low =
+    ap (λ s. cond (s && 4 == k) (office_count books ∷ filter (is_count b k) rest) (filter (is_count b k) rest)) (not_office b low)
 
 once_counted : (kind : CountKind) (b : ℕ) (books : Books) → 1 ≤ b → PicksOne (is_count b (kind_number kind)) (counts_of books).counters
 once_counted kind b books low =
     let k = kind_number kind in
     let its = numbered books.catalogue.branches in
-    subst (λ (n : ℕ). n ≤ 1) (sym (ap length (without_office b k books (flat_map (branch_counts books) its) low) ∙ as_many kind b books its)) (numbered_once 1 books.catalogue.branches b)
+    subst (λ (n : ℕ). n ≤ 1) (sym (ap length (without_office b k books (flat_map (branch_counts books) its) low) ∙ as_many kind b books its))
+    (numbered_once 1 books.catalogue.branches b)
 
 -- ---- and none is great
 
 -- if no branch has too many rows of a kind, each count can be raised by one
-pub small_once : (kind : CountKind) (b : ℕ) (books : Books) → 1 ≤ b → length books.catalogue.kept < 2 ^ 32 → ((kind : CountKind) (a : ℕ) → count_in (kind_number kind) a books < 2 ^ 32)
+pub small_once : (kind : CountKind) (b : ℕ) (books : Books) → 1 ≤ b → length books.catalogue.kept < 2 ^ 32
+    → ((kind : CountKind) (a : ℕ) → count_in (kind_number kind) a books < 2 ^ 32)
     → CountsOnce b kind (counts_of books)
 small_once this b books low office small = record { once = once_counted this b books low; small = (office, branches_small (numbered books.catalogue.branches)) }
   where
     branches_small : (its : List (ℕ × Branch)) → AllByRecursion (λ (c : Count). c.last < 2 ^ 32) (flat_map (branch_counts books) its)
     branches_small [] = tt
-    branches_small (it ∷ its) = (small kind.Customers it.0, (small kind.Copies it.0, (small kind.Rentals it.0, (small kind.Payments it.0, (small kind.Kept it.0, branches_small its)))))
+    branches_small (it ∷ its) =
+        (small kind.Customers it.0, (small kind.Copies it.0, (small kind.Rentals it.0, (small kind.Payments it.0, (small kind.Kept it.0, branches_small its)))))
 
 held_small : (books : Books) → IsHeld books → (kind : CountKind) (a : ℕ) → count_in (kind_number kind) a books < 2 ^ 32
 held_small books held kind.Customers a = let few = held.most_rows Customers a in omega (arith, few)
@@ -136,4 +151,8 @@ beside s books h = record { schema_is = h.schema_is; keyed = h.keyed; stands = w
 
 pub agreed : (s : State) (books : Books) (counts : Counts) → counts_of books ≡ counts → AreTermed books → HoldsWith counts s books → Holds s books
 agreed s books counts same termed h =
-    record { schema_is = h.schema_is; keyed = h.keyed; stands = for_own s.now.trees books termed (subst (λ c. StandsWith c s.now.trees books) (sym same) h.stands) }
+    record {
+      schema_is = h.schema_is;
+      keyed = h.keyed;
+      stands = for_own s.now.trees books termed (subst (λ c. StandsWith c s.now.trees books) (sym same) h.stands);
+    }

@@ -1,5 +1,12 @@
 -- What head office's commands make of the books' own counts, and its count of kept commands, whose caller is 0.
-use Rattle.shop_schema.proofs.Common.{◌≡◌, ◌+◌, ◌-◌, ◌<◌, ◌≤◌, ◌^◌, ◌==◌, ◌&&◌, ℕ, List, [], ◌∷◌, ◌++◌, map, filter, length, true, false, cond, not, Some, None, refl, sym, ap, subst, ◌∙◌, arith, true≢false, IsPermutation, slice_get, AllByRecursion, list_all, nat_tests, length_push, All-push, State, column, all-slice_get, number_value, still_holds, same_number, Row, Owned, at, lacks, is_empty, set_at, numbered, numbered_from, Branch, Customer, Rental, Payment, OfficeAct, AddCountry, AddBranch, SetManager, OfficeCommand, Kept, OfficeKept, Catalogue, office_acted, office_text, office_done, has_row, HasOwners, Books, BookCopy, same_if, more_no, length_map, numbered_push, Count, Counts, is_count, branch_counts, office_count, counts_of, raise, raised, add_count, new_count, with_branch, IsHeld, shop_schema, StandsFor, AreTermed, Holds, HoldsWith, Reads, all-permutation, Customers, CopyRows, Rentals, Payments, all_from_test, all_weaker, filter_none, cases_Bool, inl, inr}
+use Rattle.shop_schema.proofs.Common.{◌≡◌, ◌+◌, ◌-◌, ◌<◌, ◌≤◌, ◌^◌, ◌==◌, ◌&&◌, ℕ, List, [], ◌∷◌, ◌++◌, map, filter, length, true, false, cond, not, Some, None}
+use Rattle.shop_schema.proofs.Common.{refl, sym, ap, subst, ◌∙◌, arith, true≢false, IsPermutation, slice_get, AllByRecursion, list_all, nat_tests, length_push}
+use Rattle.shop_schema.proofs.Common.{All-push, State, column, all-slice_get, number_value, still_holds, same_number, Row, Owned, at, lacks, is_empty, set_at}
+use Rattle.shop_schema.proofs.Common.{numbered, numbered_from, Branch, Customer, Rental, Payment, OfficeAct, AddCountry, AddBranch, SetManager, OfficeCommand}
+use Rattle.shop_schema.proofs.Common.{Kept, OfficeKept, Catalogue, office_acted, office_text, office_done, has_row, HasOwners, Books, BookCopy, same_if}
+use Rattle.shop_schema.proofs.Common.{more_no, length_map, numbered_push, Count, Counts, is_count, branch_counts, office_count, counts_of, raise, raised}
+use Rattle.shop_schema.proofs.Common.{add_count, new_count, with_branch, IsHeld, shop_schema, StandsFor, AreTermed, Holds, HoldsWith, Reads, all-permutation}
+use Rattle.shop_schema.proofs.Common.{Customers, CopyRows, Rentals, Payments, all_from_test, all_weaker, filter_none, cases_Bool, inl, inr}
 use Rattle.std.specs.Prelude.{flat_map}
 use Rattle.sqlite.specs.State.{Shown}
 use Rattle.shop_schema.proofs.Lists.{flat_map_push}
@@ -39,13 +46,17 @@ none_raised (c ∷ cs) all = λ i. cond (apart 4 c all.0 i) (raised 1 c) c ∷ n
 -- ---- the count that is head office's
 
 own_counts : (books : Books) → filter (is_count 0 4) (counts_of books).counters ≡ office_count books ∷ []
-own_counts books = ap (λ l. office_count books ∷ l) (none_picked (flat_map (branch_counts books) (numbered books.catalogue.branches)) (callers books 1 (omega arith) books.catalogue.branches))
+own_counts books =
+    ap (λ l. office_count books ∷ l)
+    (none_picked (flat_map (branch_counts books) (numbered books.catalogue.branches)) (callers books 1 (omega arith) books.catalogue.branches))
 
 read_office_count : (old new : State) (rows : List sql.Row) → Shown SELECT_COUNT.now (number_value 0 ∷ number_value 4 ∷ []) old new rows
     → (row : sql.Row) (n : ℕ) → slice_get rows 0 ≡ Some row → column row 0 ≡ number_value n → Reads old new (λ books. n ≡ length books.catalogue.kept)
 read_office_count old new rows h row n some is books holds held =
     let P : sql.Row → Type 0 = λ vs. vs ≡ number_value (length books.catalogue.kept) ∷ [] in
-    let same = subst (λ (cs : List Count). IsPermutation (map (λ (c : Count). number_value c.last ∷ []) cs) rows) (own_counts books) (shows_counts old new 0 4 rows books holds.schema_is h holds.stands) in
+    let same =
+    subst (λ (cs : List Count). IsPermutation (map (λ (c : Count). number_value c.last ∷ []) cs) rows)
+    (own_counts books) (shows_counts old new 0 4 rows books holds.schema_is h holds.stands) in
     let all = all-permutation P _ rows same (refl, tt) in
     let one : row ≡ number_value (length books.catalogue.kept) ∷ [] = all-slice_get P rows 0 row some all in (
       still_holds shop_schema StandsFor SELECT_COUNT.now (number_value 0 ∷ number_value 4 ∷ []) old new select_count_means.plain rows h books holds,
@@ -60,7 +71,10 @@ read_counted (Of b kind) low old new rows h = read_count old new b (kind_number 
 
 -- head office's count in the books' own counts can be raised by one
 pub office_once : (books : Books) → IsHeld books → CountsOnce 0 kind.Kept (counts_of books)
-office_once books held = record { once = subst (λ (n : ℕ). n ≤ 1) (sym (ap length (own_counts books))) (omega arith); small = (held_once books held kind.Kept 1 (omega arith)).small }
+office_once books held = record {
+  once = subst (λ (n : ℕ). n ≤ 1) (sym (ap length (own_counts books))) (omega arith);
+  small = (held_once books held kind.Kept 1 (omega arith)).small;
+}
 
 one_more : (c : Count) (counts : Counts) → 1 ≤ c.caller → c.last ≡ 0 → CountsOnce 0 kind.Kept counts → CountsOnce 0 kind.Kept (add_count c counts)
 one_more c counts low none given = record {
@@ -90,7 +104,8 @@ lacks_next n (x ∷ xs) more = ap (λ t. is_empty (cond t (x ∷ []) (at (n - 1)
     other : (n == 1) ≡ false
     other = grind (arith, nat_tests)
 
-pub none_of : {X : Type 0} (owner : X → ℕ) (branches : List Branch) (b : ℕ) → lacks branches b ≡ true → (xs : List X) → list_all (λ x. has_row branches (owner x)) xs ≡ true → filter (λ x. owner x == b) xs ≡ []
+pub none_of : {X : Type 0} (owner : X → ℕ) (branches : List Branch) (b : ℕ) → lacks branches b ≡ true
+    → (xs : List X) → list_all (λ x. has_row branches (owner x)) xs ≡ true → filter (λ x. owner x == b) xs ≡ []
 none_of {X} owner branches b lacking xs all = filter_none _ xs (all_weaker _ _ away xs (all_from_test (λ x. has_row branches (owner x)) xs all))
   where
     away : (x : X) → has_row branches (owner x) ≡ true → (owner x == b) ≡ false
@@ -103,12 +118,24 @@ new_counts : (books : Books) (b : ℕ) (branch : Branch) → lacks books.catalog
     → branch_counts books (b, branch) ≡ new_count b 0 ∷ new_count b 1 ∷ new_count b 2 ∷ new_count b 3 ∷ new_count b 4 ∷ []
 new_counts books b branch lacking owners =
     let branches = books.catalogue.branches in
-    let customers = ap (λ (rows : List (Row Customer)). length (map (λ (row : Row Customer). row.it) rows)) (none_of (λ (row : Row Customer). row.branch) branches b lacking books.customers (owners.rows Customers)) in
-    let copies = ap (λ (rows : List (Row BookCopy)). length (map (λ (row : Row BookCopy). row.it) rows)) (none_of (λ (row : Row BookCopy). row.branch) branches b lacking books.copies (owners.rows CopyRows)) in
-    let rentals = ap (λ (rows : List (Row Rental)). length (map (λ (row : Row Rental). row.it) rows)) (none_of (λ (row : Row Rental). row.branch) branches b lacking books.rentals (owners.rows Rentals)) in
-    let payments = ap (λ (rows : List (Row Payment)). length (map (λ (row : Row Payment). row.it) rows)) (none_of (λ (row : Row Payment). row.branch) branches b lacking books.payments (owners.rows Payments)) in
-    let kept = ap (λ (rows : List (Owned Kept)). length (map (λ (row : Owned Kept). row.it) rows)) (none_of (λ (row : Owned Kept). row.owner) branches b lacking books.kept owners.kept) in
-    λ i. record { caller = b; kind = 0; last = customers i } ∷ record { caller = b; kind = 1; last = copies i } ∷ record { caller = b; kind = 2; last = rentals i }
+    let customers =
+    ap (λ (rows : List (Row Customer)). length (map (λ (row : Row Customer). row.it) rows))
+    (none_of (λ (row : Row Customer). row.branch) branches b lacking books.customers (owners.rows Customers)) in
+    let copies =
+    ap (λ (rows : List (Row BookCopy)). length (map (λ (row : Row BookCopy). row.it) rows))
+    (none_of (λ (row : Row BookCopy). row.branch) branches b lacking books.copies (owners.rows CopyRows)) in
+    let rentals =
+    ap (λ (rows : List (Row Rental)). length (map (λ (row : Row Rental). row.it) rows))
+    (none_of (λ (row : Row Rental). row.branch) branches b lacking books.rentals (owners.rows Rentals)) in
+    let payments =
+    ap (λ (rows : List (Row Payment)). length (map (λ (row : Row Payment). row.it) rows))
+    (none_of (λ (row : Row Payment). row.branch) branches b lacking books.payments (owners.rows Payments)) in
+    let kept =
+    ap (λ (rows : List (Owned Kept)). length (map (λ (row : Owned Kept). row.it) rows))
+    (none_of (λ (row : Owned Kept). row.owner) branches b lacking books.kept owners.kept) in
+    λ i.
+    record { caller = b; kind = 0; last = customers i }
+    ∷ record { caller = b; kind = 1; last = copies i } ∷ record { caller = b; kind = 2; last = rentals i }
     ∷ record { caller = b; kind = 3; last = payments i } ∷ record { caller = b; kind = 4; last = kept i } ∷ []
 
 -- ---- what the rows of a command make of the counts
@@ -118,27 +145,38 @@ five_put [] a b c d e = refl
 five_put (x ∷ xs) a b c d e = ap (λ l. x ∷ l) (five_put xs a b c d e)
 
 branch_put : (books : Books) (branch : Branch) → HasOwners books.catalogue.branches books
-    → office_count books ∷ flat_map (branch_counts books) (numbered (books.catalogue.branches ++ branch ∷ [])) ≡ (with_branch (length books.catalogue.branches + 1) (counts_of books)).counters
+    → office_count books ∷ flat_map (branch_counts books) (numbered (books.catalogue.branches ++ branch ∷ []))
+    ≡ (with_branch (length books.catalogue.branches + 1) (counts_of books)).counters
 branch_put books branch owners =
     let branches = books.catalogue.branches in
     let n = length branches + 1 in
     let place : 1 + length branches ≡ n = omega arith in
     let new = new_counts books n branch (lacks_next n branches (omega arith)) owners in
     ap (λ (cs : List Count). office_count books ∷ cs)
-    (ap (flat_map (branch_counts books)) (numbered_push 1 branches branch) ∙ flat_map_push (branch_counts books) (numbered branches) (1 + length branches, branch)
+    (ap (flat_map (branch_counts books)) (numbered_push 1 branches branch)
+    ∙ flat_map_push (branch_counts books) (numbered branches) (1 + length branches, branch)
     ∙ ap (λ (cs : List Count). flat_map (branch_counts books) (numbered branches) ++ cs) (ap (λ (k : ℕ). branch_counts books (k, branch)) place ∙ new))
     ∙ five_put (office_count books ∷ flat_map (branch_counts books) (numbered branches)) _ _ _ _ _
 
-branch_set : (books : Books) (k n : ℕ) (f : Branch → Branch) (branches : List Branch) → flat_map (branch_counts books) (numbered_from k (set_at n f branches)) ≡ flat_map (branch_counts books) (numbered_from k branches)
+branch_set : (books : Books) (k n : ℕ) (f : Branch → Branch) (branches : List Branch)
+    → flat_map (branch_counts books) (numbered_from k (set_at n f branches)) ≡ flat_map (branch_counts books) (numbered_from k branches)
 branch_set books k n f [] = refl
 branch_set books k n f (branch ∷ branches) =
-    elim (n == 1) as (λ hit. flat_map (branch_counts books) (numbered_from k (cond hit (f branch ∷ branches) (branch ∷ set_at (n - 1) f branches))) ≡ flat_map (branch_counts books) (numbered_from k (branch ∷ branches)))
+    elim (n == 1) as (λ hit.
+    flat_map (branch_counts books) (numbered_from k (cond hit (f branch ∷ branches) (branch ∷ set_at (n - 1) f branches)))
+    ≡ flat_map (branch_counts books) (numbered_from k (branch ∷ branches)))
     [ true ↦ refl | false ↦ ap (λ (cs : List Count). branch_counts books (k, branch) ++ cs) (branch_set books (k + 1) (n - 1) f branches) ]
 
 pub office_rows_counted : (act : OfficeAct) (books : Books) → HasOwners books.catalogue.branches books
     → counts_of (record books { catalogue = office_acted act books.catalogue }) ≡ office_grown act (length books.catalogue.branches + 1) (counts_of books)
-office_rows_counted (AddBranch branch) books owners = λ i. record { counters = branch_put books (record branch { manager = None }) owners i; outs = (counts_of books).outs; pairs = (counts_of books).pairs }
-office_rows_counted (SetManager b staff) books owners = λ i. record { counters = office_count books ∷ branch_set books 1 b (λ r. record r { manager = Some staff }) books.catalogue.branches i; outs = (counts_of books).outs; pairs = (counts_of books).pairs }
+office_rows_counted (AddBranch branch) books owners =
+    λ i. record { counters = branch_put books (record branch { manager = None }) owners i; outs = (counts_of books).outs; pairs = (counts_of books).pairs }
+office_rows_counted (SetManager b staff) books owners = λ i.
+    record {
+      counters = office_count books ∷ branch_set books 1 b (λ r. record r { manager = Some staff }) books.catalogue.branches i;
+      outs = (counts_of books).outs;
+      pairs = (counts_of books).pairs;
+    }
 office_rows_counted act books owners = refl
 
 pub kept_stays : (act : OfficeAct) (it : Catalogue) → (office_acted act it).kept ≡ it.kept
@@ -147,24 +185,29 @@ kept_stays act it = refl
 
 -- after the key is kept, head office's count is one more than after the rows alone
 pub office_counted_raised : (command : OfficeCommand) (books : Books)
-    → counts_of (record books { catalogue = office_done command books.catalogue }) ≡ raise 0 kept_kind 1 (counts_of (record books { catalogue = office_acted command.act books.catalogue }))
+    → counts_of (record books { catalogue = office_done command books.catalogue })
+    ≡ raise 0 kept_kind 1 (counts_of (record books { catalogue = office_acted command.act books.catalogue }))
 office_counted_raised command books =
     let it = office_acted command.act books.catalogue in
     let kept : OfficeKept = record { command = command; reply = office_text command books.catalogue } in
-    let more : length (books.catalogue.kept ++ kept ∷ []) ≡ length it.kept + 1 = length_push books.catalogue.kept kept ∙ ap (λ (ks : List OfficeKept). length ks + 1) (sym (kept_stays command.act books.catalogue)) in
+    let more : length (books.catalogue.kept ++ kept ∷ []) ≡ length it.kept + 1 =
+    length_push books.catalogue.kept kept ∙ ap (λ (ks : List OfficeKept). length ks + 1) (sym (kept_stays command.act books.catalogue)) in
     let others = none_raised (flat_map (branch_counts books) (numbered it.branches)) (callers books 1 (omega arith) it.branches) in
     λ i. record { counters = record { caller = 0; kind = 4; last = more i } ∷ sym others i; outs = (counts_of books).outs; pairs = (counts_of books).pairs }
 
 -- so the books after a command have the counts that the command makes
 pub office_counts_done : (command : OfficeCommand) (books : Books) → HasOwners books.catalogue.branches books
-    → counts_of (record books { catalogue = office_done command books.catalogue }) ≡ office_counted command.act (length books.catalogue.branches + 1) (counts_of books)
+    → counts_of (record books { catalogue = office_done command books.catalogue })
+    ≡ office_counted command.act (length books.catalogue.branches + 1) (counts_of books)
 office_counts_done command books owners = office_counted_raised command books ∙ ap (raise 0 kept_kind 1) (office_rows_counted command.act books owners)
 
 pub office_counts_agreed : (s : State) (command : OfficeCommand) (books : Books) → HasOwners books.catalogue.branches books → AreTermed books
-    → HoldsWith (office_counted command.act (length books.catalogue.branches + 1) (counts_of books)) s (record books { catalogue = office_done command books.catalogue })
+    → HoldsWith (office_counted command.act (length books.catalogue.branches + 1) (counts_of books)) s
+    (record books { catalogue = office_done command books.catalogue })
     → Holds s (record books { catalogue = office_done command books.catalogue })
 office_counts_agreed s command books owners termed holds =
-    agreed s (record books { catalogue = office_done command books.catalogue }) (office_counted command.act (length books.catalogue.branches + 1) (counts_of books)) (office_counts_done command books owners) termed holds
+    agreed s (record books { catalogue = office_done command books.catalogue })
+    (office_counted command.act (length books.catalogue.branches + 1) (counts_of books)) (office_counts_done command books owners) termed holds
 
 -- after the rows alone, the count of keys can be raised by one
 pub office_grown_once : (act : OfficeAct) (b : ℕ) (books : Books) → 1 ≤ b → IsHeld books → CountsOnce 0 kind.Kept (office_grown act b (counts_of books))

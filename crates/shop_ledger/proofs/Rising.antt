@@ -1,5 +1,7 @@
 -- Numbers that rise, and some of a branch's rows in order of number.
-use Rattle.shop_schema.proofs.Common.{◌≡◌, ◌≢◌, ◌&&◌, ◌<◌, ◌+◌, ℕ, List, [], ◌∷◌, map, filter, length, Bool, false, cond, refl, sym, ap, subst, ◌∙◌, arith, AllByRecursion, nat_tests, sort_by, insert_sorted, filter-map, length-map, IsAscending, ascending-filter, ascending_weaker, by, Differ, Row, is_of, of, numbered_from, IsCounted, AreNumbered}
+use Rattle.shop_schema.proofs.Common.{◌≡◌, ◌≢◌, ◌&&◌, ◌<◌, ◌+◌, ℕ, List, [], ◌∷◌, map, filter, length, Bool, false, cond, refl, sym, ap, subst, ◌∙◌, arith}
+use Rattle.shop_schema.proofs.Common.{AllByRecursion, nat_tests, sort_by, insert_sorted, filter-map, length-map, IsAscending, ascending-filter}
+use Rattle.shop_schema.proofs.Common.{ascending_weaker, by, Differ, Row, is_of, of, numbered_from, IsCounted, AreNumbered}
 use Rattle.std.specs.Ordering.{is_gt}
 use Rattle.shop_schema.proofs.Lists.{filter_twice}
 
@@ -52,7 +54,9 @@ module _ {A : Type 0} (test : A → Bool) (b : ℕ) (rows : List (Row A)) (count
   split = filter_twice (is_of b) (λ (row : Row A). test row.it) rows
 
   pub which_rise : Rise (filter (of_which test b) rows)
-  which_rise = subst Rise (sym split) (ascending-filter _ (λ (row : Row A). test row.it) (filter (is_of b) rows) (counted_rise (λ (row : Row A). row.number) 1 (filter (is_of b) rows) counted))
+  which_rise =
+      subst Rise (sym split)
+      (ascending-filter _ (λ (row : Row A). test row.it) (filter (is_of b) rows) (counted_rise (λ (row : Row A). row.number) 1 (filter (is_of b) rows) counted))
 
   -- they are the branch's items that pass
   pub which_are : map (λ (row : Row A). row.it) (filter (of_which test b) rows) ≡ filter test (of b rows)

@@ -1,5 +1,11 @@
 -- The state of a branch in SQL: its row, joined with its count of kept commands.
-use Rattle.shop_schema.proofs.Common.{◌≡◌, ◌≤◌, ◌==◌, ℕ, zero, suc, pos, List, [], ◌∷◌, map, filter, true, false, cond, Some, None, refl, sym, ap, subst, ◌∙◌, arith, append-nil, inl, inr, ◌⊎◌, IfSome, slice_get, flat_map, IsPermutation-refl, Value, Null, Int, or_null, column, Trees, Term, col, lit, Query, Join, inner, left, end, Output, overlay, State, map-map, IsPermutation-same, PicksOne, columns_of, number_value, Selects, answers, kept_as_map, one_tested, number_tested, still_holds, joined_query, are_equal, or_blank, shown_of, few_list, left_pair, joined_rows, IsMoment, owned_by, at, is_empty, numbered, Branch, Books, head, shop_schema, moment_value, branch_columns, counter_columns, Count, is_count, count_in, counts_of, IsHeld, StandsFor, Holds, Reads}
+use Rattle.shop_schema.proofs.Common.{◌≡◌, ◌≤◌, ◌==◌, ℕ, zero, suc, pos, List, [], ◌∷◌, map, filter, true, false, cond, Some, None, refl, sym, ap, subst, ◌∙◌}
+use Rattle.shop_schema.proofs.Common.{arith, append-nil, inl, inr, ◌⊎◌, IfSome, slice_get, flat_map, IsPermutation-refl, Value, Null, Int, or_null, column}
+use Rattle.shop_schema.proofs.Common.{Trees, Term, col, lit, Query, Join, inner, left, end, Output, overlay, State, map-map, IsPermutation-same, PicksOne}
+use Rattle.shop_schema.proofs.Common.{columns_of, number_value, Selects, answers, kept_as_map, one_tested, number_tested, still_holds, joined_query, are_equal}
+use Rattle.shop_schema.proofs.Common.{or_blank, shown_of, few_list, left_pair, joined_rows, IsMoment, owned_by, at, is_empty, numbered, Branch, Books, head}
+use Rattle.shop_schema.proofs.Common.{shop_schema, moment_value, branch_columns, counter_columns, Count, is_count, count_in, counts_of, IsHeld, StandsFor}
+use Rattle.shop_schema.proofs.Common.{Holds, Reads}
 use Rattle.sqlite_value.specs.Order as sql
 use Rattle.sqlite_tied.specs.Compute.{everything}
 use Rattle.sqlite.specs.Listing.{understood}
@@ -73,7 +79,8 @@ module _ (b : ℕ) (books : Books) (db : Trees) (s : StandsFor db books) (held :
   keys_brings : shown_of standing_query (overlay db []) with_keys (params ∷ its ∷ []) ≡ out (keys_value (keys_of books x.0))
   keys_brings =
       let few = keys_once books held x.0 in
-      left_pair 3 counter_columns (db 41) (counts_of books).counters s.counters last (λ r. refl) (λ c. c.caller) (λ c. c.kind) (λ c. refl) (λ c. refl) (λ r. refl) (λ r. refl) x.0 4 few
+      left_pair 3 counter_columns (db 41) (counts_of books).counters s.counters last (λ r. refl)
+      (λ c. c.caller) (λ c. c.kind) (λ c. refl) (λ c. refl) (λ r. refl) (λ r. refl) x.0 4 few
       ∙ one (keys_of books x.0) (few_list (keys_of books x.0) few)
 
 -- ---- the branch of the number
@@ -84,7 +91,8 @@ standing_output books x = ([], standing_row books x)
 abbrev rows_of : ℕ → Books → List Branch → List sql.Row
 rows_of b books found = map (standing_row books) (map (λ branch. (b, branch)) found)
 
-shows_standing : (old new : State) (b : ℕ) (rows : List sql.Row) → Shown SELECT_STANDING.now (number_value b ∷ []) old new rows → (books : Books) → Holds old books → IsHeld books
+shows_standing : (old new : State) (b : ℕ) (rows : List sql.Row)
+    → Shown SELECT_STANDING.now (number_value b ∷ []) old new rows → (books : Books) → Holds old books → IsHeld books
     → rows ≡ rows_of b books (at b books.catalogue.branches)
 shows_standing old new b rows h books holds held =
     let db = old.now.trees in
@@ -109,7 +117,8 @@ keys_are b n books low (c ∷ more) e is =
 -- what the first row says of the books
 pub told_standing : (old new : State) (b : ℕ) (rows : List sql.Row) → Shown SELECT_STANDING.now (number_value b ∷ []) old new rows → 1 ≤ b
     → (slice_get rows 0 ≡ None → Reads old new (λ books. IsStanding b books None))
-    × ((row : sql.Row) (it : Standing) → slice_get rows 0 ≡ Some row → column row 0 ≡ or_null moment_value it.last → IfSome it.last IsMoment → column row 1 ≡ number_value it.keys
+    × ((row : sql.Row) (it : Standing) → slice_get rows 0 ≡ Some row → column row 0 ≡ or_null moment_value it.last
+    → IfSome it.last IsMoment → column row 1 ≡ number_value it.keys
     → Reads old new (λ books. IsStanding b books (Some it)))
 told_standing old new b rows h low = (
   λ none books holds held. (still books holds, unknown books (at b books.catalogue.branches) (sym (first books holds held) ∙ none)),
@@ -128,13 +137,15 @@ told_standing old new b rows h low = (
     unknown books [] e = refl
     unknown books (branch ∷ more) e = cc
 
-    known : (row : sql.Row) (it : Standing) → column row 0 ≡ or_null moment_value it.last → IfSome it.last IsMoment → column row 1 ≡ number_value it.keys → (books : Books) → IsHeld books
+    known : (row : sql.Row) (it : Standing) → column row 0 ≡ or_null moment_value it.last
+        → IfSome it.last IsMoment → column row 1 ≡ number_value it.keys → (books : Books) → IsHeld books
         → (found : List Branch) → slice_get (rows_of b books found) 0 ≡ Some row
         → (is_empty found ≡ false) × (it.last ≡ head (owned_by b books.lasts)) × (it.keys ≡ count_in 4 b books)
     known row it moment real keys books held [] e = cc
     known row it moment real keys books held (branch ∷ more) e =
         let same : standing_row books (b, branch) ≡ row = cc in (
           refl,
-          same_value kinds.MomentOrNull it.last (head (owned_by b books.lasts)) real (last_fits b books.lasts held.values.lasts) (sym moment ∙ ap (λ r. column r 0) (sym same)),
+          same_value kinds.MomentOrNull it.last (head (owned_by b books.lasts)) real
+              (last_fits b books.lasts held.values.lasts) (sym moment ∙ ap (λ r. column r 0) (sym same)),
           keys_are b it.keys books low (keys_of books b) refl (ap (λ r. column r 1) same ∙ keys),
         )

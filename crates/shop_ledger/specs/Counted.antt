@@ -4,7 +4,8 @@ use Rattle.std.specs.List.{AllByRecursion}
 use Rattle.sql_rows.specs.Rows.{PicksOne}
 use Rattle.shop_model.specs.Values.{OfficeAct, AddBranch}
 use Rattle.shop_model.specs.Books.{Books}
-use Rattle.shop_schema.specs.Counts.{Counts, is_count, count_in, raise, with_branch, is_out_by, customers_kind, copies_kind, rentals_kind, payments_kind, kept_kind}
+use Rattle.shop_schema.specs.Counts.{Counts, is_count, count_in, raise, with_branch, is_out_by, customers_kind, copies_kind, rentals_kind, payments_kind}
+use Rattle.shop_schema.specs.Counts.{kept_kind}
 use Rattle.shop_ledger.specs.declared.counts.CountKind.{CountKind}
 use Rattle.shop_ledger.specs.declared.counts.CountKind.TheVariants as kind
 use Rattle.shop_ledger.specs.declared.counts.Count.{Count}

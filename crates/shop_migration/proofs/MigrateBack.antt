@@ -1,5 +1,8 @@
 -- What the tables of version 1 stood for, which follows from what the migrated tables stand for.
-use Rattle.shop_schema.proofs.Common.{◌≡◌, ◌≢◌, ℕ, List, [], ◌∷◌, true, not, refl, sym, subst, ◌∙◌, arith, IsPermutation, AllByRecursion, and_parts, IsPermutation-sym, IsPermutation-trans, Trees, Table, one_permutation, HasRows, SameBut, number_value, same_number, Text, Rule, ByCode, ByComment, Books, without_terms, this_version, first_version, versioned_columns, rule_columns, counts_of, StandsFor, StandsForVersion1, TermedRows, shop_schema, version_1_schema, later_tables, chain_table}
+use Rattle.shop_schema.proofs.Common.{◌≡◌, ◌≢◌, ℕ, List, [], ◌∷◌, true, not, refl, sym, subst, ◌∙◌, arith, IsPermutation, AllByRecursion, and_parts}
+use Rattle.shop_schema.proofs.Common.{IsPermutation-sym, IsPermutation-trans, Trees, Table, one_permutation, HasRows, SameBut, number_value, same_number, Text}
+use Rattle.shop_schema.proofs.Common.{Rule, ByCode, ByComment, Books, without_terms, this_version, first_version, versioned_columns, rule_columns, counts_of}
+use Rattle.shop_schema.proofs.Common.{StandsFor, StandsForVersion1, TermedRows, shop_schema, version_1_schema, later_tables, chain_table}
 use Rattle.std.specs.Prelude.{◌==◌}
 use Rattle.sqlite_value.specs.Order as sql
 use Rattle.shop_migration.specs.Migrating.{AddsTables, PutsRule, SetsVersion, Tells}
@@ -28,8 +31,10 @@ by_code ByComment is =
 -- ---- all tables of version 1 but the first are as they were
 
 module _ (old one two three new : Trees) where
-  back : (ts : List Table) → none_has 57 ts ≡ true → none_has 59 ts ≡ true → AllByRecursion (λ t. one t.tree ≡ old t.tree) ts → AllByRecursion (λ t. t.tree ≢ 57 → two t.tree ≡ one t.tree) ts
-      → AllByRecursion (λ t. t.tree ≢ 59 → three t.tree ≡ two t.tree) ts → AllByRecursion (λ t. t.tree ≢ 0 → new t.tree ≡ three t.tree) ts → AllByRecursion (λ t. t.tree ≢ 0 → old t.tree ≡ new t.tree) ts
+  back : (ts : List Table) → none_has 57 ts ≡ true → none_has 59 ts ≡ true
+      → AllByRecursion (λ t. one t.tree ≡ old t.tree) ts → AllByRecursion (λ t. t.tree ≢ 57 → two t.tree ≡ one t.tree) ts
+      → AllByRecursion (λ t. t.tree ≢ 59 → three t.tree ≡ two t.tree) ts
+      → AllByRecursion (λ t. t.tree ≢ 0 → new t.tree ≡ three t.tree) ts → AllByRecursion (λ t. t.tree ≢ 0 → old t.tree ≡ new t.tree) ts
   back [] p q a b c d = tt
   back (t ∷ ts) p q a b c d =
       let no_terms = and_parts (not (t.tree == 57)) (none_has 57 ts) p in
@@ -52,15 +57,19 @@ module _ (old one two three new : Trees) where
       has_rule =
           let filled_59 = (last_part (λ t. t.tree ≢ 57 → two t.tree ≡ one t.tree) first later_tables filled).1.0 in
           let set_59 = (last_part (λ t. t.tree ≢ 0 → new t.tree ≡ three t.tree) first later_tables set.others).1.0 in
-          subst (λ (tree : List sql.Row). HasRows 1 tree (rule_columns ByCode ∷ [])) (sym (set_59 (differ 59 0 refl))) (ruled.rule (filled_59 (differ 59 57 refl) ∙ added.no_rule))
+          subst (λ (tree : List sql.Row). HasRows 1 tree (rule_columns ByCode ∷ []))
+          (sym (set_59 (differ 59 0 refl))) (ruled.rule (filled_59 (differ 59 57 refl) ∙ added.no_rule))
 
       pub stood : Tells first_version token old → (books : Books) → StandsFor new books → StandsForVersion1 old (without_terms books)
       stood tells books s =
           let others = back first refl refl added.others (first_part (λ t. t.tree ≢ 57 → two t.tree ≡ one t.tree) first later_tables filled)
-          (first_part (λ t. t.tree ≢ 59 → three t.tree ≡ two t.tree) first later_tables ruled.others) (first_part (λ t. t.tree ≢ 0 → new t.tree ≡ three t.tree) first later_tables set.others) in
+          (first_part (λ t. t.tree ≢ 59 → three t.tree ≡ two t.tree) first later_tables ruled.others)
+          (first_part (λ t. t.tree ≢ 0 → new t.tree ≡ three t.tree) first later_tables set.others) in
           let told : HasRows 2 (old 0) (versioned_columns first_version books.catalogue.office_token ∷ []) =
-          subst (λ (it : Text). HasRows 2 (old 0) (versioned_columns first_version it ∷ [])) (same_token token books.catalogue.office_token new set.told s.chain) tells in
+          subst (λ (it : Text). HasRows 2 (old 0) (versioned_columns first_version it ∷ []))
+          (same_token token books.catalogue.office_token new set.told s.chain) tells in
           first_named first_version (λ _ its. (its.terms ≡ []) × (its.catalogue.rule ≡ ByCode)) (counts_of (without_terms books)) old (without_terms books)
-          (one_changed 0 new old 0 first (first_rows this_version (counts_of books) books) chain_table (versioned_columns first_version books.catalogue.office_token ∷ []) refl refl others told
+          (one_changed 0 new old 0 first (first_rows this_version (counts_of books) books) chain_table
+          (versioned_columns first_version books.catalogue.office_token ∷ []) refl refl others told
           (first_listed this_version TermedRows (counts_of books) new books s))
           (refl, by_code books.catalogue.rule (same_row _ _ _ has_rule s.more.rows.1.0))

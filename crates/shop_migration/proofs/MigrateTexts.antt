@@ -1,6 +1,16 @@
 -- What the statements do that turn the tables of version 1 into the tables of version 2.
 use Rattle.std.proofs.Common.{map-id}
-use Rattle.shop_schema.proofs.Common.{◌≡◌, ◌≢◌, ℕ, pos, List, [], ◌∷◌, ◌++◌, map, filter, length, drop, take, codes, true, Ok, refl, sym, ap, ap₂, subst, subst₂, ◌∙◌, arith, append-nil, inl, inr, IsPermutation, ⊤, ◌⊎◌, flat_map, AllByRecursion, IsPermutation-refl, IsPermutation-sym, IsPermutation-trans, IsPermutation-map, Null, Int, column, Binary, Trees, IsShaped, Term, lit, col, Join, left, inner, end, IsAnswer, Output, overlay, Values, Insert, Update, State, ExecutesInside, Table, Schema, map-append, map-map, flat_map-map, all-append, Changes, Means, HasRows, SameBut, number_value, all_typed, joined_query, are_equal, or_blank, shown_of, few_list, left_pair, joined_bag, plain_query, HasPut, has_put, sets_row, Row, at, is_row, Text, Film, Copy, Rental, Terms, ByCode, Rules, film_of, film_terms, terms_now, HasNumbers, Books, BookCopy, shop_of, unmarked, IsSoundWithoutTerms, row_terms, migrated, row_at, length_map, at_one, all_rows_have_one, shop_schema, version_1_schema, later_tables, this_version, first_version, versioned_columns, film_columns, copy_columns, rental_columns, terms_columns, rule_columns, counts_of, IsShop, IsFirstShop, StandsAs, AreTermed, HoldsVersion1, Holds, term_rows, later_rows, HaveRows, IsKeyed, IsFirstKeyed, CopyRows}
+use Rattle.shop_schema.proofs.Common.{◌≡◌, ◌≢◌, ℕ, pos, List, [], ◌∷◌, ◌++◌, map, filter, length, drop, take, codes, true, Ok, refl, sym, ap, ap₂, subst}
+use Rattle.shop_schema.proofs.Common.{subst₂, ◌∙◌, arith, append-nil, inl, inr, IsPermutation, ⊤, ◌⊎◌, flat_map, AllByRecursion, IsPermutation-refl}
+use Rattle.shop_schema.proofs.Common.{IsPermutation-sym, IsPermutation-trans, IsPermutation-map, Null, Int, column, Binary, Trees, IsShaped, Term, lit, col}
+use Rattle.shop_schema.proofs.Common.{Join, left, inner, end, IsAnswer, Output, overlay, Values, Insert, Update, State, ExecutesInside, Table, Schema}
+use Rattle.shop_schema.proofs.Common.{map-append, map-map, flat_map-map, all-append, Changes, Means, HasRows, SameBut, number_value, all_typed, joined_query}
+use Rattle.shop_schema.proofs.Common.{are_equal, or_blank, shown_of, few_list, left_pair, joined_bag, plain_query, HasPut, has_put, sets_row, Row, at, is_row}
+use Rattle.shop_schema.proofs.Common.{Text, Film, Copy, Rental, Terms, ByCode, Rules, film_of, film_terms, terms_now, HasNumbers, Books, BookCopy, shop_of}
+use Rattle.shop_schema.proofs.Common.{unmarked, IsSoundWithoutTerms, row_terms, migrated, row_at, length_map, at_one, all_rows_have_one, shop_schema}
+use Rattle.shop_schema.proofs.Common.{version_1_schema, later_tables, this_version, first_version, versioned_columns, film_columns, copy_columns}
+use Rattle.shop_schema.proofs.Common.{rental_columns, terms_columns, rule_columns, counts_of, IsShop, IsFirstShop, StandsAs, AreTermed, HoldsVersion1, Holds}
+use Rattle.shop_schema.proofs.Common.{term_rows, later_rows, HaveRows, IsKeyed, IsFirstKeyed, CopyRows}
 use Rattle.sqlite_value.specs.Order as sql
 use Rattle.sqlite_trees.specs.declared.store.Shape.TheVariants.{Table as TableShape}
 use Rattle.sqlite_sql.specs.Query.{Query as Asked}
@@ -55,11 +65,13 @@ none_in width tree none = subst (λ (es : List sql.Row). HasRows width es []) (s
 none_shaped : {tree : List sql.Row} → tree ≡ [] → IsShaped TableShape tree
 none_shaped none = subst (IsShaped TableShape) (sym none) (tt, tt)
 
-keyed_moved : (ts : List Table) (old new : Trees) → AllByRecursion (λ t. new t.tree ≡ old t.tree) ts → AllByRecursion (λ t. IsShaped TableShape (old t.tree)) ts → AllByRecursion (λ t. IsShaped TableShape (new t.tree)) ts
+keyed_moved : (ts : List Table) (old new : Trees) → AllByRecursion (λ t. new t.tree ≡ old t.tree) ts
+    → AllByRecursion (λ t. IsShaped TableShape (old t.tree)) ts → AllByRecursion (λ t. IsShaped TableShape (new t.tree)) ts
 keyed_moved [] old new same keyed = tt
 keyed_moved (t ∷ ts) old new same keyed = (subst (IsShaped TableShape) (sym same.0) keyed.0, keyed_moved ts old new same.1 keyed.1)
 
-both_same : (ts : List Table) (old mid new : Trees) → AllByRecursion (λ t. mid t.tree ≡ old t.tree) ts → AllByRecursion (λ t. new t.tree ≡ mid t.tree) ts → AllByRecursion (λ t. new t.tree ≡ old t.tree) ts
+both_same : (ts : List Table) (old mid new : Trees) → AllByRecursion (λ t. mid t.tree ≡ old t.tree) ts
+    → AllByRecursion (λ t. new t.tree ≡ mid t.tree) ts → AllByRecursion (λ t. new t.tree ≡ old t.tree) ts
 both_same [] old mid new first then = tt
 both_same (t ∷ ts) old mid new first then = (then.0 ∙ first.0, both_same ts old mid new first.1 then.1)
 
@@ -78,7 +90,8 @@ record Made (old new : State) : Type 0 where
   no_terms : new.now.trees 57 ≡ []
   no_rule : new.now.trees 59 ≡ []
 
-made : (old mid new : State) (m n : ℕ) → ExecutesInside 0 rental_terms_text [] old mid (Ok m) → ExecutesInside 0 chain_rule_text [] mid new (Ok n) → IsFirstShop old → Made old new
+made : (old mid new : State) (m n : ℕ) → ExecutesInside 0 rental_terms_text [] old mid (Ok m)
+    → ExecutesInside 0 chain_rule_text [] mid new (Ok n) → IsFirstShop old → Made old new
 made old mid new m n terms rule shop =
     let a = adds version_1_schema rental_terms_text old mid m terms_placeless shop makes_rental_terms terms.0 in
     let b = adds half_schema chain_rule_text mid new n rule_placeless (a.schema_is ∙ with_terms) makes_chain_rule rule.0 in
@@ -92,19 +105,24 @@ made old mid new m n terms rule shop =
       no_rule = subst (λ (tree : ℕ). new.now.trees tree ≡ []) rule_tree b.empty;
     }
 
-pub tables_made : (old mid new : State) (m n : ℕ) → ExecutesInside 0 rental_terms_text [] old mid (Ok m) → ExecutesInside 0 chain_rule_text [] mid new (Ok n) → IsFirstShop old → IsShop new
+pub tables_made : (old mid new : State) (m n : ℕ) → ExecutesInside 0 rental_terms_text [] old mid (Ok m)
+    → ExecutesInside 0 chain_rule_text [] mid new (Ok n) → IsFirstShop old → IsShop new
 tables_made old mid new m n terms rule shop = (made old mid new m n terms rule shop).shop
 
-pub tables_keyed : (old mid new : State) (m n : ℕ) → ExecutesInside 0 rental_terms_text [] old mid (Ok m) → ExecutesInside 0 chain_rule_text [] mid new (Ok n) → IsFirstShop old → IsFirstKeyed old → IsKeyed new
+pub tables_keyed : (old mid new : State) (m n : ℕ) → ExecutesInside 0 rental_terms_text [] old mid (Ok m)
+    → ExecutesInside 0 chain_rule_text [] mid new (Ok n) → IsFirstShop old → IsFirstKeyed old → IsKeyed new
 tables_keyed old mid new m n terms rule shop keyed =
     let it = made old mid new m n terms rule shop in
-    all-append (λ t. IsShaped TableShape (new.now.trees t.tree)) version_1_schema.tables later_tables (keyed_moved version_1_schema.tables old.now.trees new.now.trees it.others keyed)
+    all-append (λ t. IsShaped TableShape (new.now.trees t.tree)) version_1_schema.tables later_tables
+    (keyed_moved version_1_schema.tables old.now.trees new.now.trees it.others keyed)
     (none_shaped it.no_terms, (none_shaped it.no_rule, tt))
 
-pub tables_left : (old mid new : State) (m n : ℕ) → ExecutesInside 0 rental_terms_text [] old mid (Ok m) → ExecutesInside 0 chain_rule_text [] mid new (Ok n) → IsFirstShop old → AddsTables old.now.trees new.now.trees
+pub tables_left : (old mid new : State) (m n : ℕ) → ExecutesInside 0 rental_terms_text [] old mid (Ok m)
+    → ExecutesInside 0 chain_rule_text [] mid new (Ok n) → IsFirstShop old → AddsTables old.now.trees new.now.trees
 tables_left old mid new m n terms rule shop = let it = made old mid new m n terms rule shop in record { others = it.others; no_rule = it.no_rule }
 
-pub tables_added : (old mid new : State) (m n : ℕ) (books : Books) → ExecutesInside 0 rental_terms_text [] old mid (Ok m) → ExecutesInside 0 chain_rule_text [] mid new (Ok n)
+pub tables_added : (old mid new : State) (m n : ℕ) (books : Books)
+    → ExecutesInside 0 rental_terms_text [] old mid (Ok m) → ExecutesInside 0 chain_rule_text [] mid new (Ok n)
     → HoldsVersion1 old books → IsUnderWay first_version [] [] new books
 tables_added old mid new m n books terms rule holds =
     let it = made old mid new m n terms rule holds.schema_is in
@@ -117,13 +135,15 @@ tables_added old mid new m n books terms rule holds =
     record {
       schema_is = it.shop;
       keyed = tables_keyed old mid new m n terms rule holds.schema_is holds.keyed;
-      stands = named first_version (λ _. [] ∷ [] ∷ []) counts new.now.trees books (have_append first later_tables new.now.trees rows ([] ∷ [] ∷ []) refl had none);
+      stands =
+          named first_version (λ _. [] ∷ [] ∷ []) counts new.now.trees books (have_append first later_tables new.now.trees rows ([] ∷ [] ∷ []) refl had none);
     }
 
 -- ---- the terms
 
 abbrev pub fill_text : List ℕ
-fill_text = codes "INSERT INTO rental_terms (branch, rental, rate, period, replacement) SELECT r.branch, r.number, f.rate, f.period, f.replacement FROM rental AS r LEFT JOIN copy AS c ON c.branch = r.branch AND c.number = r.copy LEFT JOIN film AS f ON f.number = c.film"
+fill_text =
+    codes "INSERT INTO rental_terms (branch, rental, rate, period, replacement) SELECT r.branch, r.number, f.rate, f.period, f.replacement FROM rental AS r LEFT JOIN copy AS c ON c.branch = r.branch AND c.number = r.copy LEFT JOIN film AS f ON f.number = c.film"
 
 -- what is joined to a copy, and to a rental
 abbrev with_film : Join
@@ -150,7 +170,8 @@ fill_means = record { is = refl; plain = (refl, refl) }
 abbrev source : Row Terms → sql.Row
 source it = Null ∷ terms_columns it
 
-module _ (db : Trees) (books : Books) (s : StandsAs first_version (λ _. [] ∷ [] ∷ []) (counts_of books) db books) (held : HasNumbers books) (x : Row Rental) where
+module _ (db : Trees) (books : Books) (s : StandsAs first_version (λ _. [] ∷ [] ∷ []) (counts_of books) db books)
+    (held : HasNumbers books) (x : Row Rental) where
   abbrev films : List Film
   films = books.catalogue.films
 
@@ -188,10 +209,12 @@ module _ (db : Trees) (books : Books) (s : StandsAs first_version (λ _. [] ∷ 
   abbrev outputs : List Film → List Output
   outputs l = map (λ (it : Terms). ([], source (record { branch = x.branch; number = x.number; it = it }))) (map film_terms l)
 
-  rental_brings : length (film_of books.catalogue (shop_of x.branch books) x.it) ≡ 1 → after_rental its ≡ outputs (film_of books.catalogue (shop_of x.branch books) x.it)
+  rental_brings : length (film_of books.catalogue (shop_of x.branch books) x.it) ≡ 1
+      → after_rental its ≡ outputs (film_of books.catalogue (shop_of x.branch books) x.it)
   rental_brings one =
       let few = picks_row x.branch books.copies (held.rows CopyRows x.branch) x.it.copy in
-      left_pair 6 copy_columns (db 25) books.copies s.copies after_copy (λ r. refl) (λ it. it.branch) (λ it. it.number) (λ it. refl) (λ it. refl) (λ r. refl) (λ r. refl) x.branch x.it.copy few
+      left_pair 6 copy_columns (db 25) books.copies s.copies after_copy (λ r. refl) (λ it. it.branch)
+      (λ it. it.number) (λ it. refl) (λ it. refl) (λ r. refl) (λ r. refl) x.branch x.it.copy few
       ∙ by_copy copies_found (few_list copies_found few) films_found
     where
       Brings : List (Row BookCopy) → Type 0
@@ -213,11 +236,13 @@ module _ (db : Trees) (books : Books) (s : StandsAs first_version (λ _. [] ∷ 
       by_copy l (inr e) found =
           let copy = e.0 in
           subst Brings (sym e.1)
-          (by_film copy (at copy.it.film films) refl (at_one copy.it.film films) (found ∙ ap (flat_map (λ (it : Row BookCopy). at it.it.film films)) e.1 ∙ append-nil (at copy.it.film films)))
+          (by_film copy (at copy.it.film films) refl (at_one copy.it.film films)
+          (found ∙ ap (flat_map (λ (it : Row BookCopy). at it.it.film films)) e.1 ∙ append-nil (at copy.it.film films)))
 
 -- ---- the rows that the statement puts
 
-all_bring : (db : Trees) (books : Books) → StandsAs first_version (λ _. [] ∷ [] ∷ []) (counts_of books) db books → HasNumbers books → (rentals : List (Row Rental))
+all_bring : (db : Trees) (books : Books) → StandsAs first_version (λ _. [] ∷ [] ∷ []) (counts_of books) db books
+    → HasNumbers books → (rentals : List (Row Rental))
     → AllByRecursion (λ (row : Row Rental). length (film_of books.catalogue (shop_of row.branch books) row.it) ≡ 1) rentals
     → flat_map (λ (x : Row Rental). shown_of fill_query (overlay db []) with_copy ([] ∷ (Null ∷ rental_columns x) ∷ [])) rentals
     ≡ map (λ (it : Row Terms). ([], source it)) (flat_map (row_terms books) rentals)
@@ -240,8 +265,11 @@ all_kept : (all : List (Row Terms)) → AllByRecursion (Kept t.rental_terms_tabl
 all_kept [] = tt
 all_kept (it ∷ all) = (record { kept = refl; wide = λ id. refl }, all_kept all)
 
-terms_fill : (old new : State) (n : ℕ) → ExecutesInside 0 fill_text [] old new (Ok n) → IsShop old → Fills shop_schema t.rental_terms_table fill_program [] old new
-terms_fill old new n ran shop = fills shop_schema fill_text [] old new shop 21 t.rental_terms_table fill_program fill_means (record { place = refl; uncounted = refl; unstamped = refl }) n ran.0
+terms_fill : (old new : State) (n : ℕ) → ExecutesInside 0 fill_text [] old new (Ok n)
+    → IsShop old → Fills shop_schema t.rental_terms_table fill_program [] old new
+terms_fill old new n ran shop =
+    fills shop_schema fill_text [] old new shop 21 t.rental_terms_table fill_program fill_means
+    (record { place = refl; uncounted = refl; unstamped = refl }) n ran.0
 
 pub terms_stay : (old new : State) (n : ℕ) → ExecutesInside 0 fill_text [] old new (Ok n) → IsShop old → IsShop new
 terms_stay old new n ran shop = (terms_fill old new n ran shop).schema_is
@@ -252,33 +280,52 @@ terms_keyed old new n ran shop keyed = applies_keyed shop_schema Enforced old.no
 pub terms_left : (old new : State) (n : ℕ) → ExecutesInside 0 fill_text [] old new (Ok n) → IsShop old → SameBut shop_schema 57 old.now.trees new.now.trees
 terms_left old new n ran shop = (terms_fill old new n ran shop).applies.tables
 
-pub terms_put : (old new : State) (n : ℕ) → ExecutesInside 0 fill_text [] old new (Ok n) → (rules : Rules) (books : Books) → IsSoundWithoutTerms rules books → IsUnderWay first_version [] [] old books
+pub terms_put : (old new : State) (n : ℕ) → ExecutesInside 0 fill_text [] old new (Ok n)
+    → (rules : Rules) (books : Books) → IsSoundWithoutTerms rules books → IsUnderWay first_version [] [] old books
     → IsUnderWay first_version (term_rows (migrated books)) [] new books
 terms_put old new n ran rules books sound holds =
     let db = old.now.trees in
     let it = terms_fill old new n ran holds.schema_is in
     let b = it.answer.answer Null in
     let a : IsAnswer fill_query (overlay db []) [] it.rows =
-    record { staged = b.staged; grouped = b.grouped; kept = b.kept; distinct = b.distinct; ordered = b.ordered; same = b.same; sorted = b.sorted; shown = b.shown } in
+    record {
+      staged = b.staged;
+      grouped = b.grouped;
+      kept = b.kept;
+      distinct = b.distinct;
+      ordered = b.ordered;
+      same = b.same;
+      sorted = b.sorted;
+      shown = b.shown;
+    }
+    in
     let terms = flat_map (row_terms books) books.rentals in
     let brings : Row Rental → List Output = λ x. shown_of fill_query (overlay db []) with_copy ([] ∷ (Null ∷ rental_columns x) ∷ []) in
-    let bag = joined_bag 27 with_copy [] fill_shows [] [] db 7 rental_columns books.rentals holds.stands.rentals refl (λ r. refl) brings (λ x. IsPermutation-refl (brings x)) it.rows a in
+    let bag =
+    joined_bag 27 with_copy [] fill_shows [] [] db 7 rental_columns books.rentals holds.stands.rentals refl
+    (λ r. refl) brings (λ x. IsPermutation-refl (brings x)) it.rows a in
     let outs = all_bring db books holds.stands sound.numbers books.rentals (all_rows_have_one rules books sound) in
     let second : Output → sql.Row = λ o. o.1 in
     let rows : IsPermutation (map source terms) it.rows =
     subst (λ (l : List sql.Row). IsPermutation l it.rows) (ap (map second) outs ∙ map-map second (λ (t : Row Terms). ([], source t)) terms)
     (subst (IsPermutation (map second (flat_map brings books.rentals))) (sym a.shown) (IsPermutation-map second _ _ bag)) in
-    let typed = all_typed (λ r. r) source it.rows terms (subst (λ (l : List sql.Row). IsPermutation l (map source terms)) (sym (map-id it.rows)) (IsPermutation-sym _ _ rows)) in
+    let typed =
+    all_typed (λ r. r) source it.rows terms
+    (subst (λ (l : List sql.Row). IsPermutation l (map source terms)) (sym (map-id it.rows)) (IsPermutation-sym _ _ rows)) in
     let all = sources_of it.rows typed in
     let behind = map-map (λ (values : sql.Row). Null ∷ values) terms_columns all.0 in
-    let put = fills_values shop_schema t.rental_terms_table fill_program [] old new 5 (map terms_columns all.0) [] it (all.1 ∙ sym behind) (all_kept all.0) holds.stands.more.rows.0 in
+    let put =
+    fills_values shop_schema t.rental_terms_table fill_program [] old new 5
+    (map terms_columns all.0) [] it (all.1 ∙ sym behind) (all_kept all.0) holds.stands.more.rows.0 in
     let same : IsPermutation (map terms_columns terms) (map terms_columns all.0) =
     subst₂ IsPermutation (map-map (drop 1) source terms) (ap (map (drop 1)) all.1 ∙ map-map (drop 1) source all.0) (IsPermutation-map (drop 1) _ _ rows) in
     let has : HasRows 5 (new.now.trees 57) (term_rows (migrated books)) = IsPermutation-trans _ _ _ put (IsPermutation-sym _ _ same) in
     record {
       schema_is = it.schema_is;
       keyed = applies_keyed shop_schema Enforced db new.now.trees _ 21 refl it.applies holds.keyed;
-      stands = stands_as_but first_version first_version (λ _. [] ∷ [] ∷ []) (λ _. term_rows (migrated books) ∷ [] ∷ []) 21 t.rental_terms_table refl refl (counts_of books) books (term_rows (migrated books)) refl db new.now.trees it.applies.tables holds.stands has;
+      stands =
+          stands_as_but first_version first_version (λ _. [] ∷ [] ∷ []) (λ _. term_rows (migrated books) ∷ [] ∷ []) 21 t.rental_terms_table refl refl
+          (counts_of books) books (term_rows (migrated books)) refl db new.now.trees it.applies.tables holds.stands has;
     }
 
 -- ---- the rule
@@ -293,8 +340,11 @@ rule_means : Means shop_schema rule_text (Insert 22 (Values rule_terms 2))
 unfolding understood everything
 rule_means = record { is = refl; plain = (refl, refl) }
 
-rule_has_put : (old new : State) (n : ℕ) → ExecutesInside 0 rule_text [] old new (Ok n) → IsShop old → HasPut shop_schema t.chain_rule_table 1 (rule_columns ByCode) old new
-rule_has_put old new n ran shop = has_put shop_schema rule_text 22 t.chain_rule_table rule_terms 1 rule_means (record { place = refl; uncounted = refl; unstamped = refl }) [] (rule_columns ByCode) old new n ran refl refl refl (λ id. refl) shop
+rule_has_put : (old new : State) (n : ℕ) → ExecutesInside 0 rule_text [] old new (Ok n)
+    → IsShop old → HasPut shop_schema t.chain_rule_table 1 (rule_columns ByCode) old new
+rule_has_put old new n ran shop =
+    has_put shop_schema rule_text 22 t.chain_rule_table rule_terms 1 rule_means
+    (record { place = refl; uncounted = refl; unstamped = refl }) [] (rule_columns ByCode) old new n ran refl refl refl (λ id. refl) shop
 
 pub rule_stays : (old new : State) (n : ℕ) → ExecutesInside 0 rule_text [] old new (Ok n) → IsShop old → IsShop new
 rule_stays old new n ran shop = (rule_has_put old new n ran shop).schema_is
@@ -307,13 +357,16 @@ rule_left old new n ran shop =
     let done = rule_has_put old new n ran shop in
     record { others = done.others; rule = λ none. done.rows [] (none_in 1 (old.now.trees 59) none) }
 
-pub rule_put : (old new : State) (n : ℕ) → ExecutesInside 0 rule_text [] old new (Ok n) → (terms : List sql.Row) (books : Books) → IsUnderWay first_version terms [] old books → IsUnderWay first_version terms (rule_columns ByCode ∷ []) new books
+pub rule_put : (old new : State) (n : ℕ) → ExecutesInside 0 rule_text [] old new (Ok n) → (terms : List sql.Row) (books : Books)
+    → IsUnderWay first_version terms [] old books → IsUnderWay first_version terms (rule_columns ByCode ∷ []) new books
 rule_put old new n ran terms books holds =
     let done = rule_has_put old new n ran holds.schema_is in
     record {
       schema_is = done.schema_is;
       keyed = done.keyed holds.keyed;
-      stands = stands_as_but first_version first_version (λ _. terms ∷ [] ∷ []) (λ _. terms ∷ (rule_columns ByCode ∷ []) ∷ []) 22 t.chain_rule_table refl refl (counts_of books) books (rule_columns ByCode ∷ []) refl old.now.trees new.now.trees done.others holds.stands
+      stands =
+          stands_as_but first_version first_version (λ _. terms ∷ [] ∷ []) (λ _. terms ∷ (rule_columns ByCode ∷ []) ∷ []) 22 t.chain_rule_table refl refl
+          (counts_of books) books (rule_columns ByCode ∷ []) refl old.now.trees new.now.trees done.others holds.stands
           (done.rows [] holds.stands.more.rows.1.0);
     }
 
@@ -343,9 +396,11 @@ as_before (t ∷ ts) db = (λ apart. refl, as_before ts db)
 version_changes : (old new : State) (n : ℕ) → ExecutesInside 0 version_text [] old new (Ok n) → IsShop old
     → Changes shop_schema (Stood old.now.trees) old new (λ _. ⊤) (λ it. (this_version, it.1))
 version_changes old new n ran shop =
-    sets_row shop_schema (Stood old.now.trees) version_text 0 t.chain_table 2 [] version_shows [] told (λ vs. true) (λ it. true) (λ vs. number_value 2 ∷ column vs 1 ∷ []) (λ it. (2, it.1))
+    sets_row shop_schema (Stood old.now.trees) version_text 0 t.chain_table 2 [] version_shows
+    [] told (λ vs. true) (λ it. true) (λ vs. number_value 2 ∷ column vs 1 ∷ []) (λ it. (2, it.1))
     (λ it. refl) (λ it. refl) (λ it. refl) old new shop
-    version_means refl refl n ran (own_rows old.now.trees 0) (λ r. refl) (λ r. refl) (λ r. refl) (λ r. refl) (λ v vs. refl) (λ it. ⊤) (λ it. (this_version, it.1))
+    version_means refl refl n ran (own_rows old.now.trees 0) (λ r. refl) (λ r. refl)
+    (λ r. refl) (λ r. refl) (λ v vs. refl) (λ it. ⊤) (λ it. (this_version, it.1))
     (λ it same stood given sets. (same, sets (it ∷ []) stood.1 (omega arith)))
 
 pub version_stays : (old new : State) (n : ℕ) → ExecutesInside 0 version_text [] old new (Ok n) → IsShop old → IsShop new
@@ -354,20 +409,24 @@ version_stays old new n ran shop = (version_changes old new n ran shop).schema_i
 pub version_keyed : (old new : State) (n : ℕ) → ExecutesInside 0 version_text [] old new (Ok n) → IsShop old → IsKeyed old → IsKeyed new
 version_keyed old new n ran shop keyed = (version_changes old new n ran shop).keyed keyed
 
-pub version_left : (old new : State) (n : ℕ) → ExecutesInside 0 version_text [] old new (Ok n) → IsShop old → IsKeyed old → (token : Text) → Tells first_version token old.now.trees
+pub version_left : (old new : State) (n : ℕ) → ExecutesInside 0 version_text [] old new (Ok n)
+    → IsShop old → IsKeyed old → (token : Text) → Tells first_version token old.now.trees
     → SetsVersion old.now.trees new.now.trees token
 version_left old new n ran shop keyed token tells =
     let it = (version_changes old new n ran shop).books keyed (first_version, token) (as_before shop_schema.tables old.now.trees, tells) tt in
     record { others = it.0; told = it.1 }
 
-pub version_set : (old new : State) (n : ℕ) → ExecutesInside 0 version_text [] old new (Ok n) → (terms rule : List sql.Row) (books : Books) → IsUnderWay first_version terms rule old books
+pub version_set : (old new : State) (n : ℕ) → ExecutesInside 0 version_text [] old new (Ok n)
+    → (terms rule : List sql.Row) (books : Books) → IsUnderWay first_version terms rule old books
     → IsUnderWay this_version terms rule new books
 version_set old new n ran terms rule books holds =
     let it = version_left old new n ran holds.schema_is holds.keyed books.catalogue.office_token holds.stands.chain in
     record {
       schema_is = version_stays old new n ran holds.schema_is;
       keyed = version_keyed old new n ran holds.schema_is holds.keyed;
-      stands = stands_as_but first_version this_version (λ _. terms ∷ rule ∷ []) (λ _. terms ∷ rule ∷ []) 0 t.chain_table refl refl (counts_of books) books (versioned_columns this_version books.catalogue.office_token ∷ []) refl old.now.trees new.now.trees it.others holds.stands it.told;
+      stands =
+          stands_as_but first_version this_version (λ _. terms ∷ rule ∷ []) (λ _. terms ∷ rule ∷ []) 0 t.chain_table refl refl (counts_of books) books
+          (versioned_columns this_version books.catalogue.office_token ∷ []) refl old.now.trees new.now.trees it.others holds.stands it.told;
     }
 
 -- ---- all of it
@@ -376,28 +435,34 @@ version_set old new n ran terms rule books holds =
 abbrev keys : {A : Type 0} → List (Row A) → List (List ℕ)
 keys rows = map (λ row. row.branch ∷ row.number ∷ []) rows
 
-one_key : (b n : ℕ) (its : List Terms) → length its ≡ 1 → keys {A = Terms} (map (λ (it : Terms). record { branch = b; number = n; it = it }) its) ≡ (b ∷ n ∷ []) ∷ []
+one_key : (b n : ℕ) (its : List Terms) → length its ≡ 1
+    → keys {A = Terms} (map (λ (it : Terms). record { branch = b; number = n; it = it }) its) ≡ (b ∷ n ∷ []) ∷ []
 one_key b n [] one = cc
 one_key b n (it ∷ []) one = refl
 one_key b n (it ∷ other ∷ its) one = absurd (omega (arith, one))
 
-keys_migrated : (books : Books) (rows : List (Row Rental)) → AllByRecursion (λ (row : Row Rental). length (film_of books.catalogue (shop_of row.branch books) row.it) ≡ 1) rows
+keys_migrated : (books : Books) (rows : List (Row Rental))
+    → AllByRecursion (λ (row : Row Rental). length (film_of books.catalogue (shop_of row.branch books) row.it) ≡ 1) rows
     → keys (flat_map (row_terms books) rows) ≡ keys rows
 keys_migrated books [] one = refl
 keys_migrated books (row ∷ rows) one =
     let its = terms_now books.catalogue (shop_of row.branch books) row.it.copy in
     map-append (λ (it : Row Terms). it.branch ∷ it.number ∷ []) (row_terms books row) (flat_map (row_terms books) rows)
-    ∙ ap₂ (λ (us vs : List (List ℕ)). us ++ vs) (one_key row.branch row.number its (length_map film_terms (film_of books.catalogue (shop_of row.branch books) row.it) ∙ one.0)) (keys_migrated books rows one.1)
+    ∙ ap₂ (λ (us vs : List (List ℕ)). us ++ vs)
+    (one_key row.branch row.number its (length_map film_terms (film_of books.catalogue (shop_of row.branch books) row.it) ∙ one.0))
+    (keys_migrated books rows one.1)
 
 pub migrated_termed : (rules : Rules) (books : Books) → IsSoundWithoutTerms rules books → AreTermed (migrated books)
 migrated_termed rules books sound =
-    subst (λ (ks : List (List ℕ)). IsPermutation ks (keys books.rentals)) (sym (keys_migrated books books.rentals (all_rows_have_one rules books sound))) (IsPermutation-refl (keys books.rentals))
+    subst (λ (ks : List (List ℕ)). IsPermutation ks (keys books.rentals))
+    (sym (keys_migrated books books.rentals (all_rows_have_one rules books sound))) (IsPermutation-refl (keys books.rentals))
 
 pub all_migrated : (s : State) (rules : Rules) (books : Books) → IsSoundWithoutTerms rules books → books.catalogue.rule ≡ ByCode
     → IsUnderWay this_version (term_rows (migrated books)) (rule_columns ByCode ∷ []) s books → Holds s (migrated books)
 all_migrated s rules books sound code holds =
     let terms = term_rows (migrated books) in
-    let Rule : model.Rule → Type 0 = λ rule. HaveRows shop_schema.tables s.now.trees (rows_as this_version (terms ∷ (rule_columns rule ∷ []) ∷ []) (counts_of books) books) in
+    let Rule : model.Rule → Type 0 =
+    λ rule. HaveRows shop_schema.tables s.now.trees (rows_as this_version (terms ∷ (rule_columns rule ∷ []) ∷ []) (counts_of books) books) in
     record {
       schema_is = holds.schema_is;
       keyed = holds.keyed;

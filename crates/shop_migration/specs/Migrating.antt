@@ -47,4 +47,5 @@ Migrates old new = (rules : Rules) (books : Books) → IsSoundWithoutTerms rules
 -- If the first table of version 1 said its version, then whatever books the new tables stand for, the old tables stood for the same books without terms.
 abbrev pub StoodForSame : State → State → Type 0
 StoodForSame old new =
-    IsFirstShop old → IsFirstKeyed old → (token : Text) → Tells first_version token old.now.trees → (books : Books) → Holds new books → HoldsVersion1 old (without_terms books)
+    IsFirstShop old → IsFirstKeyed old → (token : Text) → Tells first_version token old.now.trees
+    → (books : Books) → Holds new books → HoldsVersion1 old (without_terms books)

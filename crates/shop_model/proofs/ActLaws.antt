@@ -1,7 +1,17 @@
 -- What the laws ask of each act, shown of each once: it is known when it comes again, a branch's machine and the books agree on it, and its edits are allowed.
-use Rattle.shop_model.proofs.Common.{◌≡◌, set_all, set_at, set_row, set_rows, set_row, ℕ, List, [], ◌∷◌, ◌++◌, filter, Bool, true, false, None, Some, refl, ap, ◌∙◌, ◌==◌, bytes_eq, bytes_eq-Decides, Owned, Moment, same_moment, Text, Person, Act, AddCustomer, SetActive, Rent, TakeBack, Pay, Import, Dispatch, Receive, Scrap, Command, Rules, Kept, same_option, same_flag, same_person, same_act, same_command, first, reply_text, Books, shop_of, book_done, ◌+◌, map, length, not, sym, subst, arith, length-append, ◌||◌, nat_lt, nat_le, option_to_list, list_any, list_all, and_parts, or_parts, nat_tests, of, at, lacks, is_empty, arrived, has_double, Copy, Rental, Payment, Arrival, Stock, Copies, BadLine, Shop, Catalogue, act_refusals, import_refusals, arrival, films_in, films_at, incoming, Line, Edit, edits_of, unmarked, imported, unpacked, come, has_row, is_staff_of, pays_for, is_parcel, IsLinkedShop, HasNumbers, CopyRows, inl, inr, ◌-◌, append_assoc, append-nil, cases_Bool, Row, put_all, Terms, Sent, Scrapped, terms_now, acted, done, here, with_state, Consignment, Customers, Rentals, as_arrival, as_parcel, book_acted, is_consignment, put_state, checked, new_consignment}
+use Rattle.shop_model.proofs.Common.{◌≡◌, set_all, set_at, set_row, set_rows, set_row, ℕ, List, [], ◌∷◌, ◌++◌, filter, Bool, true, false, None, Some, refl, ap}
+use Rattle.shop_model.proofs.Common.{◌∙◌, ◌==◌, bytes_eq, bytes_eq-Decides, Owned, Moment, same_moment, Text, Person, Act, AddCustomer, SetActive, Rent}
+use Rattle.shop_model.proofs.Common.{TakeBack, Pay, Import, Dispatch, Receive, Scrap, Command, Rules, Kept, same_option, same_flag, same_person, same_act}
+use Rattle.shop_model.proofs.Common.{same_command, first, reply_text, Books, shop_of, book_done, ◌+◌, map, length, not, sym, subst, arith, length-append, ◌||◌}
+use Rattle.shop_model.proofs.Common.{nat_lt, nat_le, option_to_list, list_any, list_all, and_parts, or_parts, nat_tests, of, at, lacks, is_empty, arrived}
+use Rattle.shop_model.proofs.Common.{has_double, Copy, Rental, Payment, Arrival, Stock, Copies, BadLine, Shop, Catalogue, act_refusals, import_refusals}
+use Rattle.shop_model.proofs.Common.{arrival, films_in, films_at, incoming, Line, Edit, edits_of, unmarked, imported, unpacked, come, has_row, is_staff_of}
+use Rattle.shop_model.proofs.Common.{pays_for, is_parcel, IsLinkedShop, HasNumbers, CopyRows, inl, inr, ◌-◌, append_assoc, append-nil, cases_Bool, Row, put_all}
+use Rattle.shop_model.proofs.Common.{Terms, Sent, Scrapped, terms_now, acted, done, here, with_state, Consignment, Customers, Rentals, as_arrival, as_parcel}
+use Rattle.shop_model.proofs.Common.{book_acted, is_consignment, put_state, checked, new_consignment}
 use Rattle.std.specs.Prelude.{Option, Some, None}
-use Rattle.shop_model.proofs.RowLemmas.{same_test, more_yes, length_map, same_if, more_no, set_numbered_among, set_same, map_map, put_own, put_all_own, set_own, set_rows_own, map_set_at, map_set_all}
+use Rattle.shop_model.proofs.RowLemmas.{same_test, more_yes, length_map, same_if, more_no, set_numbered_among, set_same, map_map, put_own, put_all_own, set_own}
+use Rattle.shop_model.proofs.RowLemmas.{set_rows_own, map_set_at, map_set_all}
 use Rattle.shop_model.proofs.Accepted.{NoneHold}
 use Rattle.std.proofs.lemmas.List.Folds.{list_all-map}
 use Rattle.shop_model.proofs.ShopLemmas.{checked_arrival, checked_parcel, films_sent, incoming_come, checked_films, last_own}
@@ -57,13 +67,16 @@ put_terms_own b (it ∷ more) rows =
 pub acted_own : (rules : Rules) (b : ℕ) (command : Command) (act : Act) (books : Books) → HasNumbers books
     → ((xs : List ℕ) → act ≡ Dispatch b xs → ⊥)
     → shop_of b (book_acted rules b command act books) ≡ acted rules books.catalogue command act (shop_of b books)
-acted_own rules b command (AddCustomer it) books has away = λ i. record (shop_of b books) { customers = put_own b (λ _. new_customer command.moment it) books.customers i }
-acted_own rules b command (SetActive c active) books has away = λ i. record (shop_of b books) { customers = set_own b c (λ it. record it { active = active }) books.customers (has.rows Customers b) i }
+acted_own rules b command (AddCustomer it) books has away =
+    λ i. record (shop_of b books) { customers = put_own b (λ _. new_customer command.moment it) books.customers i }
+acted_own rules b command (SetActive c active) books has away =
+    λ i. record (shop_of b books) { customers = set_own b c (λ it. record it { active = active }) books.customers (has.rows Customers b) i }
 acted_own rules b command (Rent c x) books has away =
     let put = put_own b (λ _. record { rented = command.moment; copy = x; customer = c; returned = None; staff = command.staff }) books.rentals in
     let terms = put_terms_own b (terms_now books.catalogue (shop_of b books) x) books.terms in
     λ i. record (shop_of b books) { rentals = put i; terms = terms i }
-acted_own rules b command (TakeBack r) books has away = λ i. record (shop_of b books) { rentals = set_own b r (λ it. record it { returned = Some command.moment }) books.rentals (has.rows Rentals b) i }
+acted_own rules b command (TakeBack r) books has away =
+    λ i. record (shop_of b books) { rentals = set_own b r (λ it. record it { returned = Some command.moment }) books.rentals (has.rows Rentals b) i }
 acted_own rules b command (Pay c rental amount) books has away =
     let put = put_own b (λ _. record { customer = c; staff = command.staff; rental = rental; amount = amount; paid = command.moment }) books.payments in
     λ i. record (shop_of b books) { payments = put i }
@@ -75,10 +88,12 @@ acted_own rules b command (Dispatch to xs) books has away = elim (cases_Bool (to
   | inl is ↦ absurd (away xs (rw (same_if to b is)))
   | inr isnt ↦
       let copies : map unmarked (of b (set_rows b xs (put_state Sent) books.copies)) ≡ set_all xs (with_state Sent) (shop_of b books).copies =
-      rw (set_rows_own b xs (put_state Sent) books.copies (has.rows CopyRows b)) (map_set_all unmarked (put_state Sent) (with_state Sent) xs (of b books.copies) (λ x. refl)) in
+      rw (set_rows_own b xs (put_state Sent) books.copies (has.rows CopyRows b))
+      (map_set_all unmarked (put_state Sent) (with_state Sent) xs (of b books.copies) (λ x. refl)) in
       let arrivals = more_no as_arrival (λ (it : Consignment). it.addressee == b) books.consignments (new_consignment b to xs books) isnt in
       let sent = more_yes as_parcel (λ (it : Consignment). it.source == b) books.consignments (new_consignment b to xs books) (same_test b)
-      ∙ ap (λ fs. map as_parcel (filter (λ it. it.source == b) books.consignments) ++ record { addressee = to; films = fs } ∷ []) (films_sent b xs books.copies (has.rows CopyRows b)) in
+      ∙ ap (λ fs. map as_parcel (filter (λ it. it.source == b) books.consignments) ++ record { addressee = to; films = fs } ∷ [])
+      (films_sent b xs books.copies (has.rows CopyRows b)) in
       λ i. record (shop_of b books) { copies = copies i; arrivals = arrivals i; sent = sent i }
 ]
 acted_own rules b command (Receive source number missing) books has away =
@@ -87,27 +102,39 @@ acted_own rules b command (Receive source number missing) books has away =
     let back : number + 1 - 1 ≡ number = omega arith in
     let films = incoming_come b source number missing books counted in
     let copies = put_all_own unmarked unpacked (λ line. here line.film) b (come source b number missing books.consignments) books.copies (λ c n. refl)
-    ∙ ap (λ cs. map unmarked (of b books.copies) ++ cs) (sym (map_map here (λ (line : Line). line.film) (come source b number missing books.consignments)) ∙ ap (map here) films) in
+    ∙ ap (λ cs. map unmarked (of b books.copies) ++ cs)
+    (sym (map_map here (λ (line : Line). line.film) (come source b number missing books.consignments)) ∙ ap (map here) films) in
     let arrivals : (shop_of b (book_acted rules b command (Receive source number missing) books)).arrivals ≡ now.arrivals =
-    set_numbered_among (λ (it : Consignment). it.addressee == b) (λ it. it.source == source) (is_consignment source b number) (λ it. it.source == source) (λ it. it.number) (checked missing) as_arrival (λ it. record it { received = true }) number 1 books.consignments
+    set_numbered_among (λ (it : Consignment). it.addressee == b) (λ it. it.source == source) (is_consignment source b number)
+    (λ it. it.source == source) (λ it. it.number) (checked missing) as_arrival (λ it. record it { received = true }) number 1 books.consignments
     (λ x. refl) (λ x. refl) (λ x. refl) (checked_arrival missing) counted ∙ rw back in
-    let sent = set_same (λ (it : Consignment). it.source == b) (is_consignment source b number) (checked missing) as_parcel books.consignments (λ x. refl) (checked_parcel missing) in
+    let sent =
+    set_same (λ (it : Consignment). it.source == b) (is_consignment source b number)
+    (checked missing) as_parcel books.consignments (λ x. refl) (checked_parcel missing) in
     λ i. record (shop_of b books) { copies = copies i; arrivals = arrivals i; sent = sent i }
 acted_own rules b command (Scrap x) books has away =
     let copies : map unmarked (of b (set_row b x (put_state Scrapped) books.copies)) ≡ set_at x (with_state Scrapped) (shop_of b books).copies =
-    rw (set_own b x (put_state Scrapped) books.copies (has.rows CopyRows b)) (map_set_at unmarked (put_state Scrapped) (with_state Scrapped) x (of b books.copies) (λ x. refl)) in
+    rw (set_own b x (put_state Scrapped) books.copies (has.rows CopyRows b))
+    (map_set_at unmarked (put_state Scrapped) (with_state Scrapped) x (of b books.copies) (λ x. refl)) in
     λ i. record (shop_of b books) { copies = copies i }
 
 kept_own : (rules : Rules) (b : ℕ) (command : Command) (books : Books) → (t : Shop) → shop_of b (book_acted rules b command command.act books) ≡ t
-    → shop_of b (book_done rules b command books) ≡ record t { kept = (shop_of b books).kept ++ record { command = command; reply = reply_text rules command (shop_of b books) } ∷ []; last = Some command.moment }
+    → shop_of b (book_done rules b command books)
+    ≡ record t {
+      kept = (shop_of b books).kept ++ record { command = command; reply = reply_text rules command (shop_of b books) } ∷ [];
+      last = Some command.moment;
+    }
 kept_own rules b command books t e =
-    let kept = more_yes (λ (row : Owned Kept). row.it) (λ row. row.owner == b) books.kept (record { owner = b; it = record { command = command; reply = reply_text rules command (shop_of b books) } }) (same_test b) in
+    let kept =
+    more_yes (λ (row : Owned Kept). row.it) (λ row. row.owner == b) books.kept
+    (record { owner = b; it = record { command = command; reply = reply_text rules command (shop_of b books) } }) (same_test b) in
     let last = last_own b command.moment books.lasts in
     λ i. record (e i) { kept = kept i; last = last i }
 
 pub done_own : (rules : Rules) (b : ℕ) (command : Command) (books : Books) → HasNumbers books → ((xs : List ℕ) → command.act ≡ Dispatch b xs → ⊥)
     → shop_of b (book_done rules b command books) ≡ done rules books.catalogue command (shop_of b books)
-done_own rules b command books has away = kept_own rules b command books (acted rules books.catalogue command command.act (shop_of b books)) (acted_own rules b command command.act books has away)
+done_own rules b command books has away =
+    kept_own rules b command books (acted rules books.catalogue command command.act (shop_of b books)) (acted_own rules b command command.act books has away)
 
 -- ---- what its edits are asked
 
@@ -119,9 +146,11 @@ pub record IsAllowed (b : ℕ) (moment : Moment) (books : Books) (edit : Edit) :
 -- ---- payments and rentals
 
 pays_new : (rentals : List Rental) (payment : Payment) → list_any (lacks rentals) (option_to_list payment.rental) ≡ false
-    → list_any (λ r. list_any (λ (it : Rental). not (it.customer == payment.customer)) (at r rentals)) (option_to_list payment.rental) ≡ false → pays_for rentals payment ≡ true
+    → list_any (λ r. list_any (λ (it : Rental). not (it.customer == payment.customer)) (at r rentals)) (option_to_list payment.rental) ≡ false
+    → pays_for rentals payment ≡ true
 pays_new rentals payment there same = by_list (option_to_list payment.rental) there same where
-  by_list : (rs : List ℕ) → list_any (lacks rentals) rs ≡ false → list_any (λ r. list_any (λ (it : Rental). not (it.customer == payment.customer)) (at r rentals)) rs ≡ false
+  by_list : (rs : List ℕ) → list_any (lacks rentals) rs ≡ false
+      → list_any (λ r. list_any (λ (it : Rental). not (it.customer == payment.customer)) (at r rentals)) rs ≡ false
       → list_all (λ r. list_any (λ (it : Rental). it.customer == payment.customer) (at r rentals)) rs ≡ true
   by_list [] e f = refl
   by_list (r ∷ rs) e f =
@@ -131,18 +160,22 @@ pays_new rentals payment there same = by_list (option_to_list payment.rental) th
 
 -- ---- films that come and go
 
-stock_films : (catalogue : Catalogue) (shop : Shop) (lot : Text) (stock : Stock) → NoneHold (import_refusals catalogue shop lot stock) → list_all (has_row catalogue.films) (films_in stock) ≡ true
+stock_films : (catalogue : Catalogue) (shop : Shop) (lot : Text) (stock : Stock)
+    → NoneHold (import_refusals catalogue shop lot stock) → list_all (has_row catalogue.films) (films_in stock) ≡ true
 stock_films catalogue shop lot (Copies films) none = none_lacks catalogue.films films none.1.0
 stock_films catalogue shop lot (BadLine line) none = refl
 
-lot_new : (catalogue : Catalogue) (shop : Shop) (lot : Text) (stock : Stock) → NoneHold (import_refusals catalogue shop lot stock) → list_any (bytes_eq lot) shop.lots ≡ false
+lot_new : (catalogue : Catalogue) (shop : Shop) (lot : Text) (stock : Stock)
+    → NoneHold (import_refusals catalogue shop lot stock) → list_any (bytes_eq lot) shop.lots ≡ false
 lot_new catalogue shop lot (Copies films) none = none.1.1.0
 lot_new catalogue shop lot (BadLine line) none = none.0
 
-incoming_films : (catalogue : Catalogue) (missing : List ℕ) (arrivals : List Arrival) → list_all (λ (it : Arrival). list_all (has_row catalogue.films) it.films) arrivals ≡ true
+incoming_films : (catalogue : Catalogue) (missing : List ℕ) (arrivals : List Arrival)
+    → list_all (λ (it : Arrival). list_all (has_row catalogue.films) it.films) arrivals ≡ true
     → list_all (has_row catalogue.films) (incoming missing arrivals) ≡ true
 incoming_films catalogue missing arrivals all =
-    all_joined (has_row catalogue.films) (λ (it : Arrival). list_all (has_row catalogue.films) it.films) (λ (it : Arrival). arrived missing it.films) arrivals (λ (it : Arrival) h. all_arrived (has_row catalogue.films) missing 1 it.films h) all
+    all_joined (has_row catalogue.films) (λ (it : Arrival). list_all (has_row catalogue.films) it.films)
+    (λ (it : Arrival). arrived missing it.films) arrivals (λ (it : Arrival) h. all_arrived (has_row catalogue.films) missing 1 it.films h) all
 
 outgoing_length : (xs : List ℕ) (copies : List Copy) → list_any (lacks copies) xs ≡ false → length (films_at xs copies) ≡ length xs
 outgoing_length [] copies there = refl
@@ -153,7 +186,8 @@ outgoing_length (x ∷ xs) copies there =
     let l = length-append (map (λ (it : Copy). it.film) (at x copies)) (films_at xs copies) in
     omega (arith, one, more, l)
 
-parcel_fits : (to : ℕ) (xs : List ℕ) (copies : List Copy) → list_any (lacks copies) xs ≡ false → (is_empty xs || nat_lt 100 (length xs) || has_double xs) ≡ false
+parcel_fits : (to : ℕ) (xs : List ℕ) (copies : List Copy) → list_any (lacks copies) xs ≡ false
+    → (is_empty xs || nat_lt 100 (length xs) || has_double xs) ≡ false
     → is_parcel (record { addressee = to; films = films_at xs copies }) ≡ true
 parcel_fits to xs copies there fits =
     let n = outgoing_length xs copies there in
@@ -168,29 +202,39 @@ parcel_fits to xs copies there fits =
 
 -- ---- new rows
 
-all_new : {A B : Type 0} (p : A → Bool) (q : B → Bool) (make : B → ℕ → A) (cs : List B) → ((c : B) (n : ℕ) → p (make c n) ≡ q c) → list_all q cs ≡ true → (n : ℕ) → list_all p (new_its n (map make cs)) ≡ true
+all_new : {A B : Type 0} (p : A → Bool) (q : B → Bool) (make : B → ℕ → A) (cs : List B)
+    → ((c : B) (n : ℕ) → p (make c n) ≡ q c) → list_all q cs ≡ true → (n : ℕ) → list_all p (new_its n (map make cs)) ≡ true
 all_new p q make [] shows all n = refl
 all_new p q make (c ∷ cs) shows all n = let h = and_parts (q c) (list_all q cs) all in rw (shows c n, h.0) (all_new p q make cs shows h.1 (n + 1))
 
-pub edits_allowed : (rules : Rules) (b : ℕ) (command : Command) (act : Act) (books : Books) → HasNumbers books → IsLinkedShop b books.catalogue (shop_of b books) → is_staff_of b books.catalogue.staff command.staff ≡ true
-    → NoneHold (act_refusals rules b books.catalogue (shop_of b books) command.moment act) → AskedOfEach b (IsAllowed b command.moment) (edits_of rules b command act books) books
-edits_allowed rules b command (AddCustomer it) books has linked works none = (record { good = λ n. (refl, tt); linked = λ n. rw (is_there books.catalogue.cities it.person.city none.0) }, tt)
+pub edits_allowed : (rules : Rules) (b : ℕ) (command : Command) (act : Act) (books : Books) → HasNumbers books
+    → IsLinkedShop b books.catalogue (shop_of b books) → is_staff_of b books.catalogue.staff command.staff ≡ true
+    → NoneHold (act_refusals rules b books.catalogue (shop_of b books) command.moment act)
+    → AskedOfEach b (IsAllowed b command.moment) (edits_of rules b command act books) books
+edits_allowed rules b command (AddCustomer it) books has linked works none =
+    (record { good = λ n. (refl, tt); linked = λ n. rw (is_there books.catalogue.cities it.person.city none.0) }, tt)
 edits_allowed rules b command (SetActive c active) books has linked works none = (record { good = λ it. refl; linked = λ it there. there }, tt)
 edits_allowed rules b command (Rent c x) books has linked works none = (
   record {
     good = λ n. ((refl, refl, none.1.1.1.1.1.1.0), tt);
-    linked = λ n. (rw (sym (has_mapped unmarked x (of b books.copies)) ∙ is_there (shop_of b books).copies x none.1.1.0), rw (is_there (of b books.customers) c none.0), rw works);
+    linked = λ n. (
+      rw (sym (has_mapped unmarked x (of b books.copies)) ∙ is_there (shop_of b books).copies x none.1.1.0),
+      rw (is_there (of b books.customers) c none.0),
+      rw works,
+    );
   },
   (record { good = tt; linked = λ n. tt }, tt),
 )
-edits_allowed rules b command (TakeBack r) books has linked works none = (record { good = (λ it. (refl, refl, refl), λ it. refl); linked = λ it. (refl, refl, refl) }, tt)
+edits_allowed rules b command (TakeBack r) books has linked works none =
+    (record { good = (λ it. (refl, refl, refl), λ it. refl); linked = λ it. (refl, refl, refl) }, tt)
 edits_allowed rules b command (Pay c rental amount) books has linked works none = (
   record {
     good = λ n. (refl, tt);
     linked = λ n. (
       rw (is_there (of b books.customers) c none.0),
       rw works,
-      rw (pays_new (of b books.rentals) (record { customer = c; staff = command.staff; rental = rental; amount = amount; paid = command.moment }) none.1.0 none.1.1.0),
+      rw (pays_new (of b books.rentals)
+          (record { customer = c; staff = command.staff; rental = rental; amount = amount; paid = command.moment }) none.1.0 none.1.1.0),
     );
   },
   tt,
@@ -209,18 +253,26 @@ edits_allowed rules b command (Dispatch to xs) books has linked works none =
           good = tt;
           linked = (
             rw sent (outgoing_films books.catalogue xs (shop_of b books).copies linked.copy_films),
-            subst (λ (fs : List ℕ). is_parcel (record { addressee = to; films = fs }) ≡ true) (sym sent) (parcel_fits to xs (shop_of b books).copies none.0 none.1.1.1.1.1.0),
+            subst (λ (fs : List ℕ). is_parcel (record { addressee = to; films = fs }) ≡ true)
+                (sym sent) (parcel_fits to xs (shop_of b books).copies none.0 none.1.1.1.1.1.0),
           );
         },
         tt,
       ),
     )
 edits_allowed rules b command (Receive source number missing) books has linked works none =
-    let films = rw (sym (incoming_come b source number missing books (has.consignments source b))) at (incoming_films books.catalogue missing (arrival source number (shop_of b books))
-    (all_at (λ (it : Arrival). list_all (has_row books.catalogue.films) it.films) number _ (all_filter (λ (it : Arrival). list_all (has_row books.catalogue.films) it.films) (λ (it : Arrival). it.source == source) (shop_of b books).arrivals linked.arrival_films))) in (
+    let films =
+    rw (sym (incoming_come b source number missing books (has.consignments source b))) at
+    (incoming_films books.catalogue missing (arrival source number (shop_of b books))
+    (all_at (λ (it : Arrival). list_all (has_row books.catalogue.films) it.films) number _
+    (all_filter (λ (it : Arrival). list_all (has_row books.catalogue.films) it.films)
+    (λ (it : Arrival). it.source == source) (shop_of b books).arrivals linked.arrival_films)))
+    in (
       record {
         good = tt;
-        linked = all_new _ (λ (line : Line). has_row books.catalogue.films line.film) unpacked (come source b number missing books.consignments) (λ c n. refl) (sym (list_all-map (has_row books.catalogue.films) (λ (line : Line). line.film) (come source b number missing books.consignments)) ∙ films);
+        linked =
+            all_new _ (λ (line : Line). has_row books.catalogue.films line.film) unpacked (come source b number missing books.consignments) (λ c n. refl)
+            (sym (list_all-map (has_row books.catalogue.films) (λ (line : Line). line.film) (come source b number missing books.consignments)) ∙ films);
       },
       (record { good = tt; linked = λ it. (refl, refl, checked_films missing 1 it.lines) }, tt),
     )

@@ -1,6 +1,10 @@
 -- Plain requests may come in any order that keeps what may not change places.
-use Rattle.shop_model.proofs.Common.{◌≡◌, inl, inr, ℕ, zero, List, [], ◌∷◌, ◌++◌, filter, map, Bool, true, false, not, refl, sym, ap, subst, ◌∙◌, ◌==◌, ◌&&◌, list_all, AllByRecursion, cases_Bool, and_parts, not-true, false≢true, Rules, OfficeAsk, Request, Do, Office, Reply, Books, Event, Caller, Counter, HeadOffice, is_counter, after_for, after, caller_in, reply_in, run, last_books, HasNumbers, is_nobody}
-use Rattle.shop_model.specs.Interleaved.{AreAlike, is_plain, are_known, are_apart, swapped, are_plain, IsOrderOf, is_office, AnyOrderTellsAlike, LostIsBroughtBackAlike}
+use Rattle.shop_model.proofs.Common.{◌≡◌, inl, inr, ℕ, zero, List, [], ◌∷◌, ◌++◌, filter, map, Bool, true, false, not, refl, sym, ap, subst, ◌∙◌, ◌==◌, ◌&&◌}
+use Rattle.shop_model.proofs.Common.{list_all, AllByRecursion, cases_Bool, and_parts, not-true, false≢true, Rules, OfficeAsk, Request, Do, Office, Reply, Books}
+use Rattle.shop_model.proofs.Common.{Event, Caller, Counter, HeadOffice, is_counter, after_for, after, caller_in, reply_in, run, last_books, HasNumbers}
+use Rattle.shop_model.proofs.Common.{is_nobody}
+use Rattle.shop_model.specs.Interleaved.{AreAlike, is_plain, are_known, are_apart, swapped, are_plain, IsOrderOf, is_office, AnyOrderTellsAlike}
+use Rattle.shop_model.specs.Interleaved.{LostIsBroughtBackAlike}
 use Rattle.shop_model.specs.Reentered.{accepted_ones}
 use Rattle.shop_model.proofs.Reentered.{again, brought_back, accepted-append}
 use Rattle.shop_model.specs.Resends.{is_command}
@@ -41,7 +45,8 @@ one_office (Counter c) (Do k) HeadOffice (Office office) e = refl
 one_office HeadOffice (Office office) (Counter c) (Do k) e = refl
 one_office p r q s e = absurd (false≢true e)
 
-tell_swapped : (t : Caller → Bool) (x y : Caller × Reply) (rest : List (Caller × Reply)) → (t x.0 && t y.0) ≡ false → tell t (y ∷ x ∷ rest) ≡ tell t (x ∷ y ∷ rest)
+tell_swapped : (t : Caller → Bool) (x y : Caller × Reply) (rest : List (Caller × Reply))
+    → (t x.0 && t y.0) ≡ false → tell t (y ∷ x ∷ rest) ≡ tell t (x ∷ y ∷ rest)
 tell_swapped t x y rest single = elim (cases_Bool (t x.0)) [
   | inl is ↦ let other : t y.0 ≡ false = rw is at single in rw (is, other) refl
   | inr isnt ↦ rw isnt refl
@@ -54,10 +59,12 @@ record AreSame (rules : Rules) (look : OfficeAsk → Books → Reply) (one other
   leaves : AreAlike (last_books rules one books) (last_books rules other books)
   plain : are_plain rules one books ≡ true
 
-same_itself : (rules : Rules) (look : OfficeAsk → Books → Reply) (events : List Event) (books : Books) → are_plain rules events books ≡ true → AreSame rules look events events books
+same_itself : (rules : Rules) (look : OfficeAsk → Books → Reply) (events : List Event) (books : Books)
+    → are_plain rules events books ≡ true → AreSame rules look events events books
 same_itself rules look events books all = record { tells = λ t single. refl; leaves = itself (last_books rules events books); plain = all }
 
-same_through : (rules : Rules) (look : OfficeAsk → Books → Reply) (one other third : List Event) (books : Books) → AreSame rules look one other books → AreSame rules look other third books → AreSame rules look one third books
+same_through : (rules : Rules) (look : OfficeAsk → Books → Reply) (one other third : List Event) (books : Books)
+    → AreSame rules look one other books → AreSame rules look other third books → AreSame rules look one third books
 same_through rules look one other third books same more = record {
   tells = λ t single. same.tells t single ∙ more.tells t single;
   leaves = through (last_books rules one books) (last_books rules other books) (last_books rules third books) same.leaves more.leaves;
@@ -65,7 +72,8 @@ same_through rules look one other third books same more = record {
 }
 
 -- after the same event
-same_after : (rules : Rules) (look : OfficeAsk → Books → Reply) (e : Event) (one other : List Event) (books : Books) → is_plain (caller_in e books) (e.request (caller_in e books)) ≡ true
+same_after : (rules : Rules) (look : OfficeAsk → Books → Reply) (e : Event) (one other : List Event) (books : Books)
+    → is_plain (caller_in e books) (e.request (caller_in e books)) ≡ true
     → AreSame rules look one other (after rules e books) → AreSame rules look (e ∷ one) (e ∷ other) books
 same_after rules look e one other books is same = record {
   tells = λ t single. elim (cases_Bool (t (caller_in e books))) [
@@ -77,8 +85,10 @@ same_after rules look e one other books is same = record {
 }
 
 -- two events that are apart change places
-same_swapped : (rules : Rules) (look : OfficeAsk → Books → Reply) (e f : Event) (events : List Event) (books : Books) (p q : Caller) → caller_in f books ≡ p → caller_in e books ≡ q
-    → HasNumbers books → are_apart p (f.request p) q (e.request q) ≡ true → are_plain rules (f ∷ e ∷ events) books ≡ true → AreSame rules look (e ∷ f ∷ events) (f ∷ e ∷ events) books
+same_swapped : (rules : Rules) (look : OfficeAsk → Books → Reply) (e f : Event) (events : List Event) (books : Books) (p q : Caller)
+    → caller_in f books ≡ p → caller_in e books ≡ q
+    → HasNumbers books → are_apart p (f.request p) q (e.request q) ≡ true
+    → are_plain rules (f ∷ e ∷ events) books ≡ true → AreSame rules look (e ∷ f ∷ events) (f ∷ e ∷ events) books
 same_swapped rules look e f events books p q who other has apart all =
     let commutes = apart_commute rules look p (f.request p) q (e.request q) books has apart in
     let swap = swap_two rules look f e events books p q who other commutes all in
@@ -99,16 +109,19 @@ same_swapped rules look e f events books p q who other has apart all =
 abbrev AreFound : (Event → Caller) → List Event → Books → Type 0
 AreFound who events books = AllByRecursion (λ (e : Event). (caller_in e books ≡ who e) × (is_nobody (who e) ≡ false)) events
 
-found_after : (rules : Rules) (who : Event → Caller) (events : List Event) (caller : Caller) (request : Request) (books : Books) → AreFound who events books → AreFound who events (after_for rules caller request books)
+found_after : (rules : Rules) (who : Event → Caller) (events : List Event) (caller : Caller) (request : Request) (books : Books)
+    → AreFound who events books → AreFound who events (after_for rules caller request books)
 found_after rules who [] caller request books found = tt
 found_after rules who (e ∷ events) caller request books found =
     ((caller_after rules caller request e.token (who e) books found.0.1 found.0.0, found.0.1), found_after rules who events caller request books found.1)
 
-found_first : (who : Event → Caller) (front : List Event) (e : Event) (back : List Event) (books : Books) → AreFound who (front ++ e ∷ back) books → (caller_in e books ≡ who e) × (is_nobody (who e) ≡ false)
+found_first : (who : Event → Caller) (front : List Event) (e : Event) (back : List Event) (books : Books)
+    → AreFound who (front ++ e ∷ back) books → (caller_in e books ≡ who e) × (is_nobody (who e) ≡ false)
 found_first who [] e back books found = found.0
 found_first who (f ∷ front) e back books found = found_first who front e back books found.1
 
-found_rest : (who : Event → Caller) (front : List Event) (e : Event) (back : List Event) (books : Books) → AreFound who (front ++ e ∷ back) books → AreFound who (front ++ back) books
+found_rest : (who : Event → Caller) (front : List Event) (e : Event) (back : List Event) (books : Books)
+    → AreFound who (front ++ e ∷ back) books → AreFound who (front ++ back) books
 found_rest who [] e back books found = found.1
 found_rest who (f ∷ front) e back books found = (found.0, found_rest who front e back books found.1)
 
@@ -117,7 +130,8 @@ found_rest who (f ∷ front) e back books found = (found.0, found_rest who front
 abbrev apart_by : (Event → Caller) → Event → Event → Bool
 apart_by who e f = are_apart (who e) (e.request (who e)) (who f) (f.request (who f))
 
-moved : (rules : Rules) (look : OfficeAsk → Books → Reply) (who : Event → Caller) (front : List Event) (e : Event) (back : List Event) (books : Books) → HasNumbers books
+moved : (rules : Rules) (look : OfficeAsk → Books → Reply) (who : Event → Caller) (front : List Event) (e : Event) (back : List Event) (books : Books)
+    → HasNumbers books
     → are_plain rules (front ++ e ∷ back) books ≡ true → AreFound who (front ++ e ∷ back) books → list_all (λ (f : Event). apart_by who f e) front ≡ true
     → AreSame rules look (e ∷ front ++ back) (front ++ e ∷ back) books
 moved rules look who [] e back books has all found apart = same_itself rules look (e ∷ back) books all
@@ -137,11 +151,14 @@ moved rules look who (f ∷ front) e back books has all found apart =
 abbrev IsOrderBy : (Event → Caller) → List Event → List Event → Type 0
 IsOrderBy who [] events = events ≡ []
 IsOrderBy who (e ∷ order) events =
-    (front : List Event) × (back : List Event) × (events ≡ front ++ e ∷ back) × (list_all (λ (f : Event). apart_by who f e) front ≡ true) × IsOrderBy who order (front ++ back)
+    (front : List Event) × (back : List Event) × (events ≡ front ++ e ∷ back)
+    × (list_all (λ (f : Event). apart_by who f e) front ≡ true) × IsOrderBy who order (front ++ back)
 
-ordered : (rules : Rules) (look : OfficeAsk → Books → Reply) (who : Event → Caller) (order events : List Event) (books : Books) → HasNumbers books → are_plain rules events books ≡ true
+ordered : (rules : Rules) (look : OfficeAsk → Books → Reply) (who : Event → Caller) (order events : List Event) (books : Books)
+    → HasNumbers books → are_plain rules events books ≡ true
     → AreFound who events books → IsOrderBy who order events → AreSame rules look order events books
-ordered rules look who [] events books has all found is = subst (λ (it : List Event). AreSame rules look [] it books) (sym is) (same_itself rules look [] books refl)
+ordered rules look who [] events books has all found is =
+    subst (λ (it : List Event). AreSame rules look [] it books) (sym is) (same_itself rules look [] books refl)
 ordered rules look who (e ∷ order) events books has all found is =
     let front = is.0 in
     let back = is.1 in
@@ -173,7 +190,8 @@ any_order rules look order events books has all known is =
 
 -- ---- a disk is lost
 
-plain_append : (rules : Rules) (xs ys : List Event) (books : Books) → are_plain rules xs books ≡ true → are_plain rules ys (last_books rules xs books) ≡ true → are_plain rules (xs ++ ys) books ≡ true
+plain_append : (rules : Rules) (xs ys : List Event) (books : Books) → are_plain rules xs books ≡ true
+    → are_plain rules ys (last_books rules xs books) ≡ true → are_plain rules (xs ++ ys) books ≡ true
 plain_append rules [] ys books first second = second
 plain_append rules (x ∷ xs) ys books first second =
     let h = and_parts (is_plain (caller_in x books) (x.request (caller_in x books))) (are_plain rules xs (after rules x books)) first in
@@ -181,7 +199,8 @@ plain_append rules (x ∷ xs) ys books first second =
 
 -- commands that change nothing where they come again
 plain_again : (rules : Rules) (copy : Books) (events : List Event)
-    → AllByRecursion (λ (e : Event). (is_command (caller_in e copy) (e.request (caller_in e copy)) ≡ true) × (after rules e copy ≡ copy)) events → are_plain rules events copy ≡ true
+    → AllByRecursion (λ (e : Event). (is_command (caller_in e copy) (e.request (caller_in e copy)) ≡ true) × (after rules e copy ≡ copy)) events
+    → are_plain rules events copy ≡ true
 plain_again rules copy [] each = refl
 plain_again rules copy (e ∷ events) each =
     let caller = caller_in e copy in

@@ -1,5 +1,6 @@
 -- Whoever is found by a token is a caller whom the catalogue knows.
-use Rattle.shop_model.proofs.Common.{◌≡◌, inl, inr, ℕ, ◌+◌, ◌-◌, List, [], ◌∷◌, false, None, Some, refl, ap, ◌∙◌, arith, add-zero, ◌==◌, bytes_eq, cases_Bool, nat_tests, at, is_empty, Text, Branch, Catalogue, Caller, Counter, Nobody, branch_with, caller_of, known_caller}
+use Rattle.shop_model.proofs.Common.{◌≡◌, inl, inr, ℕ, ◌+◌, ◌-◌, List, [], ◌∷◌, false, None, Some, refl, ap, ◌∙◌, arith, add-zero, ◌==◌, bytes_eq, cases_Bool}
+use Rattle.shop_model.proofs.Common.{nat_tests, at, is_empty, Text, Branch, Catalogue, Caller, Counter, Nobody, branch_with, caller_of, known_caller}
 use Rattle.std.specs.Prelude.{◌⊎◌, Option}
 
 -- nobody, or a branch whose row is there

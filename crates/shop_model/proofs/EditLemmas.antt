@@ -1,5 +1,8 @@
 -- What is said of a list of edits once, whatever act makes it.
-use Rattle.shop_model.proofs.Common.{◌≡◌, map, inl, inr, ℕ, ◌+◌, ◌≤◌, List, [], ◌∷◌, length, filter, refl, sym, ap, ◌∙◌, ◌++◌, arith, append-nil, append_assoc, length-append, ⊤, ◌==◌, cases_Bool, Row, Owned, of, owned_by, is_of, is_row, next, put_all, set_row, set_rows, Text, Books, Consignment, Table, Customers, CopyRows, Rentals, TermRows, Payments, RowOf, RowsOf, rows_of, if_same, with_rows, Edit, Put, Set, PutLot, Append, Update, edited, all_edited, Catalogue, opening}
+use Rattle.shop_model.proofs.Common.{◌≡◌, map, inl, inr, ℕ, ◌+◌, ◌≤◌, List, [], ◌∷◌, length, filter, refl, sym, ap, ◌∙◌, ◌++◌, arith, append-nil, append_assoc}
+use Rattle.shop_model.proofs.Common.{length-append, ⊤, ◌==◌, cases_Bool, Row, Owned, of, owned_by, is_of, is_row, next, put_all, set_row, set_rows, Text, Books}
+use Rattle.shop_model.proofs.Common.{Consignment, Table, Customers, CopyRows, Rentals, TermRows, Payments, RowOf, RowsOf, rows_of, if_same, with_rows, Edit}
+use Rattle.shop_model.proofs.Common.{Put, Set, PutLot, Append, Update, edited, all_edited, Catalogue, opening}
 use Rattle.shop_model.specs.Rows.{put}
 use Rattle.shop_model.proofs.RowLemmas.{same_test, more_yes, put_own, put_other, set_same, length_map}
 use Rattle.shop_model.specs.Books.{shop_of, unmarked}
@@ -17,7 +20,8 @@ same_self F Customers x y = refl
 same_self F t x y = refl
 
 -- The frame: what holds of each table's rows still holds after the rows of one table are replaced, if it holds of the new rows.
-pub by_table : (P : (t : Table) → RowsOf t → Type 0) (t : Table) (new : RowsOf t) (books : Books) → P t new → ((u : Table) → P u (rows_of books u)) → (u : Table) → P u (rows_of (with_rows t new books) u)
+pub by_table : (P : (t : Table) → RowsOf t → Type 0) (t : Table) (new : RowsOf t) (books : Books) → P t new
+    → ((u : Table) → P u (rows_of books u)) → (u : Table) → P u (rows_of (with_rows t new books) u)
 by_table P t new books is old Customers = same_or RowsOf P t Customers new books.customers is (old Customers)
 by_table P t new books is old u = same_or RowsOf P t u new (rows_of books u) is (old u)
 
@@ -27,10 +31,18 @@ by_none P catalogue is Customers = is Customers
 by_none P catalogue is t = is t
 
 -- other rows in one table leave a shop as it was, if the branch's own rows in it are the same
-pub tables_stay : (b : ℕ) (t : Table) (new : List (Row (RowOf t))) (books : Books) → of b new ≡ of b (rows_of books t) → shop_of b (with_rows t new books) ≡ shop_of b books
+pub tables_stay : (b : ℕ) (t : Table) (new : List (Row (RowOf t))) (books : Books)
+    → of b new ≡ of b (rows_of books t) → shop_of b (with_rows t new books) ≡ shop_of b books
 tables_stay b t new books same =
     let all = by_table (λ u its. of b its ≡ of b (rows_of books u)) t new books same (λ u. refl) in
-    λ i. record (shop_of b books) { customers = all Customers i; copies = map unmarked (all CopyRows i); rentals = all Rentals i; terms = all TermRows i; payments = all Payments i }
+    λ i.
+    record (shop_of b books) {
+      customers = all Customers i;
+      copies = map unmarked (all CopyRows i);
+      rentals = all Rentals i;
+      terms = all TermRows i;
+      payments = all Payments i;
+    }
 
 -- ---- one edit after another
 
@@ -40,7 +52,8 @@ AskedOfEach b Asked [] books = ⊤
 AskedOfEach b Asked (edit ∷ edits) books = Asked books edit × AskedOfEach b Asked edits (edited b edit books)
 
 -- what each edit keeps of the books, all of them keep
-pub each_keeps : (P : Books → Type 0) (Asked : Books → Edit → Type 0) (b : ℕ) → ((books : Books) (edit : Edit) → Asked books edit → P books → P (edited b edit books))
+pub each_keeps : (P : Books → Type 0) (Asked : Books → Edit → Type 0) (b : ℕ)
+    → ((books : Books) (edit : Edit) → Asked books edit → P books → P (edited b edit books))
     → (edits : List Edit) (books : Books) → AskedOfEach b Asked edits books → P books → P (all_edited b edits books)
 each_keeps P Asked b keeps [] books asked h = h
 each_keeps P Asked b keeps (edit ∷ edits) books asked h = each_keeps P Asked b keeps edits (edited b edit books) asked.1 (keeps books edit asked.0 h)
@@ -67,8 +80,10 @@ pub sends_keep : (P : Books → Type 0) (IsNew : Books → Consignment → Type 
     → ((books : Books) (edit : Edit) → AskedOfSend IsNew Keeps books edit → P books → P (edited b edit books))
     → (edits : List Edit) (books : Books) → AskedOfSends b IsNew Keeps edits books → P books → P (all_edited b edits books)
 sends_keep P IsNew Keeps b keeps [] books asked h = h
-sends_keep P IsNew Keeps b keeps (Append it ∷ edits) books asked h = sends_keep P IsNew Keeps b keeps edits (edited b (Append it) books) asked.1 (keeps books (Append it) asked.0 h)
-sends_keep P IsNew Keeps b keeps (Update test f ∷ edits) books asked h = sends_keep P IsNew Keeps b keeps edits (edited b (Update test f) books) asked.1 (keeps books (Update test f) asked.0 h)
+sends_keep P IsNew Keeps b keeps (Append it ∷ edits) books asked h =
+    sends_keep P IsNew Keeps b keeps edits (edited b (Append it) books) asked.1 (keeps books (Append it) asked.0 h)
+sends_keep P IsNew Keeps b keeps (Update test f ∷ edits) books asked h =
+    sends_keep P IsNew Keeps b keeps edits (edited b (Update test f) books) asked.1 (keeps books (Update test f) asked.0 h)
 sends_keep P IsNew Keeps b keeps (edit ∷ edits) books asked h = sends_keep P IsNew Keeps b keeps edits (edited b edit books) asked (keeps books edit tt h)
 
 -- ---- what is put
@@ -131,23 +146,28 @@ set_length a b (n ∷ ns) f rows = set_length a b ns f (set_row b n f rows) ∙ 
       let was = length_map (λ (row : Row _). row.it) (filter (is_of a) rows) in
       omega (arith, same, new, old, its, was)
 
-rows_put : (a b : ℕ) (t : Table) (makes : List (ℕ → RowOf t)) (books : Books) (u : Table) → row_count a u (edited b (Put t makes) books) ≤ row_count a u books + if_same (λ _. ℕ) t u (length makes) 0
+rows_put : (a b : ℕ) (t : Table) (makes : List (ℕ → RowOf t)) (books : Books) (u : Table)
+    → row_count a u (edited b (Put t makes) books) ≤ row_count a u books + if_same (λ _. ℕ) t u (length makes) 0
 rows_put a b t makes books u =
     let own = put_most a b makes (rows_of books t) in
-    let all = by_table (λ v new. length (of a new) ≤ row_count a v books + if_same (λ _. ℕ) t v (length makes) 0) t _ books (rw (same_self (λ _. ℕ) t (length makes) 0) own) (λ v. omega arith) in
+    let all =
+    by_table (λ v new. length (of a new) ≤ row_count a v books + if_same (λ _. ℕ) t v (length makes) 0) t _ books
+    (rw (same_self (λ _. ℕ) t (length makes) 0) own) (λ v. omega arith) in
     all u
 
 -- no branch has more new rows in a table than the edits put there
 pub rows_edited : (a b : ℕ) (edits : List Edit) (books : Books) (u : Table) → row_count a u (all_edited b edits books) ≤ row_count a u books + grown u edits
 rows_edited a b [] books u = omega arith
-rows_edited a b (Put t makes ∷ edits) books u = let one = rows_put a b t makes books u in let more = rows_edited a b edits (edited b (Put t makes) books) u in omega (arith, one, more)
+rows_edited a b (Put t makes ∷ edits) books u =
+    let one = rows_put a b t makes books u in let more = rows_edited a b edits (edited b (Put t makes) books) u in omega (arith, one, more)
 rows_edited a b (Set t ns f ∷ edits) books u =
     let one = by_table (λ v new. length (of a new) ≡ row_count a v books) t _ books (set_length a b ns f (rows_of books t)) (λ v. refl) u in
     let more = rows_edited a b edits (edited b (Set t ns f) books) u in
     omega (arith, one, more)
 rows_edited a b (edit ∷ edits) books u = rows_edited a b edits (edited b edit books) u
 
-pub lots_edited : (b : ℕ) (edits : List Edit) (books : Books) → length (owned_by b (all_edited b edits books).lots) ≡ length (owned_by b books.lots) + new_lots edits
+pub lots_edited : (b : ℕ) (edits : List Edit) (books : Books)
+    → length (owned_by b (all_edited b edits books).lots) ≡ length (owned_by b books.lots) + new_lots edits
 lots_edited b [] books = omega arith
 lots_edited b (PutLot lot ∷ edits) books =
     let own = ap length (more_yes (λ (row : Owned Text). row.it) (λ row. row.owner == b) books.lots (record { owner = b; it = lot }) (same_test b)) in

@@ -1,5 +1,12 @@
 -- Each step keeps what holds of each branch's shop.
-use Rattle.shop_model.proofs.Common.{◌≡◌, inl, inr, ℕ, ◌+◌, ◌-◌, ◌≤◌, ◌<◌, List, [], ◌∷◌, ◌++◌, suc, length, map, filter, Bool, true, false, not, None, Some, refl, sym, subst, ap, ◌∙◌, arith, length-append, ⊤, ◌==◌, ◌&&◌, nat_le, nat_lt, list_any, list_all, cases_Bool, or_parts, and_parts, true≢false, nat_tests, map_push, Row, Owned, of, next, put_all, set_at, set_all, arrived, total, Moment, is_by, same_moment, Customer, Rental, Payment, Arrival, Stock, Copies, BadLine, Act, AddCustomer, Import, Receive, Command, Rules, Kept, act_refusals, is_full, is_before, new_copies, new_from, new_in, are_lines, arrival, here, films_in, incoming, reply_text, Books, Line, Consignment, Table, Customers, CopyRows, Rentals, TermRows, Payments, RowOf, rows_of, Edit, Put, Set, edited, edits_of, book_acted, book_done, shop_of, unmarked, as_parcel, imported, unpacked, come, HasNumbers, same_rental, are_apart, is_within, returned_by, rental_by, rises, IsGoodShop, AreRowsNumbered}
+use Rattle.shop_model.proofs.Common.{◌≡◌, inl, inr, ℕ, ◌+◌, ◌-◌, ◌≤◌, ◌<◌, List, [], ◌∷◌, ◌++◌, suc, length, map, filter, Bool, true, false, not, None, Some}
+use Rattle.shop_model.proofs.Common.{refl, sym, subst, ap, ◌∙◌, arith, length-append, ⊤, ◌==◌, ◌&&◌, nat_le, nat_lt, list_any, list_all, cases_Bool, or_parts}
+use Rattle.shop_model.proofs.Common.{and_parts, true≢false, nat_tests, map_push, Row, Owned, of, next, put_all, set_at, set_all, arrived, total, Moment, is_by}
+use Rattle.shop_model.proofs.Common.{same_moment, Customer, Rental, Payment, Arrival, Stock, Copies, BadLine, Act, AddCustomer, Import, Receive, Command, Rules}
+use Rattle.shop_model.proofs.Common.{Kept, act_refusals, is_full, is_before, new_copies, new_from, new_in, are_lines, arrival, here, films_in, incoming}
+use Rattle.shop_model.proofs.Common.{reply_text, Books, Line, Consignment, Table, Customers, CopyRows, Rentals, TermRows, Payments, RowOf, rows_of, Edit, Put}
+use Rattle.shop_model.proofs.Common.{Set, edited, edits_of, book_acted, book_done, shop_of, unmarked, as_parcel, imported, unpacked, come, HasNumbers}
+use Rattle.shop_model.proofs.Common.{same_rental, are_apart, is_within, returned_by, rental_by, rises, IsGoodShop, AreRowsNumbered}
 use Rattle.std.specs.Prelude.{Option}
 use Rattle.std.proofs.lemmas.List.Folds.{list_all-append, list_all-map}
 use Rattle.shop_model.specs.Rows.{put}
@@ -29,7 +36,8 @@ length_set_all (n ∷ ns) f xs = length_set_all ns f (set_at n f xs) ∙ length_
 
 map_set_same : {A B : Type 0} (g : A → B) (n : ℕ) (f : A → A) (xs : List A) → ((x : A) → g (f x) ≡ g x) → map g (set_at n f xs) ≡ map g xs
 map_set_same g n f [] same = refl
-map_set_same g n f (x ∷ xs) same = elim (cases_Bool (n == 1)) [ inl is ↦ rw (is, same x) | inr isnt ↦ rw isnt (ap (λ r. g x ∷ r) (map_set_same g (n - 1) f xs same)) ]
+map_set_same g n f (x ∷ xs) same =
+    elim (cases_Bool (n == 1)) [ inl is ↦ rw (is, same x) | inr isnt ↦ rw isnt (ap (λ r. g x ∷ r) (map_set_same g (n - 1) f xs same)) ]
 
 -- ---- moments
 
@@ -40,9 +48,11 @@ moves_on (Some last) moment m on by = grind (arith, nat_tests)
 self_by : (moment : Moment) → is_by moment moment ≡ true
 self_by moment = grind (arith, nat_tests)
 
-still_returned : (last : Option Moment) (moment rented : Moment) (returned : Option Moment) → is_before moment last ≡ false → returned_by last rented returned ≡ true → returned_by (Some moment) rented returned ≡ true
+still_returned : (last : Option Moment) (moment rented : Moment) (returned : Option Moment) → is_before moment last ≡ false
+    → returned_by last rented returned ≡ true → returned_by (Some moment) rented returned ≡ true
 still_returned last moment rented None on by = refl
-still_returned last moment rented (Some returned) on by = let h = and_parts (is_by rented returned) (is_within last returned) by in rw (h.0, moves_on last moment returned on h.1)
+still_returned last moment rented (Some returned) on by =
+    let h = and_parts (is_by rented returned) (is_within last returned) by in rw (h.0, moves_on last moment returned on h.1)
 
 still_by : (last : Option Moment) (moment : Moment) → is_before moment last ≡ false → (r : Rental) → rental_by last r ≡ true → rental_by (Some moment) r ≡ true
 still_by last moment on r by =
@@ -58,20 +68,24 @@ rises_more (n ∷ ms) m rise below =
 
 -- ---- rentals that are apart
 
-apart_more : (rs : List Rental) (r : Rental) → are_apart rs ≡ true → list_any (λ (it : Rental). same_moment it.rented r.rented && it.copy == r.copy && it.customer == r.customer) rs ≡ false → are_apart (rs ++ r ∷ []) ≡ true
-apart_more rs r is none = different_more same_rental rs r is (any_same _ _ rs (λ s. same_turned r.rented s.rented r.copy s.copy r.customer s.customer) ∙ none) where
-  moment_turned : (a b : Moment) → same_moment a b ≡ same_moment b a
-  moment_turned a b = rw (turned a.year b.year, turned a.month b.month, turned a.day b.day, turned a.hour b.hour, turned a.minute b.minute, turned a.second b.second)
+apart_more : (rs : List Rental) (r : Rental) → are_apart rs ≡ true
+    → list_any (λ (it : Rental). same_moment it.rented r.rented && it.copy == r.copy && it.customer == r.customer) rs ≡ false → are_apart (rs ++ r ∷ []) ≡ true
+apart_more rs r is none =
+    different_more same_rental rs r is (any_same _ _ rs (λ s. same_turned r.rented s.rented r.copy s.copy r.customer s.customer) ∙ none) where
+      moment_turned : (a b : Moment) → same_moment a b ≡ same_moment b a
+      moment_turned a b =
+          rw (turned a.year b.year, turned a.month b.month, turned a.day b.day, turned a.hour b.hour, turned a.minute b.minute, turned a.second b.second)
 
-  same_turned : (a b : Moment) (c d e f : ℕ) → (same_moment a b && c == d && e == f) ≡ (same_moment b a && d == c && f == e)
-  same_turned a b c d e f = rw (moment_turned a b, turned c d, turned e f)
+      same_turned : (a b : Moment) (c d e f : ℕ) → (same_moment a b && c == d && e == f) ≡ (same_moment b a && d == c && f == e)
+      same_turned a b c d e f = rw (moment_turned a b, turned c d, turned e f)
 
 -- what a change leaves of a rental, so that rentals stay apart
 abbrev pub KeepsRented : (Rental → Rental) → Type 0
 KeepsRented f = (it : Rental) → ((f it).rented ≡ it.rented) × ((f it).copy ≡ it.copy) × ((f it).customer ≡ it.customer)
 
 apart_set : (n : ℕ) (f : Rental → Rental) (rs : List Rental) → KeepsRented f → are_apart (set_at n f rs) ≡ are_apart rs
-apart_set n f rs keeps = different_set same_rental n f rs (λ r s. rw ((keeps s).0, (keeps s).1, (keeps s).2)) (λ r s. rw ((keeps r).0, (keeps r).1, (keeps r).2))
+apart_set n f rs keeps =
+    different_set same_rental n f rs (λ r s. rw ((keeps s).0, (keeps s).1, (keeps s).2)) (λ r s. rw ((keeps r).0, (keeps r).1, (keeps r).2))
 
 -- ---- sizes
 
@@ -85,7 +99,8 @@ films_new : (stock : Stock) → length (map here (films_in stock)) ≡ new_in st
 films_new (Copies films) = length_map here films
 films_new (BadLine line) = refl
 
-incoming_new : (missing : List ℕ) (arrivals : List Arrival) → list_any (λ (it : Arrival). it.received) arrivals ≡ false → list_any (λ (it : Arrival). not (are_lines 0 (length it.films) missing)) arrivals ≡ false
+incoming_new : (missing : List ℕ) (arrivals : List Arrival) → list_any (λ (it : Arrival). it.received) arrivals ≡ false
+    → list_any (λ (it : Arrival). not (are_lines 0 (length it.films) missing)) arrivals ≡ false
     → length (incoming missing arrivals) ≡ total (new_from missing) arrivals
 incoming_new missing [] opens fit = refl
 incoming_new missing (a ∷ arrivals) opens fit =
@@ -107,16 +122,22 @@ AreGood last Payments its = (list_all (λ (p : Payment). is_within last p.paid) 
 AreGood last t its = ⊤
 
 -- as the last moment moves on
-good_later : (sizes : Rules) (b : ℕ) (moment : Moment) (books : Books) → IsGoodShop sizes (shop_of b books) → is_before moment (shop_of b books).last ≡ false → (t : Table) → AreGood (Some moment) t (of b (rows_of books t))
-good_later sizes b moment books good on Customers = all_weaker _ _ (of b books.customers) (λ (c : Customer) by. moves_on (shop_of b books).last moment c.created on by) good.created
-good_later sizes b moment books good on Rentals = (good.apart, all_weaker _ _ (of b books.rentals) (still_by (shop_of b books).last moment on) good.rented, good.rentals_rise)
-good_later sizes b moment books good on Payments = (all_weaker _ _ (of b books.payments) (λ (p : Payment) by. moves_on (shop_of b books).last moment p.paid on by) good.paid, good.payments_rise)
+good_later : (sizes : Rules) (b : ℕ) (moment : Moment) (books : Books) → IsGoodShop sizes (shop_of b books)
+    → is_before moment (shop_of b books).last ≡ false → (t : Table) → AreGood (Some moment) t (of b (rows_of books t))
+good_later sizes b moment books good on Customers =
+    all_weaker _ _ (of b books.customers) (λ (c : Customer) by. moves_on (shop_of b books).last moment c.created on by) good.created
+good_later sizes b moment books good on Rentals =
+    (good.apart, all_weaker _ _ (of b books.rentals) (still_by (shop_of b books).last moment on) good.rented, good.rentals_rise)
+good_later sizes b moment books good on Payments =
+    (all_weaker _ _ (of b books.payments) (λ (p : Payment) by. moves_on (shop_of b books).last moment p.paid on by) good.paid, good.payments_rise)
 good_later sizes b moment books good on t = tt
 
 -- what a row that is put is asked, and a change
 abbrev pub IsFresh : Moment → (t : Table) → RowOf t → List (RowOf t) → Type 0
 IsFresh moment Customers it its = it.created ≡ moment
-IsFresh moment Rentals it its = (it.rented ≡ moment) × (it.returned ≡ None) × (list_any (λ (r : Rental). same_moment r.rented moment && r.copy == it.copy && r.customer == it.customer) its ≡ false)
+IsFresh moment Rentals it its =
+    (it.rented ≡ moment) × (it.returned ≡ None)
+    × (list_any (λ (r : Rental). same_moment r.rented moment && r.copy == it.copy && r.customer == it.customer) its ≡ false)
 IsFresh moment Payments it its = it.paid ≡ moment
 IsFresh moment t it its = ⊤
 
@@ -126,20 +147,26 @@ KeepsGood moment Rentals f = KeepsRented f × ((it : Rental) → (f it).returned
 KeepsGood moment Payments f = (it : Payment) → (f it).paid ≡ it.paid
 KeepsGood moment t f = ⊤
 
-good_put : (moment : Moment) (t : Table) (it : RowOf t) (its : List (RowOf t)) → IsFresh moment t it its → AreGood (Some moment) t its → AreGood (Some moment) t (its ++ it ∷ [])
+good_put : (moment : Moment) (t : Table) (it : RowOf t) (its : List (RowOf t))
+    → IsFresh moment t it its → AreGood (Some moment) t its → AreGood (Some moment) t (its ++ it ∷ [])
 good_put moment Customers it its is good = all_more _ its it good (rw is (self_by moment))
 good_put moment Rentals it its is good = (
   apart_more its it good.0 (rw is.0 is.2),
   all_more _ its it good.1 (rw (is.0, is.1, self_by moment)),
-  rw (map_push (λ (r : Rental). r.rented) its it, is.0) (rises_more (map (λ (r : Rental). r.rented) its) moment good.2 (rw (list_all-map (λ n. is_by n moment) (λ (r : Rental). r.rented) its) (all_weaker _ _ its (λ (r : Rental) by. (and_parts (is_by r.rented moment) _ by).0) good.1))),
+  rw (map_push (λ (r : Rental). r.rented) its it, is.0)
+      (rises_more (map (λ (r : Rental). r.rented) its) moment good.2
+      (rw (list_all-map (λ n. is_by n moment) (λ (r : Rental). r.rented) its)
+      (all_weaker _ _ its (λ (r : Rental) by. (and_parts (is_by r.rented moment) _ by).0) good.1))),
 )
 good_put moment Payments it its is good = (
   all_more _ its it good.0 (rw is (self_by moment)),
-  rw (map_push (λ (p : Payment). p.paid) its it, is) (rises_more (map (λ (p : Payment). p.paid) its) moment good.1 (rw (list_all-map (λ n. is_by n moment) (λ (p : Payment). p.paid) its) good.0)),
+  rw (map_push (λ (p : Payment). p.paid) its it, is)
+      (rises_more (map (λ (p : Payment). p.paid) its) moment good.1 (rw (list_all-map (λ n. is_by n moment) (λ (p : Payment). p.paid) its) good.0)),
 )
 good_put moment t it its is good = tt
 
-good_set : (moment : Moment) (t : Table) (n : ℕ) (f : RowOf t → RowOf t) (its : List (RowOf t)) → KeepsGood moment t f → AreGood (Some moment) t its → AreGood (Some moment) t (set_at n f its)
+good_set : (moment : Moment) (t : Table) (n : ℕ) (f : RowOf t → RowOf t) (its : List (RowOf t))
+    → KeepsGood moment t f → AreGood (Some moment) t its → AreGood (Some moment) t (set_at n f its)
 good_set moment Customers n f its keeps good = all_set _ n f its good (λ it is. rw (keeps it) is)
 good_set moment Rentals n f its keeps good = (
   rw (apart_set n f its keeps.0) good.0,
@@ -165,20 +192,24 @@ AreFreshOf moment CopyRows makes its = ⊤
 AreFreshOf moment TermRows makes its = ⊤
 AreFreshOf moment t makes its = AreFresh moment t makes its
 
-good_all : (b : ℕ) (moment : Moment) (t : Table) (makes : List (ℕ → RowOf t)) (rows : List (Row (RowOf t))) → AreFresh moment t makes (of b rows) → AreGood (Some moment) t (of b rows) → AreGood (Some moment) t (of b (put_all b makes rows))
+good_all : (b : ℕ) (moment : Moment) (t : Table) (makes : List (ℕ → RowOf t)) (rows : List (Row (RowOf t)))
+    → AreFresh moment t makes (of b rows) → AreGood (Some moment) t (of b rows) → AreGood (Some moment) t (of b (put_all b makes rows))
 good_all b moment t [] rows fresh good = good
 good_all b moment t (make ∷ makes) rows fresh good =
     let own = put_own b make rows in
     let new = make (next b rows) in
     let f = fresh (next b rows) in
-    good_all b moment t makes (put b make rows) (subst (AreFresh moment t makes) (sym own) f.1) (subst (AreGood (Some moment) t) (sym own) (good_put moment t new (of b rows) f.0 good))
+    good_all b moment t makes (put b make rows) (subst (AreFresh moment t makes) (sym own) f.1)
+    (subst (AreGood (Some moment) t) (sym own) (good_put moment t new (of b rows) f.0 good))
 
-good_puts : (b : ℕ) (moment : Moment) (t : Table) (makes : List (ℕ → RowOf t)) (rows : List (Row (RowOf t))) → AreFreshOf moment t makes (of b rows) → AreGood (Some moment) t (of b rows) → AreGood (Some moment) t (of b (put_all b makes rows))
+good_puts : (b : ℕ) (moment : Moment) (t : Table) (makes : List (ℕ → RowOf t)) (rows : List (Row (RowOf t)))
+    → AreFreshOf moment t makes (of b rows) → AreGood (Some moment) t (of b rows) → AreGood (Some moment) t (of b (put_all b makes rows))
 good_puts b moment CopyRows makes rows fresh good = tt
 good_puts b moment TermRows makes rows fresh good = tt
 good_puts b moment t makes rows fresh good = good_all b moment t makes rows fresh good
 
-good_sets : (moment : Moment) (t : Table) (ns : List ℕ) (f : RowOf t → RowOf t) (its : List (RowOf t)) → KeepsGood moment t f → AreGood (Some moment) t its → AreGood (Some moment) t (set_all ns f its)
+good_sets : (moment : Moment) (t : Table) (ns : List ℕ) (f : RowOf t → RowOf t) (its : List (RowOf t))
+    → KeepsGood moment t f → AreGood (Some moment) t its → AreGood (Some moment) t (set_all ns f its)
 good_sets moment t [] f its keeps good = good
 good_sets moment t (n ∷ ns) f its keeps good = good_sets moment t ns f (set_at n f its) keeps (good_set moment t n f its keeps good)
 
@@ -194,11 +225,17 @@ IsTableGood b moment t rows = AreGood (Some moment) t (of b rows) × (AreRowsNum
 abbrev AreTablesGood : ℕ → Moment → Books → Type 0
 AreTablesGood b moment books = (t : Table) → IsTableGood b moment t (rows_of books t)
 
-good_edited : (b : ℕ) (moment : Moment) (books : Books) (edit : Edit) → IsGoodEdit b moment books edit → AreTablesGood b moment books → AreTablesGood b moment (edited b edit books)
+good_edited : (b : ℕ) (moment : Moment) (books : Books) (edit : Edit) → IsGoodEdit b moment books edit
+    → AreTablesGood b moment books → AreTablesGood b moment (edited b edit books)
 good_edited b moment books (Put t makes) asked good =
-    by_table (IsTableGood b moment) t _ books (good_puts b moment t makes (rows_of books t) asked (good t).0, λ c. put_all_counted c b makes (rows_of books t) ((good t).1 c)) good
+    by_table (IsTableGood b moment) t _ books
+    (good_puts b moment t makes (rows_of books t) asked (good t).0, λ c. put_all_counted c b makes (rows_of books t) ((good t).1 c)) good
 good_edited b moment books (Set t ns f) asked good =
-    by_table (IsTableGood b moment) t _ books (rw (set_rows_own b ns f (rows_of books t) ((good t).1 b)) (good_sets moment t ns f (of b (rows_of books t)) asked (good t).0), λ c. set_rows_counted c b ns f (rows_of books t) ((good t).1 c)) good
+    by_table (IsTableGood b moment) t _ books (
+      rw (set_rows_own b ns f (rows_of books t) ((good t).1 b)) (good_sets moment t ns f (of b (rows_of books t)) asked (good t).0),
+      λ c. set_rows_counted c b ns f (rows_of books t) ((good t).1 c),
+    )
+    good
 good_edited b moment books edit asked good = good
 
 -- ---- a command
@@ -212,13 +249,28 @@ pub record IsSmall (edits : List Edit) : Type 0 where
   pub sends : new_sends edits ≤ 1
 
 pub edits_small : (rules : Rules) (b : ℕ) (command : Command) (act : Act) (books : Books) → IsSmall (edits_of rules b command act books)
-edits_small rules b command (AddCustomer person) books = record { customers = omega arith; rentals = omega arith; payments = omega arith; lots = omega arith; sends = omega arith }
-edits_small rules b command act books = record { customers = omega arith; rentals = omega arith; payments = omega arith; lots = omega arith; sends = omega arith }
+edits_small rules b command (AddCustomer person) books = record {
+  customers = omega arith;
+  rentals = omega arith;
+  payments = omega arith;
+  lots = omega arith;
+  sends = omega arith;
+}
+edits_small rules b command act books = record {
+  customers = omega arith;
+  rentals = omega arith;
+  payments = omega arith;
+  lots = omega arith;
+  sends = omega arith;
+}
 
 -- as many copies as the verdict has counted
-copies_new : (rules : Rules) (b : ℕ) (command : Command) (act : Act) (books : Books) → HasNumbers books → NoneHold (act_refusals rules b books.catalogue (shop_of b books) command.moment act)
+copies_new : (rules : Rules) (b : ℕ) (command : Command) (act : Act) (books : Books) → HasNumbers books
+    → NoneHold (act_refusals rules b books.catalogue (shop_of b books) command.moment act)
     → grown CopyRows (edits_of rules b command act books) ≡ new_copies rules (shop_of b books) act
-copies_new rules b command (Import lot file) books has none = let n = length_map (imported b) (films_in (rules.stock_of file)) in let m = films_new (rules.stock_of file) in let k = length_map here (films_in (rules.stock_of file)) in omega (arith, n, m, k)
+copies_new rules b command (Import lot file) books has none =
+    let n = length_map (imported b) (films_in (rules.stock_of file)) in
+    let m = films_new (rules.stock_of file) in let k = length_map here (films_in (rules.stock_of file)) in omega (arith, n, m, k)
 copies_new rules b command (Receive source number missing) books has none =
     let n = length_map unpacked (come source b number missing books.consignments) in
     let f = length_map (λ (line : Line). line.film) (come source b number missing books.consignments) in
@@ -227,15 +279,20 @@ copies_new rules b command (Receive source number missing) books has none =
     omega (arith, n, f, same, m)
 copies_new rules b command act books has none = refl
 
-pub good_shop_done : (rules sizes : Rules) (b : ℕ) (command : Command) (books : Books) → rules.commands ≤ sizes.commands → rules.copies ≤ sizes.copies → HasNumbers books → IsGoodShop sizes (shop_of b books)
-    → is_full rules (shop_of b books) command.act ≡ false → is_before command.moment (shop_of b books).last ≡ false → NoneHold (act_refusals rules b books.catalogue (shop_of b books) command.moment command.act)
-    → AskedOfEach b (IsGoodEdit b command.moment) (edits_of rules b command command.act books) books → IsGoodShop sizes (shop_of b (book_done rules b command books))
+pub good_shop_done : (rules sizes : Rules) (b : ℕ) (command : Command) (books : Books) → rules.commands ≤ sizes.commands
+    → rules.copies ≤ sizes.copies → HasNumbers books → IsGoodShop sizes (shop_of b books)
+    → is_full rules (shop_of b books) command.act ≡ false → is_before command.moment (shop_of b books).last ≡ false
+    → NoneHold (act_refusals rules b books.catalogue (shop_of b books) command.moment command.act)
+    → AskedOfEach b (IsGoodEdit b command.moment) (edits_of rules b command command.act books) books
+    → IsGoodShop sizes (shop_of b (book_done rules b command books))
 good_shop_done rules sizes b command books most fit has good full on none asked =
     let edits = edits_of rules b command command.act books in
     let after = book_acted rules b command command.act books in
     let shop = shop_of b books in
     let later = good_later sizes b command.moment books good on in
-    let all = each_keeps (AreTablesGood b command.moment) (IsGoodEdit b command.moment) b (good_edited b command.moment) edits books asked (λ t. (later t, has.rows t)) in
+    let all =
+    each_keeps (AreTablesGood b command.moment) (IsGoodEdit b command.moment) b
+    (good_edited b command.moment) edits books asked (λ t. (later t, has.rows t)) in
     let small = edits_small rules b command command.act books in
     let grew = rows_edited b b edits books in
     let k : Kept = record { command = command; reply = reply_text rules command shop } in

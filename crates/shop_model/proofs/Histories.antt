@@ -1,5 +1,9 @@
 -- A run grows by one event at a time.
-use Rattle.shop_model.proofs.Common.{◌≡◌, inl, inr, List, [], ◌∷◌, ◌++◌, length, map, filter, true, false, not, refl, sym, ap, ap₂, ◌∙◌, arith, append-nil, length-append, ◌==◌, ◌||◌, list_all, or-false, not-true, cases_Bool, and_parts, false≢true, true≢false, map-append, filter-append, OfficeAsk, Rules, TooLong, Memory, Size, StoreFailed, Reply, Sorry, Done, Shows, Answer, answer_of, problem_answer, Books, Event, Caller, counted_one, caller_in, reply_in, after, run, last_books, is_decided, is_store_failure, is_answer, outcome_of, counted_in, fails_for_good, has_failed, IsRun, IsStep, list_any-append, or_parts}
+use Rattle.shop_model.proofs.Common.{◌≡◌, inl, inr, List, [], ◌∷◌, ◌++◌, length, map, filter, true, false, not, refl, sym, ap, ap₂, ◌∙◌, arith, append-nil}
+use Rattle.shop_model.proofs.Common.{length-append, ◌==◌, ◌||◌, list_all, or-false, not-true, cases_Bool, and_parts, false≢true, true≢false, map-append}
+use Rattle.shop_model.proofs.Common.{filter-append, OfficeAsk, Rules, TooLong, Memory, Size, StoreFailed, Reply, Sorry, Done, Shows, Answer, answer_of}
+use Rattle.shop_model.proofs.Common.{problem_answer, Books, Event, Caller, counted_one, caller_in, reply_in, after, run, last_books, is_decided}
+use Rattle.shop_model.proofs.Common.{is_store_failure, is_answer, outcome_of, counted_in, fails_for_good, has_failed, IsRun, IsStep, list_any-append, or_parts}
 use Rattle.std.specs.Prelude.{◌⊎◌}
 use Rattle.shop_model.specs.Json.{escape_byte}
 use Rattle.shop_model.proofs.Origins.{all_append}
@@ -46,16 +50,19 @@ decided_failure answer is = elim (cases_Bool (answer.status == 503)) [
 pub run_append : (rules : Rules) (look : OfficeAsk → Books → Reply) (events more : List Event) (books : Books)
     → run rules look (events ++ more) books ≡ run rules look events books ++ run rules look more (last_books rules events books)
 run_append rules look [] more books = refl
-run_append rules look (event ∷ events) more books = ap (λ r. (caller_in event books, reply_in rules look event books) ∷ r) (run_append rules look events more (after rules event books))
+run_append rules look (event ∷ events) more books =
+    ap (λ r. (caller_in event books, reply_in rules look event books) ∷ r) (run_append rules look events more (after rules event books))
 
-pub last_append : (rules : Rules) (events more : List Event) (books : Books) → last_books rules (events ++ more) books ≡ last_books rules more (last_books rules events books)
+pub last_append : (rules : Rules) (events more : List Event) (books : Books)
+    → last_books rules (events ++ more) books ≡ last_books rules more (last_books rules events books)
 last_append rules [] more books = refl
 last_append rules (event ∷ events) more books = last_append rules events more (after rules event books)
 
 abbrev one_counted : (event : Event) (answer : Answer) → List Event
 one_counted event answer = counted_one event (outcome_of answer) []
 
-one_more : (event : Event) (answer : Answer) (xs ys : List Event) → not (is_store_failure answer) ≡ true → counted_one event (outcome_of answer) (xs ++ ys) ≡ counted_one event (outcome_of answer) xs ++ ys
+one_more : (event : Event) (answer : Answer) (xs ys : List Event) → not (is_store_failure answer) ≡ true
+    → counted_one event (outcome_of answer) (xs ++ ys) ≡ counted_one event (outcome_of answer) xs ++ ys
 one_more event answer xs ys fine = elim (cases_Bool (is_decided answer)) [
   | inl is ↦ rw is refl
   | inr isnt ↦ rw (isnt, not-true (is_store_failure answer) fine) refl
@@ -92,7 +99,8 @@ none_failed (a ∷ answers) h = let parts = or_parts (is_store_failure a) (has_f
 pub failed_more : (answers : List Answer) (answer : Answer) → has_failed (answers ++ answer ∷ []) ≡ (has_failed answers || is_store_failure answer)
 failed_more answers answer = list_any-append is_store_failure answers (answer ∷ []) ∙ ap (λ r. has_failed answers || r) (or-false (is_store_failure answer))
 
-stays_more : (answers : List Answer) (answer : Answer) → fails_for_good answers ≡ true → (has_failed answers ≡ true → is_store_failure answer ≡ true) → fails_for_good (answers ++ answer ∷ []) ≡ true
+stays_more : (answers : List Answer) (answer : Answer) → fails_for_good answers ≡ true
+    → (has_failed answers ≡ true → is_store_failure answer ≡ true) → fails_for_good (answers ++ answer ∷ []) ≡ true
 stays_more [] answer good later = elim (cases_Bool (is_store_failure answer)) [ inl is ↦ rw is | inr isnt ↦ rw isnt ]
 stays_more (a ∷ answers) answer good later = elim (cases_Bool (is_store_failure a)) [
   | inl failed ↦
@@ -102,18 +110,22 @@ stays_more (a ∷ answers) answer good later = elim (cases_Bool (is_store_failur
   | inr fine ↦ rw fine (stays_more answers answer (rw fine at good) (rw fine at later))
 ]
 
-never_failed : (answers : List Answer) (answer : Answer) → (has_failed answers ≡ true → is_store_failure answer ≡ true) → is_store_failure answer ≡ false → has_failed answers ≡ false
+never_failed : (answers : List Answer) (answer : Answer) → (has_failed answers ≡ true → is_store_failure answer ≡ true)
+    → is_store_failure answer ≡ false → has_failed answers ≡ false
 never_failed answers answer later isnt = elim (cases_Bool (has_failed answers)) [
   | inl did ↦ let it = later did in let no : true ≡ false = sym it ∙ isnt in absurd (true≢false no)
   | inr not ↦ not
 ]
 
 -- the run goes on by one event that isn't decided and leaves the books
-run_idle : (rules : Rules) (look : OfficeAsk → Books → Reply) (events : List Event) (answers : List Answer) (event : Event) (answer : Answer) (old mid new : Books)
-    → IsRun rules look events answers old mid → (has_failed answers ≡ true → is_store_failure answer ≡ true) → new ≡ mid → is_decided answer ≡ false → is_answer answer ≡ true
+run_idle :
+    (rules : Rules) (look : OfficeAsk → Books → Reply) (events : List Event) (answers : List Answer) (event : Event) (answer : Answer) (old mid new : Books)
+    → IsRun rules look events answers old mid → (has_failed answers ≡ true → is_store_failure answer ≡ true)
+    → new ≡ mid → is_decided answer ≡ false → is_answer answer ≡ true
     → one_counted event answer ≡ [] → IsRun rules look (events ++ event ∷ []) (answers ++ answer ∷ []) old new
 run_idle rules look events answers event answer old mid new r later same lacks is none =
-    let counts : counted_in (events ++ event ∷ []) (answers ++ answer ∷ []) ≡ counted_in events answers = counted_same events answers event answer r.each none in
+    let counts : counted_in (events ++ event ∷ []) (answers ++ answer ∷ []) ≡ counted_in events answers =
+    counted_same events answers event answer r.each none in
     record {
       each = let a = length-append answers (answer ∷ []) in let b = length-append events (event ∷ []) in let e = r.each in omega arith;
       answers_are = all_append is_answer answers (answer ∷ []) r.answers_are (rw is refl);
@@ -124,7 +136,8 @@ run_idle rules look events answers event answer old mid new r later same lacks i
     }
 
 -- the run goes on by one event, which was answered by a step
-pub run_more : (rules : Rules) (look : OfficeAsk → Books → Reply) (events : List Event) (answers : List Answer) (event : Event) (answer : Answer) (old mid new : Books)
+pub run_more :
+    (rules : Rules) (look : OfficeAsk → Books → Reply) (events : List Event) (answers : List Answer) (event : Event) (answer : Answer) (old mid new : Books)
     → IsRun rules look events answers old mid → (has_failed answers ≡ true → is_store_failure answer ≡ true)
     → IsStep rules look (caller_in event mid) (event.request (caller_in event mid)) answer mid new
     → IsRun rules look (events ++ event ∷ []) (answers ++ answer ∷ []) old new
@@ -140,12 +153,17 @@ run_more rules look events answers event answer old mid new r later (inl d) =
       each = let a = length-append answers (answer ∷ []) in let b = length-append events (event ∷ []) in let e = r.each in omega arith;
       answers_are = all_append is_answer answers (answer ∷ []) r.answers_are (rw decided refl);
       stays = stays_more answers answer r.stays later;
-      decisions = filter-append is_decided answers (answer ∷ []) ∙ ap₂ (λ (xs ys : List Answer). xs ++ ys) r.decisions (rw decided (ap (λ (a : Answer). a ∷ []) d.reply))
-          ∙ ap (λ (b : Books). map (λ (it : Caller × Reply). answer_of it.1) (run rules look history old) ++ answer_of (reply_in rules look event b) ∷ []) r.books
+      decisions =
+          filter-append is_decided answers (answer ∷ [])
+          ∙ ap₂ (λ (xs ys : List Answer). xs ++ ys) r.decisions (rw decided (ap (λ (a : Answer). a ∷ []) d.reply))
+          ∙ ap (λ (b : Books). map (λ (it : Caller × Reply). answer_of it.1) (run rules look history old) ++ answer_of (reply_in rules look event b) ∷ [])
+          r.books
           ∙ sym (map-append (λ (it : Caller × Reply). answer_of it.1) (run rules look history old) (run rules look (event ∷ []) (last_books rules history old)))
           ∙ ap (map (λ (it : Caller × Reply). answer_of it.1)) (sym (run_append rules look history (event ∷ []) old))
           ∙ ap (λ (es : List Event). map (λ (it : Caller × Reply). answer_of it.1) (run rules look es old)) (sym counts);
-      books = d.books ∙ ap (λ (b : Books). after rules event b) r.books ∙ sym (last_append rules history (event ∷ []) old) ∙ ap (λ (es : List Event). last_books rules es old) (sym counts);
+      books =
+          d.books ∙ ap (λ (b : Books). after rules event b) r.books ∙ sym (last_append rules history (event ∷ []) old)
+          ∙ ap (λ (es : List Event). last_books rules es old) (sym counts);
     }
 run_more rules look events answers event answer old mid new r later (inr (inl l)) =
     let room = room_is answer l.reply in

@@ -1,6 +1,12 @@
 -- In which order different branches ask tells no branch anything, and their requests may change places.
-use Rattle.shop_model.proofs.Common.{◌≡◌, inl, inr, ℕ, ◌+◌, List, [], ◌∷◌, ◌++◌, length, filter, map, Bool, true, false, not, Option, Some, None, refl, sym, ap, ap₂, subst, ◌∙◌, append-nil, ◌==◌, ◌&&◌, flat_map, list_all, cases_Bool, and_parts, not-true, true≢false, false≢true, ⊤, at, films_at, Arrival, Catalogue, Shop, reply_by, filter-append, map-append, arrived, Row, is_of, is_row, update_where, Act, Dispatch, Receive, Command, Rules, verdict, Verdict, Again, Refused, Accepted, reply_text, State, Request, Do, reply_to, if_accepted, Books, BookCopy, Consignment, CopyRows, shop_of, state_of, book_acted, book_done, branch_after, is_consignment, checked, new_consignment, under_way, rows_at, between, HasNumbers}
-use Rattle.shop_model.specs.Interleaved.{OrderIsWithinViews, HasSameRows, placeless, sent_by, AreAlike, sends_to, receives_from, reaches, is_awaited, BranchesCommute}
+use Rattle.shop_model.proofs.Common.{◌≡◌, inl, inr, ℕ, ◌+◌, List, [], ◌∷◌, ◌++◌, length, filter, map, Bool, true, false, not, Option, Some, None, refl, sym, ap}
+use Rattle.shop_model.proofs.Common.{ap₂, subst, ◌∙◌, append-nil, ◌==◌, ◌&&◌, flat_map, list_all, cases_Bool, and_parts, not-true, true≢false, false≢true, ⊤}
+use Rattle.shop_model.proofs.Common.{at, films_at, Arrival, Catalogue, Shop, reply_by, filter-append, map-append, arrived, Row, is_of, is_row, update_where}
+use Rattle.shop_model.proofs.Common.{Act, Dispatch, Receive, Command, Rules, verdict, Verdict, Again, Refused, Accepted, reply_text, State, Request, Do}
+use Rattle.shop_model.proofs.Common.{reply_to, if_accepted, Books, BookCopy, Consignment, CopyRows, shop_of, state_of, book_acted, book_done, branch_after}
+use Rattle.shop_model.proofs.Common.{is_consignment, checked, new_consignment, under_way, rows_at, between, HasNumbers}
+use Rattle.shop_model.specs.Interleaved.{OrderIsWithinViews, HasSameRows, placeless, sent_by, AreAlike, sends_to, receives_from, reaches, is_awaited}
+use Rattle.shop_model.specs.Interleaved.{BranchesCommute}
 use Rattle.shop_model.specs.Machine.{replies, state_after, Input}
 use Rattle.shop_model.proofs.RowLemmas.{same_if, same_test, differ_if, differ_test, turned, one_more, length_map, filter_map, filter_filter}
 use Rattle.shop_model.proofs.ShopLemmas.{with_arrivals, done_other}
@@ -8,7 +14,8 @@ use Rattle.shop_model.proofs.SameStates.{by_verdict}
 use Rattle.shop_model.proofs.Accepted.{catalogue_stays}
 use Rattle.shop_model.proofs.Isolation.{alone}
 use Rattle.shop_model.proofs.Arrivals.{FindsSame, verdict_same, text_same}
-use Rattle.shop_model.proofs.Alike.{filter_update, update_away, filter_swap, apart as row_apart, same_itself, same_back, same_through, ComesSame, done_same, done_away}
+use Rattle.shop_model.proofs.Alike.{filter_update, update_away, filter_swap, apart as row_apart, same_itself, same_back, same_through, ComesSame, done_same}
+use Rattle.shop_model.proofs.Alike.{done_away}
 
 -- ---- views
 
@@ -37,7 +44,8 @@ abbrev pub sends_by : ℕ → ℕ → Option (ℕ × ℕ × List ℕ) → List C
 sends_by s c (Some it) new cs = update_where (is_consignment it.0 c it.1) (checked it.2) cs
 sends_by s c None new cs = cs ++ filter (λ (it : Consignment). it.source == s) new
 
-map_update : {A : Type 0} (g : A → A) (q : A → Bool) (f : A → A) (xs : List A) → ((x : A) → g (f x) ≡ f (g x)) → ((x : A) → q (g x) ≡ q x) → map g (update_where q f xs) ≡ update_where q f (map g xs)
+map_update : {A : Type 0} (g : A → A) (q : A → Bool) (f : A → A) (xs : List A) → ((x : A) → g (f x) ≡ f (g x))
+    → ((x : A) → q (g x) ≡ q x) → map g (update_where q f xs) ≡ update_where q f (map g xs)
 map_update g q f [] through tests = refl
 map_update g q f (x ∷ xs) through tests = elim (cases_Bool (q x)) [
   | inl hit ↦ rw (tests x, hit, through x) (ap (λ rest. f (g x) ∷ rest) (map_update g q f xs through tests))
@@ -136,7 +144,8 @@ both_update c d s m t n missing others (it ∷ cs) differ =
     ]
 
 -- what two branches send and receive may change places
-sends_commute : (s c d : ℕ) (k l : Option (ℕ × ℕ × List ℕ)) (newk newl cs : List Consignment) → (c == d) ≡ false → list_all (comes_of c) newk ≡ true → list_all (comes_of d) newl ≡ true
+sends_commute : (s c d : ℕ) (k l : Option (ℕ × ℕ × List ℕ)) (newk newl cs : List Consignment)
+    → (c == d) ≡ false → list_all (comes_of c) newk ≡ true → list_all (comes_of d) newl ≡ true
     → Misses d l newk → Misses c k newl → sends_by s d l newl (sends_by s c k newk cs) ≡ sends_by s c k newk (sends_by s d l newl cs)
 sends_commute s c d (Some k) (Some l) newk newl cs differ ofk ofl missk missl = both_update c d k.0 k.1 l.0 l.1 k.2 l.2 cs differ
 sends_commute s c d (Some k) None newk newl cs differ ofk ofl missk missl =
@@ -171,12 +180,14 @@ finds_away c d (Receive source number missing) (Dispatch to xs) books apart = el
 finds_away c d (Receive source number missing) l books apart = refl
 finds_away c d k l books apart = tt
 
-arrivals_alone : (c d : ℕ) (act : Act) (books : Books) → with_arrivals c d act books ≡ record (shop_of c books) { arrivals = (with_arrivals c d act books).arrivals }
+arrivals_alone : (c d : ℕ) (act : Act) (books : Books)
+    → with_arrivals c d act books ≡ record (shop_of c books) { arrivals = (with_arrivals c d act books).arrivals }
 arrivals_alone c d (Dispatch to xs) books = elim (cases_Bool (to == c)) [ inl is ↦ rw is refl | inr isnt ↦ rw isnt refl ]
 arrivals_alone c d act books = refl
 
 -- what a command reads of its shop
-module _ (rules : Rules) (c d : ℕ) (k l : Command) (books : Books) (has : HasNumbers books) (differ : (d == c) ≡ false) (apart : crosses d c l.act k.act ≡ false) where
+module _ (rules : Rules) (c d : ℕ) (k l : Command) (books : Books) (has : HasNumbers books)
+    (differ : (d == c) ≡ false) (apart : crosses d c l.act k.act ≡ false) where
   abbrev arrivals_now : List Arrival
   arrivals_now = (with_arrivals c d l.act books).arrivals
 
@@ -186,7 +197,8 @@ module _ (rules : Rules) (c d : ℕ) (k l : Command) (books : Books) (has : HasN
   text_away : reply_text rules k (shop_of c (book_done rules d l books)) ≡ reply_text rules k (shop_of c books)
   text_away = ap (reply_text rules k) shop_now ∙ sym (text_same rules k.act (shop_of c books) arrivals_now (finds_away c d k.act l.act books apart))
 
-  verdict_away : verdict rules c (book_done rules d l books).catalogue (shop_of c (book_done rules d l books)) k ≡ verdict rules c books.catalogue (shop_of c books) k
+  verdict_away : verdict rules c (book_done rules d l books).catalogue (shop_of c (book_done rules d l books)) k
+      ≡ verdict rules c books.catalogue (shop_of c books) k
   verdict_away =
       ap₂ (λ (catalogue : Catalogue) (shop : Shop). verdict rules c catalogue shop k) (catalogue_stays rules d l l.act books) shop_now
       ∙ sym (verdict_same rules c books.catalogue k (shop_of c books) arrivals_now (finds_away c d k.act l.act books apart))
@@ -196,14 +208,23 @@ no_arrivals b c (Dispatch to xs) books other = rw other refl
 no_arrivals b c act books other = refl
 
 -- a request that another branch's doesn't reach
-away_state : (rules : Rules) (b c : ℕ) (request : Request) (books : Books) → HasNumbers books → (c == b) ≡ false → reaches b request ≡ false → state_of b (branch_after rules c request books) ≡ state_of b books
+away_state : (rules : Rules) (b c : ℕ) (request : Request) (books : Books) → HasNumbers books → (c == b) ≡ false
+    → reaches b request ≡ false → state_of b (branch_after rules c request books) ≡ state_of b books
 away_state rules b c (Do command) books has differ other =
-    by_verdict (λ (it : Books). state_of b it ≡ state_of b books) (verdict rules c books.catalogue (shop_of c books) command) (book_done rules c command books) books
-    (λ _. λ i. record { catalogue = catalogue_stays rules c command command.act books i; shop = (done_other rules b c command books has differ ∙ no_arrivals b c command.act books other) i }) refl
+    by_verdict (λ (it : Books). state_of b it ≡ state_of b books)
+    (verdict rules c books.catalogue (shop_of c books) command) (book_done rules c command books) books
+    (λ _.
+    λ i.
+    record {
+      catalogue = catalogue_stays rules c command command.act books i;
+      shop = (done_other rules b c command books has differ ∙ no_arrivals b c command.act books other) i;
+    })
+    refl
 away_state rules b c request books has differ other = refl
 
 -- what an act receives stays
-found_away : (rules : Rules) (c d : ℕ) (k : Act) (l : Command) (act : Act) (books : Books) → (d == c) ≡ false → crosses d c act k ≡ false → ComesSame c k (book_acted rules d l act books).consignments books.consignments
+found_away : (rules : Rules) (c d : ℕ) (k : Act) (l : Command) (act : Act) (books : Books) → (d == c) ≡ false
+    → crosses d c act k ≡ false → ComesSame c k (book_acted rules d l act books).consignments books.consignments
 found_away rules c d (Receive source number missing) l (Dispatch to xs) books differ apart =
     let new = new_consignment d to xs books in
     let back : ((to == c) && (d == source)) ≡ false = ap (λ (test : Bool). (to == c) && test) (turned d source) ∙ apart in
@@ -213,7 +234,9 @@ found_away rules c d (Receive source number missing) l (Dispatch to xs) books di
 found_away rules c d (Receive source number missing) l (Receive s n others) books differ apart =
     ap (flat_map (λ (it : Consignment). arrived missing it.lines))
     (update_away (is_consignment source c number) (is_consignment s d n) (checked others) books.consignments (λ x. refl)
-    (λ x is. missed (x.source == s) (x.addressee == d) (x.number == n) (row_apart c d x.addressee differ (second (x.source == source) (x.addressee == c) (x.number == number) is))))
+    (λ x is.
+    missed (x.source == s) (x.addressee == d) (x.number == n)
+    (row_apart c d x.addressee differ (second (x.source == source) (x.addressee == c) (x.number == number) is))))
 found_away rules c d (Receive source number missing) l act books differ apart = refl
 found_away rules c d k l act books differ apart = tt
 
@@ -230,7 +253,8 @@ count_away rules c d to command act books differ = refl
 -- ---- what an act sends, by the rows of its branch
 
 row_filter : (c x : ℕ) (rows : List (Row BookCopy)) → filter (is_row c x) rows ≡ filter (λ (row : Row BookCopy). row.number == x) (filter (is_of c) rows)
-row_filter c x rows = sym (filter_filter (is_of c) (λ (row : Row BookCopy). row.number == x) rows) ∙ filter_swap (is_of c) (λ (row : Row BookCopy). row.number == x) rows
+row_filter c x rows =
+    sym (filter_filter (is_of c) (λ (row : Row BookCopy). row.number == x) rows) ∙ filter_swap (is_of c) (λ (row : Row BookCopy). row.number == x) rows
 
 rows_same : (c : ℕ) (xs : List ℕ) (one other : List (Row BookCopy)) → filter (is_of c) one ≡ filter (is_of c) other → rows_at c xs one ≡ rows_at c xs other
 rows_same c [] one other own = refl
@@ -238,7 +262,8 @@ rows_same c (x ∷ xs) one other own =
     ap₂ (λ (these rest : List (Row BookCopy)). these ++ rest)
     (row_filter c x one ∙ ap (filter (λ (row : Row BookCopy). row.number == x)) own ∙ sym (row_filter c x other)) (rows_same c xs one other own)
 
-pub news_same : (c : ℕ) (act : Act) (one other : Books) → HasSameRows c one other → ((to : ℕ) → length (between c to one.consignments) ≡ length (between c to other.consignments))
+pub news_same : (c : ℕ) (act : Act) (one other : Books) → HasSameRows c one other
+    → ((to : ℕ) → length (between c to one.consignments) ≡ length (between c to other.consignments))
     → map placeless (news c act one) ≡ map placeless (news c act other)
 news_same c (Dispatch to xs) one other own counts =
     let lines = ap (map (λ (row : Row BookCopy). under_way row.it)) (rows_same c xs one.copies other.copies (own.rows CopyRows)) in
@@ -250,7 +275,8 @@ news_same c act one other own counts = refl
 pub itself : (books : Books) → AreAlike books books
 itself books = record { catalogue = refl; rows = λ b. same_itself b books; sent = λ b. refl }
 
-both_done : (rules : Rules) (c d : ℕ) (k l : Command) (books : Books) → HasNumbers books → (c == d) ≡ false → crosses c d k.act l.act ≡ false → crosses d c l.act k.act ≡ false
+both_done : (rules : Rules) (c d : ℕ) (k l : Command) (books : Books) → HasNumbers books
+    → (c == d) ≡ false → crosses c d k.act l.act ≡ false → crosses d c l.act k.act ≡ false
     → AreAlike (book_done rules d l (book_done rules c k books)) (book_done rules c k (book_done rules d l books))
 both_done rules c d k l books has differ notk notl =
     let back : (d == c) ≡ false = turned d c ∙ differ in
@@ -267,13 +293,19 @@ both_done rules c d k l books has differ notk notl =
     record {
       catalogue = catalogue_stays rules d l l.act x ∙ xs ∙ sym (catalogue_stays rules c k k.act y ∙ ys);
       rows = λ b. elim (cases_Bool (c == b)) [
-        | inl is ↦ of_first (same_if c b is) (same_through c (book_done rules d l x) x (book_done rules c k y) (done_away rules c d l x back) (same_back c (book_done rules c k y) x k_again))
+        | inl is ↦
+            of_first (same_if c b is)
+            (same_through c (book_done rules d l x) x (book_done rules c k y) (done_away rules c d l x back) (same_back c (book_done rules c k y) x k_again))
         | inr isnt ↦ elim (cases_Bool (d == b)) [
-          | inl is ↦ of_first (same_if d b is) (same_through d (book_done rules d l x) y (book_done rules c k y) l_again (same_back d (book_done rules c k y) y (done_away rules d c k y differ)))
+          | inl is ↦
+              of_first (same_if d b is)
+              (same_through d (book_done rules d l x) y (book_done rules c k y) l_again
+              (same_back d (book_done rules c k y) y (done_away rules d c k y differ)))
           | inr other ↦
               same_through b (book_done rules d l x) x (book_done rules c k y) (done_away rules b d l x other)
               (same_through b x books (book_done rules c k y) (done_away rules b c k books isnt)
-              (same_through b books y (book_done rules c k y) (same_back b y books (done_away rules b d l books other)) (same_back b (book_done rules c k y) y (done_away rules b c k y isnt))))
+              (same_through b books y (book_done rules c k y) (same_back b y books (done_away rules b d l books other))
+              (same_back b (book_done rules c k y) y (done_away rules b c k y isnt))))
         ]
       ];
       sent = λ s.
@@ -292,7 +324,8 @@ both_done rules c d k l books has differ notk notl =
     of_first : {one other : Books} {c b : ℕ} → c ≡ b → HasSameRows c one other → HasSameRows b one other
     of_first {one = one} {other = other} e h = subst (λ (n : ℕ). HasSameRows n one other) e h
 
-chosen : (rules : Rules) (c d : ℕ) (k l : Command) (books : Books) (v w : Verdict) → AreAlike (book_done rules d l (book_done rules c k books)) (book_done rules c k (book_done rules d l books))
+chosen : (rules : Rules) (c d : ℕ) (k l : Command) (books : Books) (v w : Verdict)
+    → AreAlike (book_done rules d l (book_done rules c k books)) (book_done rules c k (book_done rules d l books))
     → AreAlike (if_accepted w (book_done rules d l (if_accepted v (book_done rules c k books) books)) (if_accepted v (book_done rules c k books) books))
     (if_accepted v (book_done rules c k (if_accepted w (book_done rules d l books) books)) (if_accepted w (book_done rules d l books) books))
 chosen rules c d k l books Accepted Accepted both = both
@@ -301,7 +334,8 @@ chosen rules c d k l books Accepted (Refused refusal) both = itself (book_done r
 chosen rules c d k l books (Again text) w both = itself (if_accepted w (book_done rules d l books) books)
 chosen rules c d k l books (Refused refusal) w both = itself (if_accepted w (book_done rules d l books) books)
 
-after_both : (rules : Rules) (c d : ℕ) (one other : Request) (books : Books) → HasNumbers books → (c == d) ≡ false → is_awaited c d one other ≡ false → is_awaited d c other one ≡ false
+after_both : (rules : Rules) (c d : ℕ) (one other : Request) (books : Books) → HasNumbers books
+    → (c == d) ≡ false → is_awaited c d one other ≡ false → is_awaited d c other one ≡ false
     → AreAlike (branch_after rules d other (branch_after rules c one books)) (branch_after rules c one (branch_after rules d other books))
 after_both rules c d (Do k) (Do l) books has differ notk notl =
     let back : (d == c) ≡ false = turned d c ∙ differ in
@@ -310,10 +344,14 @@ after_both rules c d (Do k) (Do l) books has differ notk notl =
     let x = branch_after rules c (Do k) books in
     let y = branch_after rules d (Do l) books in
     let vs : v ≡ verdict rules c y.catalogue (shop_of c y) k =
-    by_verdict (λ (it : Books). v ≡ verdict rules c it.catalogue (shop_of c it) k) w (book_done rules d l books) books (λ _. sym (verdict_away rules c d k l books has back notl)) refl in
+    by_verdict (λ (it : Books). v ≡ verdict rules c it.catalogue (shop_of c it) k) w
+    (book_done rules d l books) books (λ _. sym (verdict_away rules c d k l books has back notl)) refl in
     let ws : w ≡ verdict rules d x.catalogue (shop_of d x) l =
-    by_verdict (λ (it : Books). w ≡ verdict rules d it.catalogue (shop_of d it) l) v (book_done rules c k books) books (λ _. sym (verdict_away rules d c l k books has differ notk)) refl in
-    subst (λ (now : Verdict). AreAlike (if_accepted now (book_done rules d l x) x) (if_accepted (verdict rules c y.catalogue (shop_of c y) k) (book_done rules c k y) y)) ws
+    by_verdict (λ (it : Books). w ≡ verdict rules d it.catalogue (shop_of d it) l) v
+    (book_done rules c k books) books (λ _. sym (verdict_away rules d c l k books has differ notk)) refl in
+    subst (λ (now : Verdict).
+    AreAlike (if_accepted now (book_done rules d l x) x) (if_accepted (verdict rules c y.catalogue (shop_of c y) k) (book_done rules c k y) y))
+    ws
     (subst (λ (now : Verdict). AreAlike (if_accepted w (book_done rules d l x) x) (if_accepted now (book_done rules c k y) y)) vs
     (chosen rules c d k l books v w (both_done rules c d k l books has differ notk notl)))
 after_both rules c d (Do k) other books has differ notk notl = itself (branch_after rules c (Do k) books)
@@ -325,13 +363,15 @@ and_true false e = refl
 
 -- a branch's request is answered as before
 told_away : (rules : Rules) (c d : ℕ) (one other : Request) (books : Books) → HasNumbers books → (d == c) ≡ false → is_awaited d c other one ≡ false
-    → reply_to rules c (branch_after rules d other books).catalogue (shop_of c (branch_after rules d other books)) one ≡ reply_to rules c books.catalogue (shop_of c books) one
+    → reply_to rules c (branch_after rules d other books).catalogue (shop_of c (branch_after rules d other books)) one
+    ≡ reply_to rules c books.catalogue (shop_of c books) one
 told_away rules c d (Do k) (Do l) books has differ apart =
     by_verdict (λ (it : Books). reply_to rules c it.catalogue (shop_of c it) (Do k) ≡ reply_to rules c books.catalogue (shop_of c books) (Do k))
     (verdict rules d books.catalogue (shop_of d books) l) (book_done rules d l books) books
     (λ _. ap₂ reply_by (verdict_away rules c d k l books has differ apart) (text_away rules c d k l books has differ apart)) refl
 told_away rules c d (Do k) other books has differ apart = refl
-told_away rules c d one other books has differ apart = ap (λ (s : State). reply_to rules c s.catalogue s.shop one) (away_state rules c d other books has differ (and_true (reaches c other) apart))
+told_away rules c d one other books has differ apart =
+    ap (λ (s : State). reply_to rules c s.catalogue s.shop one) (away_state rules c d other books has differ (and_true (reaches c other) apart))
 
 pub commute : BranchesCommute
 commute rules look c d one other books has differ notk notl =

@@ -1,5 +1,9 @@
 -- The replies to a branch depend on its own shop, the catalogue and its view alone.
-use Rattle.shop_model.proofs.Common.{◌≡◌, inl, inr, ℕ, List, [], ◌∷◌, ◌++◌, false, refl, sym, ap, ◌∙◌, append_assoc, ◌==◌, cases_Bool, Act, Dispatch, OfficeAsk, Rules, verdict, office_verdict, Reply, State, Request, Do, Office, Input, FromOffice, Own, done, office_done, if_accepted, moved, answers, replies, state_after, Books, Caller, Counter, HeadOffice, Nobody, shop_of, state_of, book_done, branch_after, after_for, after, reply_for, reply_in, caller_in, is_counter, replies_to, run, parcel_seen, other_seen, office_seen, seen_of, view, HasNumbers, BranchesAreAlone, BranchesAreIsolated}
+use Rattle.shop_model.proofs.Common.{◌≡◌, inl, inr, ℕ, List, [], ◌∷◌, ◌++◌, false, refl, sym, ap, ◌∙◌, append_assoc, ◌==◌, cases_Bool, Act, Dispatch, OfficeAsk}
+use Rattle.shop_model.proofs.Common.{Rules, verdict, office_verdict, Reply, State, Request, Do, Office, Input, FromOffice, Own, done, office_done, if_accepted}
+use Rattle.shop_model.proofs.Common.{moved, answers, replies, state_after, Books, Caller, Counter, HeadOffice, Nobody, shop_of, state_of, book_done}
+use Rattle.shop_model.proofs.Common.{branch_after, after_for, after, reply_for, reply_in, caller_in, is_counter, replies_to, run, parcel_seen, other_seen}
+use Rattle.shop_model.proofs.Common.{office_seen, seen_of, view, HasNumbers, BranchesAreAlone, BranchesAreIsolated}
 use Rattle.shop_model.proofs.RowLemmas.{same_if}
 use Rattle.shop_model.proofs.ShopLemmas.{done_other, with_arrivals}
 use Rattle.shop_model.proofs.ActLaws.{done_own}
@@ -11,7 +15,9 @@ use Rattle.shop_model.proofs.Accepted.{act_holds, not_self, catalogue_stays}
 
 -- ---- one event
 
-parcel_state : (rules : Rules) (b c : ℕ) (act : Act) (books : Books) → ◌≡◌ {A = State} (record { catalogue = books.catalogue; shop = with_arrivals b c act books }) (state_after rules b (parcel_seen b c act books) (state_of b books))
+parcel_state : (rules : Rules) (b c : ℕ) (act : Act) (books : Books)
+    → ◌≡◌ {A = State} (record { catalogue = books.catalogue; shop = with_arrivals b c act books })
+    (state_after rules b (parcel_seen b c act books) (state_of b books))
 parcel_state rules b c (Dispatch to xs) books = elim (cases_Bool (to == b)) [ inl is ↦ rw is | inr isnt ↦ rw isnt ]
 parcel_state rules b c act books = refl
 
@@ -20,14 +26,19 @@ parcel_replies rules b c (Dispatch to xs) books = elim (cases_Bool (to == b)) [ 
 parcel_replies rules b c act books = refl
 
 -- the books after b's own request, as b's machine
-own_state : (rules : Rules) (b : ℕ) (request : Request) (books : Books) → HasNumbers books → state_of b (branch_after rules b request books) ≡ moved rules b (Own request) (state_of b books)
+own_state : (rules : Rules) (b : ℕ) (request : Request) (books : Books) → HasNumbers books
+    → state_of b (branch_after rules b request books) ≡ moved rules b (Own request) (state_of b books)
 own_state rules b (Do command) books has =
     let shop = shop_of b books in
-    by_cases (λ v. ◌≡◌ {A = State} (state_of b (if_accepted v (book_done rules b command books) books)) (record { catalogue = books.catalogue; shop = if_accepted v (done rules books.catalogue command shop) shop }))
+    by_cases (λ v.
+    ◌≡◌ {A = State} (state_of b (if_accepted v (book_done rules b command books) books))
+    (record { catalogue = books.catalogue; shop = if_accepted v (done rules books.catalogue command shop) shop }))
     (verdict rules b books.catalogue shop command)
     (λ e i. record {
       catalogue = catalogue_stays rules b command command.act books i;
-      shop = done_own rules b command books has (not_self rules b books.catalogue shop command.moment command.act (act_holds rules b books.catalogue shop command e)) i;
+      shop =
+          done_own rules b command books has
+          (not_self rules b books.catalogue shop command.moment command.act (act_holds rules b books.catalogue shop command e)) i;
     })
     (λ _ _. refl) (λ _. refl)
 own_state rules b request books has = refl
@@ -36,18 +47,24 @@ own_state rules b request books has = refl
 other_state : (rules : Rules) (b c : ℕ) (request : Request) (books : Books) → HasNumbers books → (c == b) ≡ false
     → state_of b (branch_after rules c request books) ≡ state_after rules b (other_seen rules b c request books) (state_of b books)
 other_state rules b c (Do command) books has differ =
-    by_cases (λ v. state_of b (if_accepted v (book_done rules c command books) books) ≡ state_after rules b (if_accepted v (parcel_seen b c command.act books) []) (state_of b books))
+    by_cases (λ v.
+    state_of b (if_accepted v (book_done rules c command books) books)
+    ≡ state_after rules b (if_accepted v (parcel_seen b c command.act books) []) (state_of b books))
     (verdict rules c books.catalogue (shop_of c books) command)
-    (λ _. (λ i. record { catalogue = catalogue_stays rules c command command.act books i; shop = done_other rules b c command books has differ i }) ∙ parcel_state rules b c command.act books)
+    (λ _.
+    (λ i. record { catalogue = catalogue_stays rules c command command.act books i; shop = done_other rules b c command books has differ i })
+    ∙ parcel_state rules b c command.act books)
     (λ _ _. refl) (λ _. refl)
 other_state rules b c request books has differ = refl
 
 other_replies : (rules : Rules) (b c : ℕ) (request : Request) (books : Books) → replies rules b (other_seen rules b c request books) (state_of b books) ≡ []
 other_replies rules b c (Do command) books =
-    by_verdict (λ inputs. replies rules b inputs (state_of b books) ≡ []) (verdict rules c books.catalogue (shop_of c books) command) (parcel_seen b c command.act books) [] (λ _. parcel_replies rules b c command.act books) refl
+    by_verdict (λ inputs. replies rules b inputs (state_of b books) ≡ []) (verdict rules c books.catalogue (shop_of c books) command)
+    (parcel_seen b c command.act books) [] (λ _. parcel_replies rules b c command.act books) refl
 other_replies rules b c request books = refl
 
-office_state : (rules : Rules) (b : ℕ) (request : Request) (books : Books) → state_of b (after_for rules HeadOffice request books) ≡ state_after rules b (office_seen rules request books) (state_of b books)
+office_state : (rules : Rules) (b : ℕ) (request : Request) (books : Books)
+    → state_of b (after_for rules HeadOffice request books) ≡ state_after rules b (office_seen rules request books) (state_of b books)
 office_state rules b (Office command) books =
     by_cases (λ v. ◌≡◌ {A = State} (record { catalogue = if_accepted v (office_done command books.catalogue) books.catalogue; shop = shop_of b books })
     (state_after rules b (if_accepted v (FromOffice command ∷ []) []) (state_of b books)))
@@ -56,7 +73,8 @@ office_state rules b request books = refl
 
 office_replies : (rules : Rules) (b : ℕ) (request : Request) (books : Books) → replies rules b (office_seen rules request books) (state_of b books) ≡ []
 office_replies rules b (Office command) books =
-    by_verdict (λ inputs. replies rules b inputs (state_of b books) ≡ []) (office_verdict rules books.catalogue command) (FromOffice command ∷ []) [] (λ _. refl) refl
+    by_verdict (λ inputs. replies rules b inputs (state_of b books) ≡ [])
+    (office_verdict rules books.catalogue command) (FromOffice command ∷ []) [] (λ _. refl) refl
 office_replies rules b request books = refl
 
 one_state : (rules : Rules) (b : ℕ) (caller : Caller) (request : Request) (books : Books) → HasNumbers books
@@ -79,11 +97,14 @@ one_reply rules look b Nobody request books = refl
 
 -- ---- runs
 
-replies-append : (rules : Rules) (b : ℕ) (xs ys : List Input) (s : State) → replies rules b (xs ++ ys) s ≡ replies rules b xs s ++ replies rules b ys (state_after rules b xs s)
+replies-append : (rules : Rules) (b : ℕ) (xs ys : List Input) (s : State)
+    → replies rules b (xs ++ ys) s ≡ replies rules b xs s ++ replies rules b ys (state_after rules b xs s)
 replies-append rules b [] ys s = refl
-replies-append rules b (x ∷ xs) ys s = rw (replies-append rules b xs ys (moved rules b x s)) (sym (append_assoc (answers rules b x s) (replies rules b xs (moved rules b x s)) _))
+replies-append rules b (x ∷ xs) ys s =
+    rw (replies-append rules b xs ys (moved rules b x s)) (sym (append_assoc (answers rules b x s) (replies rules b xs (moved rules b x s)) _))
 
-state_after-append : (rules : Rules) (b : ℕ) (xs ys : List Input) (s : State) → state_after rules b (xs ++ ys) s ≡ state_after rules b ys (state_after rules b xs s)
+state_after-append : (rules : Rules) (b : ℕ) (xs ys : List Input) (s : State)
+    → state_after rules b (xs ++ ys) s ≡ state_after rules b ys (state_after rules b xs s)
 state_after-append rules b [] ys s = refl
 state_after-append rules b (x ∷ xs) ys s = state_after-append rules b xs ys (moved rules b x s)
 

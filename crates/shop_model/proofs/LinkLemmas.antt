@@ -1,5 +1,7 @@
 -- Rows that are there stay there.
-use Rattle.shop_model.proofs.Common.{◌≡◌, ◌≢◌, inl, inr, ℕ, ◌+◌, ◌-◌, List, [], ◌∷◌, ◌++◌, filter, map, length, Bool, true, false, not, refl, sym, ap, ◌∙◌, arith, ◌==◌, ◌&&◌, ◌||◌, flat_map, list_any, list_all, cases_Bool, or_parts, and_parts, not-true, false≢true, at, lacks, set_at, set_all, set_among, numbered_from, mem, has_row, are_different, is_empty, not-false, true≢false}
+use Rattle.shop_model.proofs.Common.{◌≡◌, ◌≢◌, inl, inr, ℕ, ◌+◌, ◌-◌, List, [], ◌∷◌, ◌++◌, filter, map, length, Bool, true, false, not, refl, sym, ap, ◌∙◌}
+use Rattle.shop_model.proofs.Common.{arith, ◌==◌, ◌&&◌, ◌||◌, flat_map, list_any, list_all, cases_Bool, or_parts, and_parts, not-true, false≢true, at, lacks}
+use Rattle.shop_model.proofs.Common.{set_at, set_all, set_among, numbered_from, mem, has_row, are_different, is_empty, not-false, true≢false}
 use mathlib.Core.Path.{fun_ext}
 use Rattle.std.proofs.lemmas.List.Folds.{list_all-append, list_any-append}
 use Rattle.shop_model.proofs.RowLemmas.{same_if, differ_if, differ_test}
@@ -13,7 +15,8 @@ any_at_more p n (x ∷ xs) ys some = elim (cases_Bool (n == 1)) [
   | inr isnt ↦ rw isnt (any_at_more p (n - 1) xs ys (rw isnt at some))
 ]
 
-pub any_at_set : {A : Type 0} (p : A → Bool) (n m : ℕ) (f : A → A) (xs : List A) → ((x : A) → p (f x) ≡ p x) → list_any p (at n (set_at m f xs)) ≡ list_any p (at n xs)
+pub any_at_set : {A : Type 0} (p : A → Bool) (n m : ℕ) (f : A → A) (xs : List A)
+    → ((x : A) → p (f x) ≡ p x) → list_any p (at n (set_at m f xs)) ≡ list_any p (at n xs)
 any_at_set p n m f [] same = refl
 any_at_set p n m f (x ∷ xs) same = elim (cases_Bool (m == 1)) [
   | inl hit ↦ elim (cases_Bool (n == 1)) [ inl is ↦ rw (hit, is, same x) | inr isnt ↦ rw (hit, isnt) ]
@@ -65,13 +68,15 @@ at_set_other x y f (it ∷ xs) differ = elim (cases_Bool (x == 1)) [
   | inl hit ↦ let miss : (y == 1) ≡ false = differ_test y 1 (λ e. differ (same_if x 1 hit ∙ sym e)) in rw (hit, miss)
   | inr nothit ↦ elim (cases_Bool (y == 1)) [
     | inl there ↦ rw (nothit, there)
-    | inr away ↦ let d = differ_if x 1 nothit in let e = differ_if y 1 away in rw (nothit, away) (at_set_other (x - 1) (y - 1) f xs (λ h. one_less x y d e differ h))
+    | inr away ↦
+        let d = differ_if x 1 nothit in let e = differ_if y 1 away in rw (nothit, away) (at_set_other (x - 1) (y - 1) f xs (λ h. one_less x y d e differ h))
   ]
 ] where
   one_less : (x y : ℕ) → x ≢ 1 → y ≢ 1 → x ≢ y → x - 1 ≡ y - 1 → ⊥
   one_less x y d e differ h = grind (arith, d, e, differ, h)
 
-pub all_at_set : {A : Type 0} (p : A → Bool) (n m : ℕ) (f : A → A) (xs : List A) → list_all p (at n xs) ≡ true → (n ≡ m → (x : A) → p x ≡ true → p (f x) ≡ true) → list_all p (at n (set_at m f xs)) ≡ true
+pub all_at_set : {A : Type 0} (p : A → Bool) (n m : ℕ) (f : A → A) (xs : List A) → list_all p (at n xs) ≡ true
+    → (n ≡ m → (x : A) → p x ≡ true → p (f x) ≡ true) → list_all p (at n (set_at m f xs)) ≡ true
 all_at_set {A = A} p n m f xs all new = elim (cases_Bool (m == n)) [
   | inr other ↦ rw (at_set_other m n f xs (differ_if m n other)) all
   | inl same ↦ rw (same_if m n same) (here n xs all (λ x is. new (sym (same_if m n same)) x is))
@@ -85,18 +90,21 @@ all_at_set {A = A} p n m f xs all new = elim (cases_Bool (m == n)) [
 
 -- ---- lists
 
-pub all_set : {A : Type 0} (p : A → Bool) (n : ℕ) (f : A → A) (xs : List A) → list_all p xs ≡ true → ((x : A) → p x ≡ true → p (f x) ≡ true) → list_all p (set_at n f xs) ≡ true
+pub all_set : {A : Type 0} (p : A → Bool) (n : ℕ) (f : A → A) (xs : List A) → list_all p xs ≡ true
+    → ((x : A) → p x ≡ true → p (f x) ≡ true) → list_all p (set_at n f xs) ≡ true
 all_set p n f [] all keeps = refl
 all_set p n f (x ∷ xs) all keeps = let h = and_parts (p x) (list_all p xs) all in elim (cases_Bool (n == 1)) [
   | inl is ↦ rw (is, keeps x h.0) h.1
   | inr isnt ↦ rw (isnt, h.0) (all_set p (n - 1) f xs h.1 keeps)
 ]
 
-pub all_set_all : {A : Type 0} (p : A → Bool) (ns : List ℕ) (f : A → A) (xs : List A) → list_all p xs ≡ true → ((x : A) → p x ≡ true → p (f x) ≡ true) → list_all p (set_all ns f xs) ≡ true
+pub all_set_all : {A : Type 0} (p : A → Bool) (ns : List ℕ) (f : A → A) (xs : List A)
+    → list_all p xs ≡ true → ((x : A) → p x ≡ true → p (f x) ≡ true) → list_all p (set_all ns f xs) ≡ true
 all_set_all p [] f xs all keeps = all
 all_set_all p (n ∷ ns) f xs all keeps = all_set_all p ns f (set_at n f xs) (all_set p n f xs all keeps) keeps
 
-pub all_set_among : {A : Type 0} (p q : A → Bool) (n : ℕ) (f : A → A) (xs : List A) → list_all p xs ≡ true → ((x : A) → p (f x) ≡ p x) → list_all p (set_among q n f xs) ≡ true
+pub all_set_among : {A : Type 0} (p q : A → Bool) (n : ℕ) (f : A → A) (xs : List A)
+    → list_all p xs ≡ true → ((x : A) → p (f x) ≡ p x) → list_all p (set_among q n f xs) ≡ true
 all_set_among p q n f [] all keeps = refl
 all_set_among p q n f (x ∷ xs) all keeps = let h = and_parts (p x) (list_all p xs) all in elim (cases_Bool (q x)) [
   | inr other ↦ rw (other, h.0) (all_set_among p q n f xs h.1 keeps)
@@ -106,13 +114,16 @@ all_set_among p q n f (x ∷ xs) all keeps = let h = and_parts (p x) (list_all p
   ]
 ]
 
-pub all_mapped : {A B : Type 0} (p : B → Bool) (q : A → Bool) (f : A → B) (xs : List A) → ((x : A) → q x ≡ true → p (f x) ≡ true) → list_all q xs ≡ true → list_all p (map f xs) ≡ true
+pub all_mapped : {A B : Type 0} (p : B → Bool) (q : A → Bool) (f : A → B) (xs : List A)
+    → ((x : A) → q x ≡ true → p (f x) ≡ true) → list_all q xs ≡ true → list_all p (map f xs) ≡ true
 all_mapped p q f [] shows all = refl
 all_mapped p q f (x ∷ xs) shows all = let h = and_parts (q x) (list_all q xs) all in rw (shows x h.0) (all_mapped p q f xs shows h.1)
 
-pub all_joined : {A B : Type 0} (p : B → Bool) (q : A → Bool) (f : A → List B) (xs : List A) → ((x : A) → q x ≡ true → list_all p (f x) ≡ true) → list_all q xs ≡ true → list_all p (flat_map f xs) ≡ true
+pub all_joined : {A B : Type 0} (p : B → Bool) (q : A → Bool) (f : A → List B) (xs : List A)
+    → ((x : A) → q x ≡ true → list_all p (f x) ≡ true) → list_all q xs ≡ true → list_all p (flat_map f xs) ≡ true
 all_joined p q f [] shows all = refl
-all_joined p q f (x ∷ xs) shows all = let h = and_parts (q x) (list_all q xs) all in rw (list_all-append p (f x) (flat_map f xs), shows x h.0) (all_joined p q f xs shows h.1)
+all_joined p q f (x ∷ xs) shows all =
+    let h = and_parts (q x) (list_all q xs) all in rw (list_all-append p (f x) (flat_map f xs), shows x h.0) (all_joined p q f xs shows h.1)
 
 -- where there is a row, and none that doesn't pass, one does
 pub some_passes : {A : Type 0} (p : A → Bool) (rows : List A) → is_empty rows ≡ false → list_any (λ x. not (p x)) rows ≡ false → list_any p rows ≡ true
@@ -123,7 +134,8 @@ pub none_lacks : {A : Type 0} (rows : List A) (ns : List ℕ) → list_any (lack
 none_lacks rows [] none = refl
 none_lacks rows (n ∷ ns) none = let h = or_parts (lacks rows n) (list_any (lacks rows) ns) none in rw h.0 (none_lacks rows ns h.1)
 
-pub all_arrived : {A : Type 0} (p : A → Bool) (missing : List ℕ) (k : ℕ) (xs : List A) → list_all p xs ≡ true → list_all p (map (λ it. it.1) (filter (λ it. not (mem it.0 missing)) (numbered_from k xs))) ≡ true
+pub all_arrived : {A : Type 0} (p : A → Bool) (missing : List ℕ) (k : ℕ) (xs : List A) → list_all p xs ≡ true
+    → list_all p (map (λ it. it.1) (filter (λ it. not (mem it.0 missing)) (numbered_from k xs))) ≡ true
 all_arrived p missing k [] all = refl
 all_arrived p missing k (x ∷ xs) all = let h = and_parts (p x) (list_all p xs) all in elim (cases_Bool (mem k missing)) [
   | inl gone ↦ rw gone (all_arrived p missing (k + 1) xs h.1)
@@ -135,14 +147,16 @@ pub any_same : {A : Type 0} (p q : A → Bool) (xs : List A) → ((x : A) → p 
 any_same p q xs e = ap (λ test. list_any test xs) (fun_ext e)
 
 -- one more that is like none before
-pub different_more : {A : Type 0} (same : A → A → Bool) (xs : List A) (x : A) → are_different same xs ≡ true → list_any (λ y. same y x) xs ≡ false → are_different same (xs ++ x ∷ []) ≡ true
+pub different_more : {A : Type 0} (same : A → A → Bool) (xs : List A) (x : A) → are_different same xs ≡ true
+    → list_any (λ y. same y x) xs ≡ false → are_different same (xs ++ x ∷ []) ≡ true
 different_more same [] x all none = refl
 different_more {A = A} same (y ∷ ys) x all none =
     let h = and_parts (not (list_any (same y) ys)) (are_different same ys) all in
     let n = or_parts (same y x) (list_any (λ y. same y x) ys) none in
     rw (list_any-append (same y) ys (x ∷ []), not-true _ h.0, n.0) (different_more same ys x h.1 n.1)
 
-pub different_set : {A : Type 0} (same : A → A → Bool) (n : ℕ) (f : A → A) (xs : List A) → ((x y : A) → same x (f y) ≡ same x y) → ((x y : A) → same (f x) y ≡ same x y) → are_different same (set_at n f xs) ≡ are_different same xs
+pub different_set : {A : Type 0} (same : A → A → Bool) (n : ℕ) (f : A → A) (xs : List A) → ((x y : A) → same x (f y) ≡ same x y)
+    → ((x y : A) → same (f x) y ≡ same x y) → are_different same (set_at n f xs) ≡ are_different same xs
 different_set same n f [] later earlier = refl
 different_set {A = A} same n f (x ∷ xs) later earlier = elim (cases_Bool (n == 1)) [
   | inl is ↦ rw is (ap (λ a. not a && are_different same xs) (any_same (same (f x)) (same x) xs (earlier x)))

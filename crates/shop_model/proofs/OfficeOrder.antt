@@ -1,5 +1,13 @@
 -- A branch's command and one of head office that it doesn't read may change places.
-use Rattle.shop_model.proofs.Common.{◌≡◌, ℕ, List, [], ◌∷◌, ◌++◌, length, filter, map, Bool, true, false, not, None, Some, refl, sym, ap, ap₂, subst, ◌∙◌, ◌==◌, ◌||◌, nat_lt, list_any, true≢false, false≢true, ⊤, at, lacks, is_empty, has_double, bytes_eq, Moment, Film, Staff, Terms, Branch, Act, AddCustomer, Rent, Import, Dispatch, Command, OfficeAct, AddCity, AddFilm, PriceFilm, WithdrawFilm, AddBranch, AddStaff, StaffLeaves, SetManager, OfficeCommand, Stock, Copies, BadLine, Rules, Refusal, Full, MomentBack, NoStaff, NoCopy, CopyNotHere, CopyOut, NoBranch, OwnBranch, BadLines, FilmWithdrawn, NoFilm, LotIn, Kept, OfficeKept, Catalogue, Shop, in_stock, is_away, terms_now, act_refusals, import_refusals, is_film_withdrawn, is_full, is_before, staff_is, verdict, office_verdict, Verdict, first, resent, reply_text, Request, Do, Office, reply_by, if_accepted, office_acted, office_done, catalogue_after, office_text, Books, Counter, HeadOffice, Put, Rentals, TermRows, all_edited, shop_of, book_acted, book_done, set_last, after_for, set_at}
+use Rattle.shop_model.proofs.Common.{◌≡◌, ℕ, List, [], ◌∷◌, ◌++◌, length, filter, map, Bool, true, false, not, None, Some, refl, sym, ap, ap₂, subst, ◌∙◌, ◌==◌}
+use Rattle.shop_model.proofs.Common.{◌||◌, nat_lt, list_any, true≢false, false≢true, ⊤, at, lacks, is_empty, has_double, bytes_eq, Moment, Film, Staff, Terms}
+use Rattle.shop_model.proofs.Common.{Branch, Act, AddCustomer, Rent, Import, Dispatch, Command, OfficeAct, AddCity, AddFilm, PriceFilm, WithdrawFilm, AddBranch}
+use Rattle.shop_model.proofs.Common.{AddStaff, StaffLeaves, SetManager, OfficeCommand, Stock, Copies, BadLine, Rules, Refusal, Full, MomentBack, NoStaff}
+use Rattle.shop_model.proofs.Common.{NoCopy, CopyNotHere, CopyOut, NoBranch, OwnBranch, BadLines, FilmWithdrawn, NoFilm, LotIn, Kept, OfficeKept, Catalogue}
+use Rattle.shop_model.proofs.Common.{Shop, in_stock, is_away, terms_now, act_refusals, import_refusals, is_film_withdrawn, is_full, is_before, staff_is}
+use Rattle.shop_model.proofs.Common.{verdict, office_verdict, Verdict, first, resent, reply_text, Request, Do, Office, reply_by, if_accepted, office_acted}
+use Rattle.shop_model.proofs.Common.{office_done, catalogue_after, office_text, Books, Counter, HeadOffice, Put, Rentals, TermRows, all_edited, shop_of}
+use Rattle.shop_model.proofs.Common.{book_acted, book_done, set_last, after_for, set_at}
 use Rattle.shop_model.specs.Values.{NewCustomer, City}
 use Rattle.shop_model.specs.Interleaved.{AreAlike, reads, OfficeCommutes}
 use Rattle.shop_model.proofs.SameStates.{by_cases, by_verdict}
@@ -9,7 +17,8 @@ use Rattle.shop_model.proofs.Interleaved.{itself}
 
 -- ---- what a branch's act reads stays
 
-cities_stay : (office : OfficeAct) (it : NewCustomer) (catalogue : Catalogue) → reads office (AddCustomer it) ≡ false → (office_acted office catalogue).cities ≡ catalogue.cities
+cities_stay : (office : OfficeAct) (it : NewCustomer) (catalogue : Catalogue)
+    → reads office (AddCustomer it) ≡ false → (office_acted office catalogue).cities ≡ catalogue.cities
 cities_stay (AddCity city) it catalogue unread = absurd (true≢false unread)
 cities_stay office it catalogue unread = refl
 
@@ -33,16 +42,19 @@ withdrawn_stays : (office : OfficeAct) (lot file : List ℕ) (catalogue : Catalo
     → list_any (λ (f : Film). f.withdrawn) (at film (office_acted office catalogue).films) ≡ list_any (λ (f : Film). f.withdrawn) (at film catalogue.films)
 withdrawn_stays (AddFilm new) lot file catalogue unread film = absurd (true≢false unread)
 withdrawn_stays (WithdrawFilm f) lot file catalogue unread film = absurd (true≢false unread)
-withdrawn_stays (PriceFilm f rate) lot file catalogue unread film = any_at_set (λ (it : Film). it.withdrawn) film f (λ (it : Film). record it { rate = rate }) catalogue.films (λ x. refl)
+withdrawn_stays (PriceFilm f rate) lot file catalogue unread film =
+    any_at_set (λ (it : Film). it.withdrawn) film f (λ (it : Film). record it { rate = rate }) catalogue.films (λ x. refl)
 withdrawn_stays office lot file catalogue unread film = refl
 
-film_lacks : (office : OfficeAct) (lot file : List ℕ) (catalogue : Catalogue) → reads office (Import lot file) ≡ false → (film : ℕ) → lacks (office_acted office catalogue).films film ≡ lacks catalogue.films film
+film_lacks : (office : OfficeAct) (lot file : List ℕ) (catalogue : Catalogue) → reads office (Import lot file) ≡ false
+    → (film : ℕ) → lacks (office_acted office catalogue).films film ≡ lacks catalogue.films film
 film_lacks (AddFilm new) lot file catalogue unread film = absurd (true≢false unread)
 film_lacks (WithdrawFilm f) lot file catalogue unread film = absurd (true≢false unread)
 film_lacks (PriceFilm f rate) lot file catalogue unread film = lacks_set film f (λ (it : Film). record it { rate = rate }) catalogue.films
 film_lacks office lot file catalogue unread film = refl
 
-branch_lacks : (office : OfficeAct) (to : ℕ) (xs : List ℕ) (catalogue : Catalogue) → reads office (Dispatch to xs) ≡ false → lacks (office_acted office catalogue).branches to ≡ lacks catalogue.branches to
+branch_lacks : (office : OfficeAct) (to : ℕ) (xs : List ℕ) (catalogue : Catalogue) → reads office (Dispatch to xs) ≡ false
+    → lacks (office_acted office catalogue).branches to ≡ lacks catalogue.branches to
 branch_lacks (AddBranch branch) to xs catalogue unread = absurd (true≢false unread)
 branch_lacks (SetManager b s) to xs catalogue unread = lacks_set to b (λ (it : Branch). record it { manager = Some s }) catalogue.branches
 branch_lacks office to xs catalogue unread = refl
@@ -57,7 +69,8 @@ staff_stay office act catalogue unread = refl
 abbrev acted_on : OfficeAct → List OfficeKept → Catalogue → Catalogue
 acted_on office kept catalogue = record (office_acted office catalogue) { kept = kept }
 
-import_stays : (office : OfficeAct) (kept : List OfficeKept) (catalogue : Catalogue) (shop : Shop) (lot file : List ℕ) (stock : Stock) → reads office (Import lot file) ≡ false
+import_stays : (office : OfficeAct) (kept : List OfficeKept) (catalogue : Catalogue) (shop : Shop) (lot file : List ℕ) (stock : Stock)
+    → reads office (Import lot file) ≡ false
     → import_refusals (acted_on office kept catalogue) shop lot stock ≡ import_refusals catalogue shop lot stock
 import_stays office kept catalogue shop lot file (Copies films) unread =
     ap₂ (λ (gone none : Bool). (FilmWithdrawn, gone) ∷ (NoFilm, none) ∷ (LotIn, list_any (bytes_eq lot) shop.lots) ∷ [])
@@ -65,10 +78,12 @@ import_stays office kept catalogue shop lot file (Copies films) unread =
     (any_same (lacks (office_acted office catalogue).films) (lacks catalogue.films) films (film_lacks office lot file catalogue unread))
 import_stays office kept catalogue shop lot file (BadLine line) unread = refl
 
-acts_stay : (rules : Rules) (b : ℕ) (moment : Moment) (office : OfficeAct) (act : Act) (kept : List OfficeKept) (catalogue : Catalogue) (shop : Shop) → reads office act ≡ false
+acts_stay : (rules : Rules) (b : ℕ) (moment : Moment) (office : OfficeAct) (act : Act) (kept : List OfficeKept) (catalogue : Catalogue) (shop : Shop)
+    → reads office act ≡ false
     → act_refusals rules b (acted_on office kept catalogue) shop moment act ≡ act_refusals rules b catalogue shop moment act
 acts_stay rules b moment office (AddCustomer it) kept catalogue shop unread =
-    ap (λ (cities : List City). act_refusals rules b (record catalogue { cities = cities }) shop moment (AddCustomer it)) (cities_stay office it catalogue unread)
+    ap (λ (cities : List City). act_refusals rules b (record catalogue { cities = cities }) shop moment (AddCustomer it))
+    (cities_stay office it catalogue unread)
 acts_stay rules b moment office (Rent c x) kept catalogue shop unread =
     ap (λ (films : List Film). act_refusals rules b (record catalogue { films = films }) shop moment (Rent c x)) (films_stay office c x catalogue unread)
 acts_stay rules b moment office (Import lot file) kept catalogue shop unread = import_stays office kept catalogue shop lot file (rules.stock_of file) unread
@@ -98,8 +113,10 @@ abbrev HasSameTerms : Act → Catalogue → Catalogue → Shop → Type 0
 HasSameTerms (Rent c x) now catalogue shop = terms_now now shop x ≡ terms_now catalogue shop x
 HasSameTerms act now catalogue shop = ⊤
 
-terms_stay : (act : Act) (office : OfficeAct) (kept : List OfficeKept) (catalogue : Catalogue) (shop : Shop) → reads office act ≡ false → HasSameTerms act (acted_on office kept catalogue) catalogue shop
-terms_stay (Rent c x) office kept catalogue shop unread = ap (λ (films : List Film). terms_now (record catalogue { films = films }) shop x) (films_stay office c x catalogue unread)
+terms_stay : (act : Act) (office : OfficeAct) (kept : List OfficeKept) (catalogue : Catalogue) (shop : Shop)
+    → reads office act ≡ false → HasSameTerms act (acted_on office kept catalogue) catalogue shop
+terms_stay (Rent c x) office kept catalogue shop unread =
+    ap (λ (films : List Film). terms_now (record catalogue { films = films }) shop x) (films_stay office c x catalogue unread)
 terms_stay act office kept catalogue shop unread = tt
 
 abbrev with_shared : Catalogue → Books → Books
@@ -109,7 +126,10 @@ acted_with : (rules : Rules) (b : ℕ) (k : Command) (act : Act) (now : Catalogu
     → book_acted rules b k act (with_shared now books) ≡ with_shared now (book_acted rules b k act books)
 acted_with rules b k (Rent c x) now books same =
     ap (λ (its : List Terms). all_edited b
-    (Put Rentals ((λ _. record { rented = k.moment; copy = x; customer = c; returned = None; staff = k.staff }) ∷ []) ∷ Put TermRows (map (λ it _. it) its) ∷ []) (with_shared now books)) same
+    (Put Rentals ((λ _. record { rented = k.moment; copy = x; customer = c; returned = None; staff = k.staff }) ∷ [])
+    ∷ Put TermRows (map (λ it _. it) its) ∷ [])
+    (with_shared now books))
+    same
 acted_with rules b k act now books same = refl
 
 done_with : (rules : Rules) (b : ℕ) (k : Command) (now : Catalogue) (books : Books) → HasSameTerms k.act now books.catalogue (shop_of b books)
@@ -124,12 +144,14 @@ done_with rules b k now books same =
 
 pub branch_keeps : (rules : Rules) (b : ℕ) (request : Request) (books : Books) → (after_for rules (Counter b) request books).catalogue ≡ books.catalogue
 branch_keeps rules b (Do command) books =
-    by_verdict (λ (it : Books). it.catalogue ≡ books.catalogue) (verdict rules b books.catalogue (shop_of b books) command) (book_done rules b command books) books
+    by_verdict (λ (it : Books). it.catalogue ≡ books.catalogue)
+    (verdict rules b books.catalogue (shop_of b books) command) (book_done rules b command books) books
     (λ _. catalogue_stays rules b command command.act books) refl
 branch_keeps rules b request books = refl
 
 both_orders : (rules : Rules) (b : ℕ) (k : Command) (office : OfficeCommand) (books : Books) → reads office.act k.act ≡ false
-    → after_for rules HeadOffice (Office office) (after_for rules (Counter b) (Do k) books) ≡ after_for rules (Counter b) (Do k) (after_for rules HeadOffice (Office office) books)
+    → after_for rules HeadOffice (Office office) (after_for rules (Counter b) (Do k) books)
+    ≡ after_for rules (Counter b) (Do k) (after_for rules HeadOffice (Office office) books)
 both_orders rules b k office books unread =
     let shop = shop_of b books in
     let old = books.catalogue in
@@ -137,13 +159,18 @@ both_orders rules b k office books unread =
     let now = catalogue_after rules office old in
     let v = verdict rules b old shop k in
     let same : verdict rules b now shop k ≡ v =
-    by_verdict (λ (it : Catalogue). verdict rules b it shop k ≡ v) (office_verdict rules old office) (office_done office old) old (λ _. verdict_stays rules b k office old shop unread) refl in
+    by_verdict (λ (it : Catalogue). verdict rules b it shop k ≡ v) (office_verdict rules old office)
+    (office_done office old) old (λ _. verdict_stays rules b k office old shop unread) refl in
     let done : book_done rules b k (with_shared now books) ≡ with_shared now (book_done rules b k books) =
-    by_verdict (λ (it : Catalogue). book_done rules b k (with_shared it books) ≡ with_shared it (book_done rules b k books)) (office_verdict rules old office) (office_done office old) old
+    by_verdict (λ (it : Catalogue). book_done rules b k (with_shared it books) ≡ with_shared it (book_done rules b k books))
+    (office_verdict rules old office) (office_done office old) old
     (λ _. done_with rules b k (office_done office old) books (terms_stay k.act office.act (office_done office old).kept old shop unread))
     (done_with rules b k old books (itself_terms k.act old shop)) in
     ap (λ (it : Catalogue). with_shared (catalogue_after rules office it) x) (branch_keeps rules b (Do k) books)
-    ∙ by_cases (λ it. with_shared now (if_accepted it (book_done rules b k books) books) ≡ if_accepted it (book_done rules b k (with_shared now books)) (with_shared now books)) v
+    ∙ by_cases (λ it.
+    with_shared now (if_accepted it (book_done rules b k books) books)
+    ≡ if_accepted it (book_done rules b k (with_shared now books)) (with_shared now books))
+    v
     (λ _. sym done) (λ _ _. refl) (λ _. refl)
     ∙ ap (λ (it : Verdict). if_accepted it (book_done rules b k (with_shared now books)) (with_shared now books)) (sym same)
   where
@@ -156,10 +183,13 @@ office_commutes rules look b k office books unread =
     let old = books.catalogue in
     let x = after_for rules (Counter b) (Do k) books in
     let same : verdict rules b (catalogue_after rules office old) (shop_of b books) k ≡ verdict rules b old (shop_of b books) k =
-    by_verdict (λ (it : Catalogue). verdict rules b it (shop_of b books) k ≡ verdict rules b old (shop_of b books) k) (office_verdict rules old office) (office_done office old) old
+    by_verdict (λ (it : Catalogue). verdict rules b it (shop_of b books) k ≡ verdict rules b old (shop_of b books) k)
+    (office_verdict rules old office) (office_done office old) old
     (λ _. verdict_stays rules b k office old (shop_of b books) unread) refl in
     record {
       first = ap (λ (it : Verdict). reply_by it (reply_text rules k (shop_of b books))) same;
       second = ap (λ (it : Catalogue). reply_by (office_verdict rules it office) (office_text office it)) (branch_keeps rules b (Do k) books);
-      leaves = subst (AreAlike (after_for rules HeadOffice (Office office) x)) (both_orders rules b k office books unread) (itself (after_for rules HeadOffice (Office office) x));
+      leaves =
+          subst (AreAlike (after_for rules HeadOffice (Office office) x))
+          (both_orders rules b k office books unread) (itself (after_for rules HeadOffice (Office office) x));
     }

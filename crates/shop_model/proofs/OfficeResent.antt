@@ -1,5 +1,8 @@
 -- A command of head office that was accepted and comes again gets its first reply, whatever has happened since.
-use Rattle.shop_model.proofs.Common.{◌≡◌, ◌∷◌, filter, true, nat_le, bytes_eq, Film, Branch, ByCode, ByComment, OfficeAct, AddCountry, AddCity, AddLanguage, AddCategory, AddActor, AddFilm, PriceFilm, WithdrawFilm, AddCast, AddBranch, AddStaff, StaffLeaves, SetManager, ChooseRule, OfficeCommand, Rules, Full, OfficeKept, Catalogue, same_film, same_branch, same_office_act, same_office, Accepted, office_verdict, first, office_refusals, office_done, office_text, Again, refl}
+use Rattle.shop_model.proofs.Common.{◌≡◌, ◌∷◌, filter, true, nat_le, bytes_eq, Film, Branch, ByCode, ByComment, OfficeAct, AddCountry, AddCity, AddLanguage}
+use Rattle.shop_model.proofs.Common.{AddCategory, AddActor, AddFilm, PriceFilm, WithdrawFilm, AddCast, AddBranch, AddStaff, StaffLeaves, SetManager, ChooseRule}
+use Rattle.shop_model.proofs.Common.{OfficeCommand, Rules, Full, OfficeKept, Catalogue, same_film, same_branch, same_office_act, same_office, Accepted}
+use Rattle.shop_model.proofs.Common.{office_verdict, first, office_refusals, office_done, office_text, Again, refl}
 use Rattle.std.specs.Prelude.{length}
 use Rattle.shop_model.proofs.RowLemmas.{same_test}
 use Rattle.shop_model.proofs.Accepted.{nothing_kept}
@@ -7,7 +10,20 @@ use Rattle.shop_model.proofs.Resent.{first_under}
 use Rattle.shop_model.proofs.ActLaws.{bytes_same, option_same, flag_same, person_same}
 
 film_same : (f : Film) → same_film f f ≡ true
-film_same f = rw (bytes_same f.title, bytes_same f.description, same_test f.language, same_test f.category, same_test f.period, same_test f.rate, same_test f.replacement, option_same f.minutes, bytes_same f.rating, bytes_same f.features, flag_same f.withdrawn)
+film_same f =
+    rw (
+      bytes_same f.title,
+      bytes_same f.description,
+      same_test f.language,
+      same_test f.category,
+      same_test f.period,
+      same_test f.rate,
+      same_test f.replacement,
+      option_same f.minutes,
+      bytes_same f.rating,
+      bytes_same f.features,
+      flag_same f.withdrawn,
+    )
 
 branch_same : (b : Branch) → same_branch b b ≡ true
 branch_same b = rw (bytes_same b.token, bytes_same b.address, bytes_same b.postal, bytes_same b.phone, same_test b.city, option_same b.manager)

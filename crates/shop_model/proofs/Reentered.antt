@@ -1,6 +1,12 @@
 -- The accepted commands of a history make its books, and bring them back.
-use Rattle.shop_model.proofs.Common.{◌≡◌, AllByRecursion, ℕ, ◌==◌, append-nil, append_assoc, Owned, Kept, OfficeKept, Catalogue, ap₂, Option, Text, reply_by, caller_of, inl, inr, List, [], ◌∷◌, ◌++◌, Bool, true, false, not, refl, sym, ap, ◌∙◌, ◌||◌, cases_Bool, and_parts, false≢true, true≢false, Rules, OfficeAsk, Verdict, Again, Refused, Accepted, verdict, office_verdict, Request, Do, Office, Reply, Done, if_accepted, office_done, office_text, reply_text, Books, Event, Caller, Counter, HeadOffice, shop_of, book_done, after_for, after, caller_in, reply_for, reply_in, run, last_books, marked_ones, is_command, is_nobody, if◌then◌else◌}
-use Rattle.shop_model.specs.Reentered.{kept_by, office_kept_by, kept_in, office_kept_in, AcceptedAreKept, is_accepted, accepts, are_accepted, accepted_ones, keeps_all, IsLeftBy, BooksAreOfAccepted, LostIsBroughtBack}
+use Rattle.shop_model.proofs.Common.{◌≡◌, AllByRecursion, ℕ, ◌==◌, append-nil, append_assoc, Owned, Kept, OfficeKept, Catalogue, ap₂, Option, Text, reply_by}
+use Rattle.shop_model.proofs.Common.{caller_of, inl, inr, List, [], ◌∷◌, ◌++◌, Bool, true, false, not, refl, sym, ap, ◌∙◌, ◌||◌, cases_Bool, and_parts}
+use Rattle.shop_model.proofs.Common.{false≢true, true≢false, Rules, OfficeAsk, Verdict, Again, Refused, Accepted, verdict, office_verdict, Request, Do, Office}
+use Rattle.shop_model.proofs.Common.{Reply, Done, if_accepted, office_done, office_text, reply_text, Books, Event, Caller, Counter, HeadOffice, shop_of}
+use Rattle.shop_model.proofs.Common.{book_done, after_for, after, caller_in, reply_for, reply_in, run, last_books, marked_ones, is_command, is_nobody}
+use Rattle.shop_model.proofs.Common.{if◌then◌else◌}
+use Rattle.shop_model.specs.Reentered.{kept_by, office_kept_by, kept_in, office_kept_in, AcceptedAreKept, is_accepted, accepts, are_accepted, accepted_ones}
+use Rattle.shop_model.specs.Reentered.{keeps_all, IsLeftBy, BooksAreOfAccepted, LostIsBroughtBack}
 use Rattle.shop_model.proofs.Resends.{verdict_of, again_told, again_through, caller_after}
 use Rattle.shop_model.proofs.RowLemmas.{more_yes, more_no}
 use Rattle.shop_model.proofs.SameStates.{by_cases, by_verdict}
@@ -15,14 +21,18 @@ other_leaves (Again text) x y e = refl
 other_leaves (Refused refusal) x y e = refl
 other_leaves Accepted x y e = absurd (true≢false e)
 
-pub others_leave : (rules : Rules) (caller : Caller) (request : Request) (books : Books) → accepts rules caller request books ≡ false → after_for rules caller request books ≡ books
-others_leave rules (Counter b) (Do command) books e = other_leaves (verdict rules b books.catalogue (shop_of b books) command) (book_done rules b command books) books e
-others_leave rules HeadOffice (Office command) books e = rw (other_leaves (office_verdict rules books.catalogue command) (office_done command books.catalogue) books.catalogue e)
+pub others_leave : (rules : Rules) (caller : Caller) (request : Request) (books : Books)
+    → accepts rules caller request books ≡ false → after_for rules caller request books ≡ books
+others_leave rules (Counter b) (Do command) books e =
+    other_leaves (verdict rules b books.catalogue (shop_of b books) command) (book_done rules b command books) books e
+others_leave rules HeadOffice (Office command) books e =
+    rw (other_leaves (office_verdict rules books.catalogue command) (office_done command books.catalogue) books.catalogue e)
 others_leave rules caller request books e = refl
 
 -- ---- any events that are left, with all that were accepted
 
-pub left : (rules : Rules) (look : OfficeAsk → Books → Reply) (marks : List Bool) (events : List Event) (books : Books) → keeps_all (are_accepted rules events books) marks ≡ true
+pub left : (rules : Rules) (look : OfficeAsk → Books → Reply) (marks : List Bool) (events : List Event) (books : Books)
+    → keeps_all (are_accepted rules events books) marks ≡ true
     → IsLeftBy rules look marks events books
 left rules look [] [] books keeps = record { replies = refl; leaves = refl }
 left rules look (mark ∷ marks) [] books keeps = absurd (false≢true keeps)
@@ -56,30 +66,36 @@ of_accepted rules look events books = record {
 
 -- ---- what is kept
 
-step_kept : (rules : Rules) (b : ℕ) (caller : Caller) (request : Request) (books : Books) → (shop_of b (after_for rules caller request books)).kept ≡ (shop_of b books).kept ++ kept_by rules b caller request books
+step_kept : (rules : Rules) (b : ℕ) (caller : Caller) (request : Request) (books : Books)
+    → (shop_of b (after_for rules caller request books)).kept ≡ (shop_of b books).kept ++ kept_by rules b caller request books
 step_kept rules b (Counter c) (Do command) books =
     let k : Kept = record { command = command; reply = reply_text rules command (shop_of c books) } in
     let old = (shop_of b books).kept in
-    let other : old ≡ old ++ (if c == b then [] else []) = elim (cases_Bool (c == b)) [ inl is ↦ rw is (sym (append-nil old)) | inr isnt ↦ rw isnt (sym (append-nil old)) ] in
+    let other : old ≡ old ++ (if c == b then [] else []) =
+    elim (cases_Bool (c == b)) [ inl is ↦ rw is (sym (append-nil old)) | inr isnt ↦ rw isnt (sym (append-nil old)) ] in
     by_cases (λ v. (shop_of b (if_accepted v (book_done rules c command books) books)).kept ≡ old ++ (if c == b then if_accepted v (k ∷ []) [] else []))
     (verdict rules c books.catalogue (shop_of c books) command)
     (λ _. elim (cases_Bool (c == b)) [
       | inl is ↦ rw is (more_yes (λ (row : Owned Kept). row.it) (λ row. row.owner == b) books.kept (record { owner = c; it = k }) is)
-      | inr isnt ↦ rw isnt (more_no (λ (row : Owned Kept). row.it) (λ row. row.owner == b) books.kept (record { owner = c; it = k }) isnt ∙ sym (append-nil old))
+      | inr isnt ↦
+          rw isnt (more_no (λ (row : Owned Kept). row.it) (λ row. row.owner == b) books.kept (record { owner = c; it = k }) isnt ∙ sym (append-nil old))
     ])
     (λ _ _. other) (λ _. other)
 step_kept rules b HeadOffice (Office command) books = sym (append-nil (shop_of b books).kept)
 step_kept rules b caller request books = sym (append-nil (shop_of b books).kept)
 
-step_office : (rules : Rules) (caller : Caller) (request : Request) (books : Books) → (after_for rules caller request books).catalogue.kept ≡ books.catalogue.kept ++ office_kept_by rules caller request books
+step_office : (rules : Rules) (caller : Caller) (request : Request) (books : Books)
+    → (after_for rules caller request books).catalogue.kept ≡ books.catalogue.kept ++ office_kept_by rules caller request books
 step_office rules (Counter b) (Do command) books =
     let old = books.catalogue.kept in
-    by_verdict (λ (it : Books). it.catalogue.kept ≡ old ++ []) (verdict rules b books.catalogue (shop_of b books) command) (book_done rules b command books) books
+    by_verdict (λ (it : Books). it.catalogue.kept ≡ old ++ [])
+    (verdict rules b books.catalogue (shop_of b books) command) (book_done rules b command books) books
     (λ _. ap (λ (it : Catalogue). it.kept) (catalogue_stays rules b command command.act books) ∙ sym (append-nil old)) (sym (append-nil old))
 step_office rules HeadOffice (Office command) books =
     let k : OfficeKept = record { command = command; reply = office_text command books.catalogue } in
     let old = books.catalogue.kept in
-    by_cases (λ v. (if_accepted v (office_done command books.catalogue) books.catalogue).kept ≡ old ++ if_accepted v (k ∷ []) []) (office_verdict rules books.catalogue command)
+    by_cases (λ v. (if_accepted v (office_done command books.catalogue) books.catalogue).kept ≡ old ++ if_accepted v (k ∷ []) [])
+    (office_verdict rules books.catalogue command)
     (λ _. refl) (λ _ _. sym (append-nil old)) (λ _. sym (append-nil old))
 step_office rules caller request books = sym (append-nil books.catalogue.kept)
 
@@ -101,15 +117,18 @@ are_kept rules (x ∷ xs) books =
 
 -- ---- one history after another
 
-run-append : (rules : Rules) (look : OfficeAsk → Books → Reply) (xs ys : List Event) (books : Books) → run rules look (xs ++ ys) books ≡ run rules look xs books ++ run rules look ys (last_books rules xs books)
+run-append : (rules : Rules) (look : OfficeAsk → Books → Reply) (xs ys : List Event) (books : Books)
+    → run rules look (xs ++ ys) books ≡ run rules look xs books ++ run rules look ys (last_books rules xs books)
 run-append rules look [] ys books = refl
-run-append rules look (x ∷ xs) ys books = ap (λ rest. (caller_in x books, reply_in rules look x books) ∷ rest) (run-append rules look xs ys (after rules x books))
+run-append rules look (x ∷ xs) ys books =
+    ap (λ rest. (caller_in x books, reply_in rules look x books) ∷ rest) (run-append rules look xs ys (after rules x books))
 
 last-append : (rules : Rules) (xs ys : List Event) (books : Books) → last_books rules (xs ++ ys) books ≡ last_books rules ys (last_books rules xs books)
 last-append rules [] ys books = refl
 last-append rules (x ∷ xs) ys books = last-append rules xs ys (after rules x books)
 
-pub accepted-append : (rules : Rules) (xs ys : List Event) (books : Books) → accepted_ones rules (xs ++ ys) books ≡ accepted_ones rules xs books ++ accepted_ones rules ys (last_books rules xs books)
+pub accepted-append : (rules : Rules) (xs ys : List Event) (books : Books)
+    → accepted_ones rules (xs ++ ys) books ≡ accepted_ones rules xs books ++ accepted_ones rules ys (last_books rules xs books)
 accepted-append rules [] ys books = refl
 accepted-append rules (x ∷ xs) ys books =
     let more = accepted-append rules xs ys (after rules x books) in
@@ -120,7 +139,8 @@ accepted-append rules (x ∷ xs) ys books =
 
 marked-append : (rules : Rules) (look : OfficeAsk → Books → Reply) (xs ys : List Event) (books : Books)
     → marked_ones (are_accepted rules (xs ++ ys) books) (run rules look (xs ++ ys) books)
-    ≡ marked_ones (are_accepted rules xs books) (run rules look xs books) ++ marked_ones (are_accepted rules ys (last_books rules xs books)) (run rules look ys (last_books rules xs books))
+    ≡ marked_ones (are_accepted rules xs books) (run rules look xs books)
+    ++ marked_ones (are_accepted rules ys (last_books rules xs books)) (run rules look ys (last_books rules xs books))
 marked-append rules look [] ys books = refl
 marked-append rules look (x ∷ xs) ys books =
     let more = marked-append rules look xs ys (after rules x books) in
@@ -139,10 +159,12 @@ is_given Accepted e = refl
 -- the request is answered with its text, is given again from then on, and is a command of a caller who is known
 abbrev pub IsGiven : Rules → (OfficeAsk → Books → Reply) → Caller → Request → Books → Type 0
 IsGiven rules look caller request books =
-    (text : Text) × (reply_for rules look caller request books ≡ Done text) × (verdict_of rules caller request (after_for rules caller request books) ≡ Again text)
+    (text : Text) × (reply_for rules look caller request books ≡ Done text)
+    × (verdict_of rules caller request (after_for rules caller request books) ≡ Again text)
     × (is_command caller request ≡ true) × (is_nobody caller ≡ false)
 
-pub given : (rules : Rules) (look : OfficeAsk → Books → Reply) (caller : Caller) (request : Request) (books : Books) → accepts rules caller request books ≡ true → IsGiven rules look caller request books
+pub given : (rules : Rules) (look : OfficeAsk → Books → Reply) (caller : Caller) (request : Request) (books : Books)
+    → accepts rules caller request books ≡ true → IsGiven rules look caller request books
 given rules look (Counter b) (Do command) books e =
     let text = reply_text rules command (shop_of b books) in
     let is = is_given (verdict rules b books.catalogue (shop_of b books) command) e in (
@@ -157,13 +179,15 @@ given rules look HeadOffice (Office command) books e =
     let is = is_given (office_verdict rules books.catalogue command) e in (
       text,
       ap (λ v. reply_by v text) is,
-      ap (λ v. office_verdict rules (if_accepted v (office_done command books.catalogue) books.catalogue) command) is ∙ office_again rules command books.catalogue is,
+      ap (λ v. office_verdict rules (if_accepted v (office_done command books.catalogue) books.catalogue) command) is
+          ∙ office_again rules command books.catalogue is,
       refl,
       refl,
     )
 given rules look caller request books e = absurd (false≢true e)
 
-caller_through : (rules : Rules) (token : Option Text) (c : Caller) (events : List Event) (books : Books) → is_nobody c ≡ false → caller_of token books.catalogue ≡ c
+caller_through : (rules : Rules) (token : Option Text) (c : Caller) (events : List Event) (books : Books)
+    → is_nobody c ≡ false → caller_of token books.catalogue ≡ c
     → caller_of token (last_books rules events books).catalogue ≡ c
 caller_through rules token c [] books known e = e
 caller_through rules token c (x ∷ xs) books known e =
@@ -174,9 +198,12 @@ caller_through rules token c (x ∷ xs) books known e =
 pub record AreAgain (rules : Rules) (look : OfficeAsk → Books → Reply) (events : List Event) (books copy : Books) : Type 0 where
   pub replies : run rules look (accepted_ones rules events books) copy ≡ marked_ones (are_accepted rules events books) (run rules look events books)
   pub leaves : last_books rules (accepted_ones rules events books) copy ≡ copy
-  pub each : AllByRecursion (λ (e : Event). (is_command (caller_in e copy) (e.request (caller_in e copy)) ≡ true) × (after rules e copy ≡ copy)) (accepted_ones rules events books)
+  pub each :
+      AllByRecursion (λ (e : Event). (is_command (caller_in e copy) (e.request (caller_in e copy)) ≡ true) × (after rules e copy ≡ copy))
+      (accepted_ones rules events books)
 
-pub again : (rules : Rules) (look : OfficeAsk → Books → Reply) (events : List Event) (books : Books) → AreAgain rules look events books (last_books rules events books)
+pub again : (rules : Rules) (look : OfficeAsk → Books → Reply) (events : List Event) (books : Books)
+    → AreAgain rules look events books (last_books rules events books)
 again rules look [] books = record { replies = refl; leaves = refl; each = tt }
 again rules look (x ∷ xs) books =
     let caller = caller_in x books in
@@ -213,7 +240,9 @@ brought_back rules look front lost books =
       all_replies = ap (λ (events : List Event). run rules look events copy) all ∙ run-append rules look early late copy
           ∙ ap₂ (λ (xs ys : List (Caller × Reply)). xs ++ ys) first.replies (ap (run rules look late) first.leaves ∙ next.replies)
           ∙ sym (marked-append rules look front lost books);
-      all_leave = ap (λ (events : List Event). last_books rules events copy) all ∙ last-append rules early late copy ∙ ap (last_books rules late) first.leaves ∙ next.leaves
+      all_leave =
+          ap (λ (events : List Event). last_books rules events copy) all
+          ∙ last-append rules early late copy ∙ ap (last_books rules late) first.leaves ∙ next.leaves
           ∙ sym (last-append rules front lost books);
       late_replies = next.replies;
       late_leave = next.leaves ∙ sym (last-append rules front lost books);

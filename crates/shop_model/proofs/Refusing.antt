@@ -1,9 +1,13 @@
 -- The first refusal that holds is the lowest, since each list of them rises.
-use Rattle.shop_model.proofs.Common.{◌≡◌, ℕ, ◌≤◌, List, [], ◌∷◌, true, false, refl, arith, sym, ap, ◌∙◌, nat_lt, nat_le, if◌then◌else◌, AllByRecursion, le_refl, and_parts, leb-true, false≢true, Refusal, Full, refusal_number, Text, Rules, Act, Import, OfficeAct, AddCountry, Stock, Copies, BadLine, Moment, Catalogue, Shop, Verdict, Again, Refused, Accepted, first, import_refusals, act_refusals, refusals, office_refusals, rise_from, IsLowest, RefusalsAreInOrder}
+use Rattle.shop_model.proofs.Common.{◌≡◌, ℕ, ◌≤◌, List, [], ◌∷◌, true, false, refl, arith, sym, ap, ◌∙◌, nat_lt, nat_le, if◌then◌else◌, AllByRecursion, le_refl}
+use Rattle.shop_model.proofs.Common.{and_parts, leb-true, false≢true, Refusal, Full, refusal_number, Text, Rules, Act, Import, OfficeAct, AddCountry, Stock}
+use Rattle.shop_model.proofs.Common.{Copies, BadLine, Moment, Catalogue, Shop, Verdict, Again, Refused, Accepted, first, import_refusals, act_refusals}
+use Rattle.shop_model.proofs.Common.{refusals, office_refusals, rise_from, IsLowest, RefusalsAreInOrder}
 use Rattle.std.specs.Prelude.{Bool, length}
 
 -- what rises from above n has no number below it
-none_below : (n m : ℕ) (tests : List (Refusal × Bool)) → n ≤ m → rise_from m tests ≡ true → AllByRecursion (λ test. test.1 ≡ true → n ≤ refusal_number test.0) tests
+none_below : (n m : ℕ) (tests : List (Refusal × Bool)) → n ≤ m → rise_from m tests ≡ true
+    → AllByRecursion (λ test. test.1 ≡ true → n ≤ refusal_number test.0) tests
 none_below n m [] le rise = tt
 none_below n m (test ∷ tests) le rise =
     let parts = and_parts (nat_lt m (refusal_number test.0)) (rise_from (refusal_number test.0) tests) rise in
@@ -33,7 +37,8 @@ import_rises : (catalogue : Catalogue) (shop : Shop) (lot : Text) (stock : Stock
 import_rises catalogue shop lot (Copies films) = refl
 import_rises catalogue shop lot (BadLine line) = refl
 
-act_rises : (rules : Rules) (b : ℕ) (catalogue : Catalogue) (shop : Shop) (moment : Moment) (act : Act) → rise_from 9 (act_refusals rules b catalogue shop moment act) ≡ true
+act_rises : (rules : Rules) (b : ℕ) (catalogue : Catalogue) (shop : Shop) (moment : Moment) (act : Act)
+    → rise_from 9 (act_refusals rules b catalogue shop moment act) ≡ true
 act_rises rules b catalogue shop moment (Import lot file) = import_rises catalogue shop lot (rules.stock_of file)
 act_rises rules b catalogue shop moment act = refl
 

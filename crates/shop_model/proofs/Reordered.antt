@@ -1,5 +1,7 @@
 -- Two states that differ only in the order of their maps and sets are the same to a branch.
-use Rattle.shop_model.proofs.Common.{◌≡◌, inl, inr, List, [], ◌∷◌, find, Bool, true, false, not, Option, None, Some, refl, sym, subst, ◌∙◌, IsPermutation, ◌==◌, ◌&&◌, bytes_eq, list_any, AllByRecursion, cases_Bool, and_parts, or_parts, not-true, false≢true, All-from_recursion, recursion_from_All, bytes_eq-Decides, Text, Cast, Kept, OfficeKept, State, are_different, SameState, IsReordered}
+use Rattle.shop_model.proofs.Common.{◌≡◌, inl, inr, List, [], ◌∷◌, find, Bool, true, false, not, Option, None, Some, refl, sym, subst, ◌∙◌, IsPermutation, ◌==◌}
+use Rattle.shop_model.proofs.Common.{◌&&◌, bytes_eq, list_any, AllByRecursion, cases_Bool, and_parts, or_parts, not-true, false≢true, All-from_recursion}
+use Rattle.shop_model.proofs.Common.{recursion_from_All, bytes_eq-Decides, Text, Cast, Kept, OfficeKept, State, are_different, SameState, IsReordered}
 use Rattle.std.proofs.lemmas.List.Sorted.{All-permutation, length_permutation, list_any-IsPermutation}
 
 -- ---- maps
@@ -23,7 +25,8 @@ only_one {A} same p (x ∷ xs) agree differ =
     let parts = and_parts (not (list_any (same x) xs)) (are_different same xs) differ in
     let Only : Option A → Type 0 = λ found. IsOnly p found (x ∷ xs) in
     elim (cases_Bool (p x)) [
-      | inl is ↦ let e : Some x ≡ find p (x ∷ xs) = rw is in subst Only e ((λ too. refl), none_later same p x xs agree is (not-true (list_any (same x) xs) parts.0))
+      | inl is ↦
+          let e : Some x ≡ find p (x ∷ xs) = rw is in subst Only e ((λ too. refl), none_later same p x xs agree is (not-true (list_any (same x) xs) parts.0))
       | inr isnt ↦
           let e : find p xs ≡ find p (x ∷ xs) = rw isnt in
           subst Only e ((λ is. absurd (false≢true (sym isnt ∙ is))), only_one same p xs agree parts.1)
@@ -63,14 +66,18 @@ reordered_same one other is =
     record {
       catalogue = record {
         rest = shared.rest;
-        kept = λ key. found_moved (λ (a b : OfficeKept). bytes_eq a.command.key b.command.key) (λ (k : OfficeKept). bytes_eq k.command.key key) one.catalogue.kept other.catalogue.kept
+        kept = λ key.
+            found_moved (λ (a b : OfficeKept). bytes_eq a.command.key b.command.key)
+            (λ (k : OfficeKept). bytes_eq k.command.key key) one.catalogue.kept other.catalogue.kept
             (λ a b. same_key key a.command.key b.command.key) shared.keys shared.kept;
         size = sym (length_permutation one.catalogue.kept other.catalogue.kept shared.kept);
-        casts = λ film actor. list_any-IsPermutation (λ (it : Cast). it.film == film && it.actor == actor) one.catalogue.casts other.catalogue.casts shared.casts;
+        casts =
+            λ film actor. list_any-IsPermutation (λ (it : Cast). it.film == film && it.actor == actor) one.catalogue.casts other.catalogue.casts shared.casts;
       };
       shop = record {
         rest = own.rest;
-        kept = λ key. found_moved (λ (a b : Kept). bytes_eq a.command.key b.command.key) (λ (k : Kept). bytes_eq k.command.key key) one.shop.kept other.shop.kept
+        kept =
+            λ key. found_moved (λ (a b : Kept). bytes_eq a.command.key b.command.key) (λ (k : Kept). bytes_eq k.command.key key) one.shop.kept other.shop.kept
             (λ a b. same_key key a.command.key b.command.key) own.keys own.kept;
         size = sym (length_permutation one.shop.kept other.shop.kept own.kept);
         lots = λ lot. list_any-IsPermutation (bytes_eq lot) one.shop.lots other.shop.lots own.lots;

@@ -4,7 +4,9 @@ use Rattle.std.specs.Fmt.{digits}
 use Rattle.shop_model.specs.Calendar.{day_of, day_number, days_of_years, days_of_months, seconds_of}
 use Rattle.shop_model.specs.Json.{escape_byte}
 use Rattle.shop_model.specs.Values.{NewCustomer}
-use Rattle.shop_model.proofs.Common.{if◌then◌else◌, codes, bytes_eq, Moment, Text, Person, Act, OfficeAct, Ask, OfficeAsk, Stock, Copies, BadLine, Rules, Request, Do, Look, Office, OfficeLook, Reply, Answer, answer_of, token_of, opening_books, Books, Event, Caller, run, last_books, office_look}
+use Rattle.shop_model.proofs.Common.{if◌then◌else◌, codes, bytes_eq, Moment, Text, Person, Act, OfficeAct, Ask, OfficeAsk, Stock, Copies, BadLine, Rules}
+use Rattle.shop_model.proofs.Common.{Request, Do, Look, Office, OfficeLook, Reply, Answer, answer_of, token_of, opening_books, Books, Event, Caller, run}
+use Rattle.shop_model.proofs.Common.{last_books, office_look}
 
 -- ---- moments
 
@@ -118,7 +120,9 @@ books_after rules script = last_books rules (map (λ (it : Event × Answer). it.
 
 -- the requests are answered so over these books
 abbrev pub PlaysOn : Rules → Books → Script → Type 0
-PlaysOn rules books script = map (λ (it : Caller × Reply). answer_of it.1) (run rules office_look (map (λ (it : Event × Answer). it.0) script) books) ≡ map (λ (it : Event × Answer). it.1) script
+PlaysOn rules books script =
+    map (λ (it : Caller × Reply). answer_of it.1) (run rules office_look (map (λ (it : Event × Answer). it.0) script) books)
+    ≡ map (λ (it : Event × Answer). it.1) script
 
 -- and so on the opening rows, after the requests of another script
 abbrev pub Plays : Rules → Script → Script → Type 0

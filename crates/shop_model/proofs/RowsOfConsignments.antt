@@ -1,7 +1,9 @@
 -- Worked rows: consignments, and where each copy is.
-use Rattle.shop_model.proofs.Common.{◌≡◌, ℕ, List, [], ◌∷◌, ◌++◌, true, refl, codes, Here, AddCustomer, Rent, TakeBack, Import, Dispatch, Receive, Scrap, Arrivals, SentOff, Custody, Transit, Audit, Books, made, transit, gone, set_row, put_state}
+use Rattle.shop_model.proofs.Common.{◌≡◌, ℕ, List, [], ◌∷◌, ◌++◌, true, refl, codes, Here, AddCustomer, Rent, TakeBack, Import, Dispatch, Receive, Scrap}
+use Rattle.shop_model.proofs.Common.{Arrivals, SentOff, Custody, Transit, Audit, Books, made, transit, gone, set_row, put_state}
 use Rattle.shop_model.specs.Sound.{here}
-use Rattle.shop_model.proofs.RowScripts.{computing, ten, four_copies, two_copies, one_copy, limited, rules, does, asks, wants, mary, ok, no, Script, Plays, books_after}
+use Rattle.shop_model.proofs.RowScripts.{computing, ten, four_copies, two_copies, one_copy, limited, rules, does, asks, wants, mary, ok, no, Script, Plays}
+use Rattle.shop_model.proofs.RowScripts.{books_after}
 
 -- the first branch has four copies, the second two
 abbrev pub stocked : Script
@@ -77,7 +79,8 @@ unfolding computing
 in_transit_counts = refl
 
 -- a copy that is under way and is said to be here as well is in two places, and the numbers no longer agree
-copy_in_two_places : (let books = books_after rules (stocked ++ dispatched) in all_of (record books { copies = set_row 1 1 (put_state Here) books.copies })) ≡ 6 ∷ 3 ∷ 4 ∷ 0 ∷ []
+copy_in_two_places : (let books = books_after rules (stocked ++ dispatched) in all_of (record books { copies = set_row 1 1 (put_state Here) books.copies }))
+    ≡ 6 ∷ 3 ∷ 4 ∷ 0 ∷ []
 unfolding computing
 copy_in_two_places = refl
 

@@ -1,6 +1,8 @@
 -- Worked rows: a customer, keys that come again, callers and limits.
-use Rattle.shop_model.proofs.Common.{[], ◌∷◌, ◌++◌, None, refl, codes, AddCustomer, Pay, Import, OneCustomer, Arrivals, Sales, NoRoute, BadBody, Unread, Look, OfficeLook}
-use Rattle.shop_model.proofs.RowScripts.{computing, moment, ten, march, four_copies, three_copies, limited, rules, sends, does_by, does, asks, newcomer, mary, ok, no, Script, Plays}
+use Rattle.shop_model.proofs.Common.{[], ◌∷◌, ◌++◌, None, refl, codes, AddCustomer, Pay, Import, OneCustomer, Arrivals, Sales, NoRoute, BadBody, Unread, Look}
+use Rattle.shop_model.proofs.Common.{OfficeLook}
+use Rattle.shop_model.proofs.RowScripts.{computing, moment, ten, march, four_copies, three_copies, limited, rules, sends, does_by, does, asks, newcomer, mary}
+use Rattle.shop_model.proofs.RowScripts.{ok, no, Script, Plays}
 
 -- the first request of all
 abbrev pub mary_comes : Script
@@ -9,8 +11,10 @@ mary_comes =
     ∷ []
 
 first_customer : Plays rules [] (
-    mary_comes ++
-    (asks 1 (OneCustomer 1), ok (codes "{\"active\":true,\"address\":\"1 Main\",\"city\":1,\"created\":\"2026-03-01T10:00:00\",\"customer\":1,\"first\":\"MARY\",\"last\":\"SMITH\",\"phone\":\"555\",\"postal\":\"\"}"))
+    mary_comes ++ (
+      asks 1 (OneCustomer 1),
+      ok (codes "{\"active\":true,\"address\":\"1 Main\",\"city\":1,\"created\":\"2026-03-01T10:00:00\",\"customer\":1,\"first\":\"MARY\",\"last\":\"SMITH\",\"phone\":\"555\",\"postal\":\"\"}"),
+    )
     ∷ [])
 unfolding computing
 first_customer = refl

@@ -1,19 +1,49 @@
 -- Worked rows: what head office adds, changes and withdraws.
-use Rattle.shop_model.proofs.Common.{ℕ, [], ◌∷◌, false, None, refl, codes, Film, Branch, ByCode, ByComment, AddCustomer, Import, AddCountry, AddCity, AddLanguage, AddCategory, AddActor, AddFilm, PriceFilm, WithdrawFilm, AddCast, AddBranch, AddStaff, StaffLeaves, SetManager, ChooseRule, OneFilm, Sales, Usage, Unread, token_of, Catalogue, opening}
+use Rattle.shop_model.proofs.Common.{ℕ, [], ◌∷◌, false, None, refl, codes, Film, Branch, ByCode, ByComment, AddCustomer, Import, AddCountry, AddCity}
+use Rattle.shop_model.proofs.Common.{AddLanguage, AddCategory, AddActor, AddFilm, PriceFilm, WithdrawFilm, AddCast, AddBranch, AddStaff, StaffLeaves}
+use Rattle.shop_model.proofs.Common.{SetManager, ChooseRule, OneFilm, Sales, Usage, Unread, token_of, Catalogue, opening}
 use Rattle.shop_model.proofs.RowScripts.{computing, ten, one_comedy, limited, rules, sends, does, asks, orders, wants, mary, ok, no, Plays, PlaysOn}
 
 abbrev stone : Film
-stone = record { title = codes "STONE"; description = []; language = 1; category = 2; period = 3; rate = 499; replacement = 1999; minutes = None; rating = codes "G"; features = []; withdrawn = false }
+stone = record {
+  title = codes "STONE";
+  description = [];
+  language = 1;
+  category = 2;
+  period = 3;
+  rate = 499;
+  replacement = 1999;
+  minutes = None;
+  rating = codes "G";
+  features = [];
+  withdrawn = false;
+}
 
 abbrev high_street : ℕ → Branch
 high_street digit = record { token = token_of digit; address = codes "40 High"; postal = codes "P4"; phone = codes "4"; city = 1; manager = None }
 
 abbrev nowhere : Catalogue
-nowhere = record { office_token = token_of 0; kept = []; rule = ByCode; casts = []; countries = []; cities = []; languages = []; categories = []; actors = []; films = []; branches = []; staff = [] }
+nowhere = record {
+  office_token = token_of 0;
+  kept = [];
+  rule = ByCode;
+  casts = [];
+  countries = [];
+  cities = [];
+  languages = [];
+  categories = [];
+  actors = [];
+  films = [];
+  branches = [];
+  staff = [];
+}
 
 film_added : Plays rules [] (
     (orders (codes "f1") (AddFilm stone), ok (codes "{\"film\":3}"))
-    ∷ (asks 3 (OneFilm 3), ok (codes "{\"category\":2,\"description\":\"\",\"features\":\"\",\"film\":3,\"language\":1,\"length\":null,\"period\":3,\"rate\":499,\"rating\":\"G\",\"replacement\":1999,\"title\":\"STONE\",\"withdrawn\":false}"))
+    ∷ (
+      asks 3 (OneFilm 3),
+      ok (codes "{\"category\":2,\"description\":\"\",\"features\":\"\",\"film\":3,\"language\":1,\"length\":null,\"period\":3,\"rate\":499,\"rating\":\"G\",\"replacement\":1999,\"title\":\"STONE\",\"withdrawn\":false}"),
+    )
     ∷ [])
 unfolding computing
 film_added = refl

@@ -1,5 +1,7 @@
 -- Worked rows: whole histories of several branches.
-use Rattle.shop_model.proofs.Common.{◌≡◌, ℕ, List, [], ◌∷◌, ◌++◌, map, Some, refl, codes, decimal, Moment, AddCustomer, Rent, TakeBack, Pay, Import, Dispatch, Receive, FilmList, InStock, HeldBy, Balance, OneView, Audit, Answer, answer_of, opening_books, Event, run, replies_to, office_look, replicate}
+use Rattle.shop_model.proofs.Common.{◌≡◌, ℕ, List, [], ◌∷◌, ◌++◌, map, Some, refl, codes, decimal, Moment, AddCustomer, Rent, TakeBack, Pay, Import, Dispatch}
+use Rattle.shop_model.proofs.Common.{Receive, FilmList, InStock, HeldBy, Balance, OneView, Audit, Answer, answer_of, opening_books, Event, run, replies_to}
+use Rattle.shop_model.proofs.Common.{office_look, replicate}
 use Rattle.shop_model.proofs.RowScripts.{computing, moment, ten, two_copies, one_copy, rules, does, asks, wants, mary, ok, Plays}
 use Rattle.shop_model.proofs.RowsOfRentals.{four_copies_in}
 
@@ -72,7 +74,10 @@ whole_day : Plays rules [] (
     ∷ (does 1 (codes "b") ten (TakeBack 1), ok (codes "{\"returned\":1}"))
     ∷ (does 1 (codes "c") ten (Pay 1 (Some 1) 499), ok (codes "{\"payment\":1}"))
     ∷ (asks 1 (Balance 1 ten), ok (codes "{\"balance\":0}"))
-    ∷ (asks 1 (OneView FilmList), ok (codes "[{\"actors\":\"ANN HILL, BO KERR\",\"category\":\"Action\",\"description\":\"\",\"film\":1,\"length\":86,\"price\":499,\"rating\":\"PG\",\"title\":\"RIVER DAWN\"},{\"actors\":\"BO KERR\",\"category\":\"Comedy\",\"description\":\"\",\"film\":2,\"length\":null,\"price\":299,\"rating\":\"G\",\"title\":\"NORTH LIGHT\"}]"))
+    ∷ (
+      asks 1 (OneView FilmList),
+      ok (codes "[{\"actors\":\"ANN HILL, BO KERR\",\"category\":\"Action\",\"description\":\"\",\"film\":1,\"length\":86,\"price\":499,\"rating\":\"PG\",\"title\":\"RIVER DAWN\"},{\"actors\":\"BO KERR\",\"category\":\"Comedy\",\"description\":\"\",\"film\":2,\"length\":null,\"price\":299,\"rating\":\"G\",\"title\":\"NORTH LIGHT\"}]"),
+    )
     ∷ (does 1 (codes "d") ten (Dispatch 2 (3 ∷ [])), ok (codes "{\"consignment\":1,\"to\":2}"))
     ∷ (does 2 (codes "a") ten (Receive 1 1 []), ok (codes "{\"copies\":[1]}"))
     ∷ (wants Audit, ok (codes "{\"gone\":0,\"here\":4,\"made\":4,\"sound\":true,\"transit\":0}"))

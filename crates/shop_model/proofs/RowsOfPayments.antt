@@ -1,5 +1,6 @@
 -- Worked rows: payments, balances, overdue rentals and rewards.
-use Rattle.shop_model.proofs.Common.{◌≡◌, [], ◌∷◌, ◌++◌, Some, None, refl, codes, days_in_month, ByCode, ByComment, AddCustomer, Rent, TakeBack, Pay, Import, PriceFilm, ChooseRule, Balance, Overdue, Rewards}
+use Rattle.shop_model.proofs.Common.{◌≡◌, [], ◌∷◌, ◌++◌, Some, None, refl, codes, days_in_month, ByCode, ByComment, AddCustomer, Rent, TakeBack, Pay, Import}
+use Rattle.shop_model.proofs.Common.{PriceFilm, ChooseRule, Balance, Overdue, Rewards}
 use Rattle.shop_model.proofs.RowScripts.{computing, moment, ten, march, one_copy, rules, does, asks, orders, mary, ok, no, Script, Plays}
 
 -- one copy of the first film, at 499 cents for three days, and one customer

@@ -1,6 +1,8 @@
 -- Worked rows: stock files, rentals and what is in stock.
-use Rattle.shop_model.proofs.Common.{[], ◌∷◌, ◌++◌, false, refl, codes, AddCustomer, SetActive, Rent, TakeBack, Import, Scrap, InStock, HeldBy, FilmInStock, FilmNotInStock}
-use Rattle.shop_model.proofs.RowScripts.{computing, ten, four_copies, two_copies, two_and_unknown, none_on_third_line, header_alone, limited, rules, does, asks, mary, ok, no, Script, Plays}
+use Rattle.shop_model.proofs.Common.{[], ◌∷◌, ◌++◌, false, refl, codes, AddCustomer, SetActive, Rent, TakeBack, Import, Scrap, InStock, HeldBy, FilmInStock}
+use Rattle.shop_model.proofs.Common.{FilmNotInStock}
+use Rattle.shop_model.proofs.RowScripts.{computing, ten, four_copies, two_copies, two_and_unknown, none_on_third_line, header_alone, limited, rules, does, asks}
+use Rattle.shop_model.proofs.RowScripts.{mary, ok, no, Script, Plays}
 
 -- the first branch has copies 1 to 3 of the first film and copy 4 of the second
 abbrev pub four_copies_in : Script

@@ -1,5 +1,18 @@
 -- Each step keeps the books sound.
-use Rattle.shop_model.proofs.Common.{◌≡◌, inl, inr, ℕ, ◌+◌, ◌-◌, ◌≤◌, List, [], ◌∷◌, ◌++◌, length, filter, map, Bool, true, false, not, None, Some, refl, sym, subst, ap, ◌∙◌, arith, append-nil, length-append, ◌==◌, ◌&&◌, ◌||◌, nat_lt, flat_map, list_any, list_all, or-false, cases_Bool, or_parts, and_parts, not-true, not-false, true≢false, Row, Owned, at, lacks, set_at, set_all, is_empty, is_row, next, mem, has_double, Moment, Branch, OfficeCommand, Copy, CopyState, Here, Sent, Scrapped, Rental, Arrival, Act, Rent, TakeBack, Import, Dispatch, Receive, Scrap, Command, Rules, Kept, Shop, Catalogue, is_here, in_stock, keeps_out, film_terms, terms_now, Accepted, first, refusals, verdict, office_verdict, act_refusals, is_away, arrival, Request, Do, Office, acted, catalogue_after, office_done, here, with_state, films_in, incoming, Books, BookCopy, Mark, Line, UnderWay, Missing, Consignment, Caller, Counter, HeadOffice, shop_of, unmarked, as_arrival, book_acted, book_done, edits_of, is_consignment, imported, unpacked, rows_at, come, new_consignment, set_last, branch_after, after_for, after, caller_in, last_books, one, copy_is, line_is, is_origin, rows_made, is_mark, places, is_made_as, marked_films, HasNumbers, HasOwners, HasCustody, HasOneHolder, HasTerms, IsSound, all_lines, lines_in, is_settled, StaySound, StaySoundWithin, CopiesAreInOnePlace, SoundBooksAreInCustody, OpeningIsSound, EmptyIsSound, OpeningBooksAreSound, empty_catalogue, opening_catalogue, has_row, are_different, is_staff_of, IsLinkedShop, IsGoodCatalogue, option_to_list, bytes_eq, nat_tests, IsGoodShop, CopyRows, AreRowsNumbered, AreRowsOwned, put_all, set_row, set_rows, put_state, list_any-append, Terms}
+use Rattle.shop_model.proofs.Common.{◌≡◌, inl, inr, ℕ, ◌+◌, ◌-◌, ◌≤◌, List, [], ◌∷◌, ◌++◌, length, filter, map, Bool, true, false, not, None, Some, refl, sym}
+use Rattle.shop_model.proofs.Common.{subst, ap, ◌∙◌, arith, append-nil, length-append, ◌==◌, ◌&&◌, ◌||◌, nat_lt, flat_map, list_any, list_all, or-false}
+use Rattle.shop_model.proofs.Common.{cases_Bool, or_parts, and_parts, not-true, not-false, true≢false, Row, Owned, at, lacks, set_at, set_all, is_empty, is_row}
+use Rattle.shop_model.proofs.Common.{next, mem, has_double, Moment, Branch, OfficeCommand, Copy, CopyState, Here, Sent, Scrapped, Rental, Arrival, Act, Rent}
+use Rattle.shop_model.proofs.Common.{TakeBack, Import, Dispatch, Receive, Scrap, Command, Rules, Kept, Shop, Catalogue, is_here, in_stock, keeps_out}
+use Rattle.shop_model.proofs.Common.{film_terms, terms_now, Accepted, first, refusals, verdict, office_verdict, act_refusals, is_away, arrival, Request, Do}
+use Rattle.shop_model.proofs.Common.{Office, acted, catalogue_after, office_done, here, with_state, films_in, incoming, Books, BookCopy, Mark, Line, UnderWay}
+use Rattle.shop_model.proofs.Common.{Missing, Consignment, Caller, Counter, HeadOffice, shop_of, unmarked, as_arrival, book_acted, book_done, edits_of}
+use Rattle.shop_model.proofs.Common.{is_consignment, imported, unpacked, rows_at, come, new_consignment, set_last, branch_after, after_for, after, caller_in}
+use Rattle.shop_model.proofs.Common.{last_books, one, copy_is, line_is, is_origin, rows_made, is_mark, places, is_made_as, marked_films, HasNumbers, HasOwners}
+use Rattle.shop_model.proofs.Common.{HasCustody, HasOneHolder, HasTerms, IsSound, all_lines, lines_in, is_settled, StaySound, StaySoundWithin}
+use Rattle.shop_model.proofs.Common.{CopiesAreInOnePlace, SoundBooksAreInCustody, OpeningIsSound, EmptyIsSound, OpeningBooksAreSound, empty_catalogue}
+use Rattle.shop_model.proofs.Common.{opening_catalogue, has_row, are_different, is_staff_of, IsLinkedShop, IsGoodCatalogue, option_to_list, bytes_eq, nat_tests}
+use Rattle.shop_model.proofs.Common.{IsGoodShop, CopyRows, AreRowsNumbered, AreRowsOwned, put_all, set_row, set_rows, put_state, list_any-append, Terms}
 use Rattle.std.proofs.Math.Bool.{and-false}
 use Rattle.std.proofs.lemmas.Map.Views.{any-filter_same}
 use Rattle.shop_model.proofs.RowLemmas.{same_if, same_test, differ_if, row_at, one_more, length_map, turned, equal_test}
@@ -15,7 +28,9 @@ use Rattle.shop_model.proofs.EditLemmas.{by_none, each_weaker}
 use Rattle.shop_model.proofs.GoodCatalogues.{Grows, done_grows, good_done}
 use Rattle.shop_model.proofs.Owners.{staff_works, branch_there, owners_done, owners_grow, places_kept}
 use Rattle.shop_model.proofs.Origins.{all_append, origins_kept, lines_more as more_lines}
-use Rattle.shop_model.proofs.CustodyLemmas.{total-append, AreHere, AllHere, scrapped_total, sent_total, state_made, states_made, lines_sent, lines_unlost, import_total, unpacked_total, unpacked_made, UnderWayOld, under_way_old, made_old, made_once, AreOpen, come_old, received_total, settled_checked, settled_new, left_are}
+use Rattle.shop_model.proofs.CustodyLemmas.{total-append, AreHere, AllHere, scrapped_total, sent_total, state_made, states_made, lines_sent, lines_unlost}
+use Rattle.shop_model.proofs.CustodyLemmas.{import_total, unpacked_total, unpacked_made, UnderWayOld, under_way_old, made_old, made_once, AreOpen, come_old}
+use Rattle.shop_model.proofs.CustodyLemmas.{received_total, settled_checked, settled_new, left_are}
 
 -- ---- from the verdict
 
@@ -32,7 +47,9 @@ here_same : (film : ℕ) (s : CopyState) → is_here (record { film = film; stat
 here_same film Here = refl
 here_same film s = refl
 
-away_same : (rows : List (Row BookCopy)) → list_any (λ copy. not (is_here copy)) (map (λ (row : Row BookCopy). unmarked row.it) rows) ≡ list_any (λ (row : Row BookCopy). not (copy_is row.it.state Here)) rows
+away_same : (rows : List (Row BookCopy))
+    → list_any (λ copy. not (is_here copy)) (map (λ (row : Row BookCopy). unmarked row.it) rows)
+    ≡ list_any (λ (row : Row BookCopy). not (copy_is row.it.state Here)) rows
 away_same [] = refl
 away_same (row ∷ rows) = rw (here_same row.it.film row.it.state, away_same rows)
 
@@ -68,14 +85,20 @@ custody_kept rules sizes b catalogue command (Dispatch to xs) books sound none =
     let m2 = lines_unlost test (rows_at b xs books.copies) in
     omega (arith, before, h, m, u1, m1, u2, m2, left_are test books.copies, left_are test (set_rows b xs (put_state Sent) books.copies)) where
       lines_more : (state : Rattle.shop_model.specs.Books.LineState) (test : Mark → Bool) (cs : List Consignment) (c : Consignment)
-          → lines_in state test (flat_map (λ (it : Consignment). it.lines) (cs ++ c ∷ [])) ≡ lines_in state test (flat_map (λ (it : Consignment). it.lines) cs) + lines_in state test c.lines
+          → lines_in state test (flat_map (λ (it : Consignment). it.lines) (cs ++ c ∷ []))
+          ≡ lines_in state test (flat_map (λ (it : Consignment). it.lines) cs) + lines_in state test c.lines
       lines_more state test cs c =
-          ap (lines_in state test) (more_lines cs c) ∙ total-append (λ (line : Line). one (line_is line.state state && test line.mark)) (flat_map (λ (it : Consignment). it.lines) cs) c.lines
+          ap (lines_in state test) (more_lines cs c)
+          ∙ total-append (λ (line : Line). one (line_is line.state state && test line.mark)) (flat_map (λ (it : Consignment). it.lines) cs) c.lines
 custody_kept rules sizes b catalogue command (Receive source number missing) books sound none = λ test.
     let before = sound.custody test in
     let q = is_consignment source b number in
-    let opens : AreOpen q books.consignments = sym (open_same (filter q books.consignments)) ∙ rw (sym (arrival_of source b number books.consignments (sound.numbers.consignments source b))) none.1.0 in
-    let old : UnderWayOld b (next b books.copies) (all_lines books) = under_way_old b (next b books.copies) (all_lines books) (λ mark some. let c = sound.custody (is_mark mark) in made_old b mark books.copies (sound.numbers.rows CopyRows b) (omega (arith, some, c))) in
+    let opens : AreOpen q books.consignments =
+    sym (open_same (filter q books.consignments))
+    ∙ rw (sym (arrival_of source b number books.consignments (sound.numbers.consignments source b))) none.1.0 in
+    let old : UnderWayOld b (next b books.copies) (all_lines books) =
+    under_way_old b (next b books.copies) (all_lines books)
+    (λ mark some. let c = sound.custody (is_mark mark) in made_old b mark books.copies (sound.numbers.rows CopyRows b) (omega (arith, some, c))) in
     let lines = come source b number missing books.consignments in
     let m = unpacked_made test b lines books.copies (come_old b (next b books.copies) missing q books.consignments sound.settled opens old) in
     let h = unpacked_total test b lines books.copies in
@@ -88,8 +111,10 @@ custody_kept rules sizes b catalogue command (Scrap x) books sound none = λ tes
     omega (arith, before, h, m, left_are test books.copies, left_are test (set_row b x (put_state Scrapped) books.copies))
 custody_kept rules sizes b catalogue command act books sound none = sound.custody
 
-settled_kept : (rules : Rules) (b : ℕ) (command : Command) (act : Act) (books : Books) → list_all is_settled books.consignments ≡ true → list_all is_settled (book_acted rules b command act books).consignments ≡ true
-settled_kept rules b command (Dispatch to xs) books settled = all_more is_settled books.consignments (new_consignment b to xs books) settled (settled_new (rows_at b xs books.copies))
+settled_kept : (rules : Rules) (b : ℕ) (command : Command) (act : Act) (books : Books)
+    → list_all is_settled books.consignments ≡ true → list_all is_settled (book_acted rules b command act books).consignments ≡ true
+settled_kept rules b command (Dispatch to xs) books settled =
+    all_more is_settled books.consignments (new_consignment b to xs books) settled (settled_new (rows_at b xs books.copies))
 settled_kept rules b command (Receive source number missing) books settled = settled_checked missing (is_consignment source b number) books.consignments settled
 settled_kept rules b command act books settled = settled
 
@@ -158,10 +183,15 @@ holder_kept rules b catalogue command (Rent c x) shop h none = record {
   closed : list_any (keeps_out x) shop.rentals ≡ false
   closed = not-true (list_any (keeps_out x) shop.rentals) (not-false _ none.1.1.1.1.0)
 
-  still : (y : ℕ) → (x == y) ≡ false → in_stock y (shop.rentals ++ record { rented = command.moment; copy = x; customer = c; returned = None; staff = command.staff } ∷ []) ≡ false → in_stock y shop.rentals ≡ false
+  still : (y : ℕ) → (x == y) ≡ false
+      → in_stock y (shop.rentals ++ record { rented = command.moment; copy = x; customer = c; returned = None; staff = command.staff } ∷ []) ≡ false
+      → in_stock y shop.rentals ≡ false
   still y isnt out =
-      let plain : (list_any (keeps_out y) shop.rentals || (x == y && true)) ≡ list_any (keeps_out y) shop.rentals = rw isnt (or-false (list_any (keeps_out y) shop.rentals)) in
-      let e : list_any (keeps_out y) (shop.rentals ++ record { rented = command.moment; copy = x; customer = c; returned = None; staff = command.staff } ∷ []) ≡ list_any (keeps_out y) shop.rentals = some_more (keeps_out y) shop.rentals (record { rented = command.moment; copy = x; customer = c; returned = None; staff = command.staff }) ∙ plain in
+      let plain : (list_any (keeps_out y) shop.rentals || (x == y && true)) ≡ list_any (keeps_out y) shop.rentals =
+      rw isnt (or-false (list_any (keeps_out y) shop.rentals)) in
+      let e : list_any (keeps_out y) (shop.rentals ++ record { rented = command.moment; copy = x; customer = c; returned = None; staff = command.staff } ∷ [])
+      ≡ list_any (keeps_out y) shop.rentals =
+      some_more (keeps_out y) shop.rentals (record { rented = command.moment; copy = x; customer = c; returned = None; staff = command.staff }) ∙ plain in
       sym (ap not e) ∙ out
 holder_kept rules b catalogue command (TakeBack r) shop h none =
     let back : Rental → Rental = λ it. record it { returned = Some command.moment } in
@@ -170,27 +200,52 @@ holder_kept rules b catalogue command (TakeBack r) shop h none =
       one = λ x. let now = few x in let before = h.one x in omega (arith, now, before);
       here = λ x out. h.here x (rw (any_fewer (keeps_out x) shop.rentals (set_at r back shop.rentals) (few x) (out_now x (set_at r back shop.rentals) out)));
     }
-holder_kept rules b catalogue command (Import lot file) shop h none = record { one = h.one; here = λ x out. any_at_more is_here x shop.copies (map here (films_in (rules.stock_of file))) (h.here x out) }
+holder_kept rules b catalogue command (Import lot file) shop h none = record {
+  one = h.one;
+  here = λ x out. any_at_more is_here x shop.copies (map here (films_in (rules.stock_of file))) (h.here x out);
+}
 holder_kept rules b catalogue command (Dispatch to xs) shop h none = record {
   one = h.one;
   here = λ x out. elim (cases_Bool (mem x xs)) [
-    | inl sent ↦ let stays : not (in_stock x shop.rentals) ≡ false = any_none (λ x. not (in_stock x shop.rentals)) xs x none.1.1.0 sent in absurd (true≢false (sym (not-false _ stays) ∙ out))
+    | inl sent ↦
+        let stays : not (in_stock x shop.rentals) ≡ false = any_none (λ x. not (in_stock x shop.rentals)) xs x none.1.1.0 sent in
+        absurd (true≢false (sym (not-false _ stays) ∙ out))
     | inr unsent ↦ rw (at_set_all_other xs x (with_state Sent) shop.copies unsent) (h.here x out)
   ];
 }
-holder_kept rules b catalogue command (Receive source number missing) shop h none = record { one = h.one; here = λ x out. any_at_more is_here x shop.copies (map here (incoming missing (arrival source number shop))) (h.here x out) }
+holder_kept rules b catalogue command (Receive source number missing) shop h none = record {
+  one = h.one;
+  here = λ x out. any_at_more is_here x shop.copies (map here (incoming missing (arrival source number shop))) (h.here x out);
+}
 holder_kept rules b catalogue command (Scrap x) shop h none = record {
   one = h.one;
   here = λ y out. elim (cases_Bool (x == y)) [
-    | inl is ↦ let e : y ≡ x = sym (same_if x y is) in let stays : in_stock y shop.rentals ≡ true = rw e (not-false (in_stock x shop.rentals) none.1.1.0) in absurd (true≢false (sym stays ∙ out))
+    | inl is ↦
+        let e : y ≡ x = sym (same_if x y is) in
+        let stays : in_stock y shop.rentals ≡ true = rw e (not-false (in_stock x shop.rentals) none.1.1.0) in absurd (true≢false (sym stays ∙ out))
     | inr isnt ↦ rw (at_set_other x y (with_state Scrapped) shop.copies (differ_if x y isnt)) (h.here y out)
   ];
 }
 holder_kept rules b catalogue command act shop h none = record { one = h.one; here = h.here }
 
 -- arrivals and terms aren't read
-pub good_same : (rules : Rules) (shop : Shop) (arrivals : List Arrival) (terms : List Terms) → IsGoodShop rules shop → IsGoodShop rules (record shop { arrivals = arrivals; terms = terms })
-good_same rules shop arrivals terms h = record { apart = h.apart; created = h.created; rented = h.rented; paid = h.paid; rentals_rise = h.rentals_rise; payments_rise = h.payments_rise; keys = h.keys; copies = h.copies; customers_fit = h.customers_fit; rentals_fit = h.rentals_fit; payments_fit = h.payments_fit; lots_fit = h.lots_fit; sent_fit = h.sent_fit }
+pub good_same : (rules : Rules) (shop : Shop) (arrivals : List Arrival) (terms : List Terms)
+    → IsGoodShop rules shop → IsGoodShop rules (record shop { arrivals = arrivals; terms = terms })
+good_same rules shop arrivals terms h = record {
+  apart = h.apart;
+  created = h.created;
+  rented = h.rented;
+  paid = h.paid;
+  rentals_rise = h.rentals_rise;
+  payments_rise = h.payments_rise;
+  keys = h.keys;
+  copies = h.copies;
+  customers_fit = h.customers_fit;
+  rentals_fit = h.rentals_fit;
+  payments_fit = h.payments_fit;
+  lots_fit = h.lots_fit;
+  sent_fit = h.sent_fit;
+}
 
 -- ---- last moments
 
@@ -216,7 +271,8 @@ different_filtered same q (x ∷ xs) all =
       | inr isnt ↦ rw isnt (different_filtered same q xs h.1)
     ]
 
-one_last : (b : ℕ) (moment : Moment) (lasts : List (Owned Moment)) → are_different of_one_branch lasts ≡ true → are_different of_one_branch (set_last b moment lasts) ≡ true
+one_last : (b : ℕ) (moment : Moment) (lasts : List (Owned Moment))
+    → are_different of_one_branch lasts ≡ true → are_different of_one_branch (set_last b moment lasts) ≡ true
 one_last b moment lasts one = rw (none_of b lasts) (different_filtered of_one_branch (λ row. not (row.owner == b)) lasts one)
 
 -- ---- custody by itself
@@ -225,7 +281,8 @@ one_last b moment lasts one = rw (none_of b lasts) (different_filtered of_one_br
 abbrev made_by : Row BookCopy → ℕ → Mark → Bool
 made_by row film mark = is_origin row && row.it.film == film && row.it.mark.branch == mark.branch && row.it.mark.copy == mark.copy
 
-made_parts : (row : Row BookCopy) (film : ℕ) (mark : Mark) → made_by row film mark ≡ true → (row.it.film ≡ film) × ((is_origin row && is_mark mark row.it.mark) ≡ true)
+made_parts : (row : Row BookCopy) (film : ℕ) (mark : Mark) → made_by row film mark ≡ true
+    → (row.it.film ≡ film) × ((is_origin row && is_mark mark row.it.mark) ≡ true)
 made_parts row film mark is =
     let last = and_parts (is_origin row && row.it.film == film && row.it.mark.branch == mark.branch) (row.it.mark.copy == mark.copy) is in
     let third = and_parts (is_origin row && row.it.film == film) (row.it.mark.branch == mark.branch) last.0 in
@@ -240,15 +297,20 @@ made_some film mark (row ∷ rows) is = elim (cases_Bool (made_by row film mark)
 ]
 
 -- a mark that is made once goes with one film
-one_film : (mark : Mark) (f g : ℕ) (rows : List (Row BookCopy)) → rows_made (is_mark mark) rows ≤ 1 → is_made_as rows f mark ≡ true → is_made_as rows g mark ≡ true → g ≡ f
+one_film : (mark : Mark) (f g : ℕ) (rows : List (Row BookCopy)) → rows_made (is_mark mark) rows ≤ 1
+    → is_made_as rows f mark ≡ true → is_made_as rows g mark ≡ true → g ≡ f
 one_film mark f g [] once is was = absurd (true≢false (sym is))
 one_film mark f g (row ∷ rows) once is was = elim (cases_Bool (made_by row f mark)) [
   | inl here ↦ elim (cases_Bool (made_by row g mark)) [
     | inl too ↦ sym (made_parts row g mark too).0 ∙ (made_parts row f mark here).0
-    | inr other ↦ let some = made_some g mark rows (rw other at was) in let one : 1 + rows_made (is_mark mark) rows ≤ 1 = rw (made_parts row f mark here).1 at once in absurd (omega (arith, some, one))
+    | inr other ↦
+        let some = made_some g mark rows (rw other at was) in
+        let one : 1 + rows_made (is_mark mark) rows ≤ 1 = rw (made_parts row f mark here).1 at once in absurd (omega (arith, some, one))
   ]
   | inr there ↦ elim (cases_Bool (made_by row g mark)) [
-    | inl here ↦ let some = made_some f mark rows (rw there at is) in let one : 1 + rows_made (is_mark mark) rows ≤ 1 = rw (made_parts row g mark here).1 at once in absurd (omega (arith, some, one))
+    | inl here ↦
+        let some = made_some f mark rows (rw there at is) in
+        let one : 1 + rows_made (is_mark mark) rows ≤ 1 = rw (made_parts row g mark here).1 at once in absurd (omega (arith, some, one))
     | inr other ↦ one_film mark f g rows (omega (arith, once)) (rw there at is) (rw other at was)
   ]
 ]
@@ -271,9 +333,13 @@ in_custody rules books sound = record {
   marks = marked_films books
 
   all : list_all made_as marks ≡ true
-  all = all_append made_as (map (λ (row : Row BookCopy). (row.it.film, row.it.mark)) books.copies) (map (λ (line : Line). (line.film, line.mark)) (all_lines books))
-      (all_mapped made_as (λ (row : Row BookCopy). is_made_as books.copies row.it.film row.it.mark) (λ (row : Row BookCopy). (row.it.film, row.it.mark)) books.copies (λ row is. is) sound.origins.rows)
-      (all_mapped made_as (λ (line : Line). is_made_as books.copies line.film line.mark) (λ (line : Line). (line.film, line.mark)) (all_lines books) (λ line is. is) sound.origins.lines)
+  all =
+      all_append made_as (map (λ (row : Row BookCopy). (row.it.film, row.it.mark)) books.copies)
+      (map (λ (line : Line). (line.film, line.mark)) (all_lines books))
+      (all_mapped made_as (λ (row : Row BookCopy). is_made_as books.copies row.it.film row.it.mark)
+      (λ (row : Row BookCopy). (row.it.film, row.it.mark)) books.copies (λ row is. is) sound.origins.rows)
+      (all_mapped made_as (λ (line : Line). is_made_as books.copies line.film line.mark)
+      (λ (line : Line). (line.film, line.mark)) (all_lines books) (λ line is. is) sound.origins.lines)
 
   positive : (n : ℕ) → 1 ≤ n → nat_lt 0 n ≡ true
   positive n some = grind (arith, nat_tests)
@@ -284,11 +350,13 @@ in_custody rules books sound = record {
   one_place : (mark : Mark) → 1 ≤ rows_made (is_mark mark) books.copies → (places (is_mark mark) books == 1) ≡ true
   one_place mark some = let c = sound.custody (is_mark mark) in let most = once mark in equal_test _ 1 (omega (arith, c, some, most))
 
-  same_film : (it other : ℕ × Mark) → is_made_as books.copies it.0 it.1 ≡ true → is_made_as books.copies other.0 other.1 ≡ true → (not (is_mark it.1 other.1) || other.0 == it.0) ≡ true
+  same_film : (it other : ℕ × Mark) → is_made_as books.copies it.0 it.1 ≡ true
+      → is_made_as books.copies other.0 other.1 ≡ true → (not (is_mark it.1 other.1) || other.0 == it.0) ≡ true
   same_film it other is was = elim (cases_Bool (is_mark it.1 other.1)) [
     | inr apart ↦ rw apart refl
     | inl same ↦
-        let mine : is_made_as books.copies other.0 it.1 ≡ true = subst (λ (mark : Mark). is_made_as books.copies other.0 mark ≡ true) (same_mark it.1 other.1 same) was in
+        let mine : is_made_as books.copies other.0 it.1 ≡ true =
+        subst (λ (mark : Mark). is_made_as books.copies other.0 mark ≡ true) (same_mark it.1 other.1 same) was in
         let film : other.0 ≡ it.0 = one_film it.1 it.0 other.0 books.copies (once it.1) is mine in
         rw (same, film, same_test it.0) refl
   ]
@@ -296,11 +364,13 @@ in_custody rules books sound = record {
 -- ---- terms
 
 -- a copy that is there has a film that is there
-pub one_film_now : (b : ℕ) (catalogue : Catalogue) (shop : Shop) (x : ℕ) → IsLinkedShop b catalogue shop → lacks shop.copies x ≡ false → length (terms_now catalogue shop x) ≡ 1
+pub one_film_now : (b : ℕ) (catalogue : Catalogue) (shop : Shop) (x : ℕ) → IsLinkedShop b catalogue shop
+    → lacks shop.copies x ≡ false → length (terms_now catalogue shop x) ≡ 1
 one_film_now b catalogue shop x linked there =
     length_map film_terms (flat_map (λ (copy : Copy). at copy.film catalogue.films) (at x shop.copies))
     ∙ by_rows (at x shop.copies) (one_at x shop.copies there) (all_at (λ (it : Copy). has_row catalogue.films it.film) x shop.copies linked.copy_films) where
-      by_rows : (rows : List Copy) → length rows ≡ 1 → list_all (λ (it : Copy). has_row catalogue.films it.film) rows ≡ true → length (flat_map (λ (copy : Copy). at copy.film catalogue.films) rows) ≡ 1
+      by_rows : (rows : List Copy) → length rows ≡ 1 → list_all (λ (it : Copy). has_row catalogue.films it.film) rows ≡ true
+          → length (flat_map (λ (copy : Copy). at copy.film catalogue.films) rows) ≡ 1
       by_rows [] single all = cc
       by_rows (copy ∷ []) single all =
           let h = and_parts (has_row catalogue.films copy.film) true all in
@@ -314,7 +384,8 @@ terms_kept rules b catalogue command (Rent c x) shop linked none same =
     let terms = length-append shop.terms (terms_now catalogue shop x) in
     let rentals = length-append shop.rentals (record { rented = command.moment; copy = x; customer = c; returned = None; staff = command.staff } ∷ []) in
     omega (arith, new, terms, rentals, same)
-terms_kept rules b catalogue command (TakeBack r) shop linked none same = same ∙ sym (length_set r (λ (it : Rental). record it { returned = Some command.moment }) shop.rentals)
+terms_kept rules b catalogue command (TakeBack r) shop linked none same =
+    same ∙ sym (length_set r (λ (it : Rental). record it { returned = Some command.moment }) shop.rentals)
 terms_kept rules b catalogue command act shop linked none same = same
 
 -- ---- a step and a run
@@ -326,7 +397,8 @@ of_each P b own other c = elim (cases_Bool (b == c)) [
   | inr isnt ↦ other c isnt
 ]
 
-done_sound : (rules sizes : Rules) (b : ℕ) (command : Command) (books : Books) → rules.commands ≤ sizes.commands → rules.copies ≤ sizes.copies → IsSound sizes books
+done_sound : (rules sizes : Rules) (b : ℕ) (command : Command) (books : Books)
+    → rules.commands ≤ sizes.commands → rules.copies ≤ sizes.copies → IsSound sizes books
     → verdict rules b books.catalogue (shop_of b books) command ≡ Accepted → IsSound sizes (book_done rules b command books)
 done_sound rules sizes b command books most fit sound e =
     let all = accepted_holds rules b books.catalogue (shop_of b books) command e in
@@ -341,7 +413,9 @@ done_sound rules sizes b command books most fit sound e =
     let allowed = edits_allowed rules b command command.act books sound.numbers (sound.links b) works none in
     record {
       catalogue = rw same sound.catalogue;
-      owners = subst (λ (it : Catalogue). HasOwners it.branches (book_done rules b command books)) (sym same) (owners_done rules b books.catalogue command books sound.owners there none);
+      owners =
+          subst (λ (it : Catalogue). HasOwners it.branches (book_done rules b command books))
+          (sym same) (owners_done rules b books.catalogue command books sound.owners there none);
       numbers = record { rows = numbers.rows; consignments = numbers.consignments };
       places = places_kept rules b command command.act books sound.places;
       custody = custody_kept rules sizes b books.catalogue command command.act books sound none;
@@ -355,28 +429,39 @@ done_sound rules sizes b command books most fit sound e =
           (arrived_or_same HasOneHolder c b command.act books (λ xs. holder_same (shop_of c books) _ refl refl (sound.held c)) (sound.held c)));
       shops =
           let good = each_weaker (IsAllowed b command.moment) (IsGoodEdit b command.moment) b (λ (books : Books) edit is. is.good) edits books allowed in
-          of_each (λ c. IsGoodShop sizes (shop_of c done)) b (good_shop_done rules sizes b command books most fit sound.numbers (sound.shops b) all.0 all.1.0 none good)
+          of_each (λ c. IsGoodShop sizes (shop_of c done)) b
+          (good_shop_done rules sizes b command books most fit sound.numbers (sound.shops b) all.0 all.1.0 none good)
           (λ c isnt. rw (done_other rules c b command books sound.numbers isnt)
           (arrived_or_same (IsGoodShop sizes) c b command.act books (λ xs. good_same sizes (shop_of c books) _ _ (sound.shops c)) (sound.shops c)));
       links =
           let linked = each_weaker (IsAllowed b command.moment) (IsLinkedEdit b) b (λ (books : Books) edit is. is.linked) edits books allowed in
           let shop = shop_of b books in
-          let fresh = (none_kept command (filter (λ (k : Kept). bytes_eq k.command.key command.key) shop.kept) (first (refusals rules b books.catalogue shop command)) e).0 in
+          let fresh =
+          (none_kept command (filter (λ (k : Kept). bytes_eq k.command.key command.key) shop.kept)
+          (first (refusals rules b books.catalogue shop command)) e).0 in
           of_each (λ c. IsLinkedShop c done.catalogue (shop_of c done)) b
-          (rw same (linked_done rules b command books sound.numbers (sound.links b) (none_left (λ (it : Kept). bytes_eq it.command.key command.key) shop.kept fresh) linked))
+          (rw same
+          (linked_done rules b command books sound.numbers (sound.links b)
+          (none_left (λ (it : Kept). bytes_eq it.command.key command.key) shop.kept fresh) linked))
           (λ c isnt. rw (same, done_other rules c b command books sound.numbers isnt) (linked_other c b command.act books (sound.links c) (sound.links b)));
       terms = of_each (λ c. HasTerms (shop_of c done)) b
-          (subst HasTerms (sym (done_own rules b command books sound.numbers away)) (terms_kept rules b books.catalogue command command.act (shop_of b books) (sound.links b) none (sound.terms b)))
-          (λ c isnt. subst HasTerms (sym (done_other rules c b command books sound.numbers isnt)) (arrived_or_same HasTerms c b command.act books (λ xs. sound.terms c) (sound.terms c)));
+          (subst HasTerms (sym (done_own rules b command books sound.numbers away))
+          (terms_kept rules b books.catalogue command command.act (shop_of b books) (sound.links b) none (sound.terms b)))
+          (λ c isnt.
+          subst HasTerms (sym (done_other rules c b command books sound.numbers isnt))
+          (arrived_or_same HasTerms c b command.act books (λ xs. sound.terms c) (sound.terms c)));
     }
 
-branch_sound : (rules sizes : Rules) (b : ℕ) (request : Request) (books : Books) → rules.commands ≤ sizes.commands → rules.copies ≤ sizes.copies → IsSound sizes books → IsSound sizes (branch_after rules b request books)
+branch_sound : (rules sizes : Rules) (b : ℕ) (request : Request) (books : Books) → rules.commands ≤ sizes.commands
+    → rules.copies ≤ sizes.copies → IsSound sizes books → IsSound sizes (branch_after rules b request books)
 branch_sound rules sizes b (Do command) books most fit sound =
-    by_verdict (IsSound sizes) (verdict rules b books.catalogue (shop_of b books) command) (book_done rules b command books) books (done_sound rules sizes b command books most fit sound) sound
+    by_verdict (IsSound sizes) (verdict rules b books.catalogue (shop_of b books) command)
+    (book_done rules b command books) books (done_sound rules sizes b command books most fit sound) sound
 branch_sound rules sizes b request books most fit sound = sound
 
 -- another catalogue, which is sound and has grown
-grown_sound : (sizes : Rules) (catalogue : Catalogue) (books : Books) → IsSound sizes books → IsGoodCatalogue sizes catalogue → Grows books.catalogue catalogue → IsSound sizes (record books { catalogue = catalogue })
+grown_sound : (sizes : Rules) (catalogue : Catalogue) (books : Books) → IsSound sizes books → IsGoodCatalogue sizes catalogue
+    → Grows books.catalogue catalogue → IsSound sizes (record books { catalogue = catalogue })
 grown_sound sizes catalogue books sound good grows = record {
   catalogue = good;
   owners = let h = owners_grow books.catalogue.branches catalogue.branches books grows.branches sound.owners in
@@ -393,12 +478,18 @@ grown_sound sizes catalogue books sound good grows = record {
   terms = sound.terms;
 }
 
-office_sound : (rules sizes : Rules) (command : OfficeCommand) (books : Books) → rules.commands ≤ sizes.commands → IsSound sizes books → IsSound sizes (record books { catalogue = catalogue_after rules command books.catalogue })
+office_sound : (rules sizes : Rules) (command : OfficeCommand) (books : Books) → rules.commands ≤ sizes.commands
+    → IsSound sizes books → IsSound sizes (record books { catalogue = catalogue_after rules command books.catalogue })
 office_sound rules sizes command books most sound =
-    by_verdict (λ (it : Catalogue). IsSound sizes (record books { catalogue = it })) (office_verdict rules books.catalogue command) (office_done command books.catalogue) books.catalogue
-    (λ e. grown_sound sizes (office_done command books.catalogue) books sound (good_done rules sizes command books.catalogue most sound.catalogue e) (done_grows command books.catalogue)) sound
+    by_verdict (λ (it : Catalogue). IsSound sizes (record books { catalogue = it }))
+    (office_verdict rules books.catalogue command) (office_done command books.catalogue) books.catalogue
+    (λ e.
+    grown_sound sizes (office_done command books.catalogue) books sound
+    (good_done rules sizes command books.catalogue most sound.catalogue e) (done_grows command books.catalogue))
+    sound
 
-pub after_sound : (rules sizes : Rules) (caller : Caller) (request : Request) (books : Books) → rules.commands ≤ sizes.commands → rules.copies ≤ sizes.copies → IsSound sizes books → IsSound sizes (after_for rules caller request books)
+pub after_sound : (rules sizes : Rules) (caller : Caller) (request : Request) (books : Books) → rules.commands ≤ sizes.commands
+    → rules.copies ≤ sizes.copies → IsSound sizes books → IsSound sizes (after_for rules caller request books)
 after_sound rules sizes (Counter b) request books most fit sound = branch_sound rules sizes b request books most fit sound
 after_sound rules sizes HeadOffice (Office command) books most fit sound = office_sound rules sizes command books most sound
 after_sound rules sizes caller request books most fit sound = sound
@@ -427,7 +518,14 @@ in_one_place rules events books sound =
 pub opening_sound : OpeningIsSound
 opening_sound rules catalogue good = record {
   catalogue = good;
-  owners = record { rows = by_none (AreRowsOwned catalogue.branches) catalogue (λ t. refl); lots = refl; kept = refl; lasts = refl; sources = refl; addressees = refl };
+  owners = record {
+    rows = by_none (AreRowsOwned catalogue.branches) catalogue (λ t. refl);
+    lots = refl;
+    kept = refl;
+    lasts = refl;
+    sources = refl;
+    addressees = refl;
+  };
   places = tt;
   numbers = record { rows = by_none AreRowsNumbered catalogue (λ t b. tt); consignments = λ s a. tt };
   custody = λ test. refl;
@@ -435,15 +533,50 @@ opening_sound rules catalogue good = record {
   settled = refl;
   lasts = refl;
   held = λ b. record { one = λ x. omega arith; here = λ x out. absurd (true≢false out) };
-  shops = λ b. record { apart = refl; created = refl; rented = refl; paid = refl; rentals_rise = refl; payments_rise = refl; keys = omega arith; copies = omega arith; customers_fit = omega arith; rentals_fit = omega arith; payments_fit = omega arith; lots_fit = omega arith; sent_fit = omega arith };
+  shops = λ b.
+      record {
+        apart = refl;
+        created = refl;
+        rented = refl;
+        paid = refl;
+        rentals_rise = refl;
+        payments_rise = refl;
+        keys = omega arith;
+        copies = omega arith;
+        customers_fit = omega arith;
+        rentals_fit = omega arith;
+        payments_fit = omega arith;
+        lots_fit = omega arith;
+        sent_fit = omega arith;
+      };
   links = λ b. linked_opening b catalogue;
   terms = λ b. refl;
 }
 
 pub empty_sound : EmptyIsSound
 empty_sound rules token = opening_sound rules (empty_catalogue token) (record {
-  names = record { city_countries = refl; film_languages = refl; film_categories = refl; cast_films = refl; cast_actors = refl; branch_cities = refl; managers = λ b. refl; staff_branches = refl; staff_cities = refl };
-  sizes = record { casts = omega arith; countries = omega arith; cities = omega arith; languages = omega arith; categories = omega arith; actors = omega arith; films = omega arith; branches = omega arith; staff = omega arith };
+  names = record {
+    city_countries = refl;
+    film_languages = refl;
+    film_categories = refl;
+    cast_films = refl;
+    cast_actors = refl;
+    branch_cities = refl;
+    managers = λ b. refl;
+    staff_branches = refl;
+    staff_cities = refl;
+  };
+  sizes = record {
+    casts = omega arith;
+    countries = omega arith;
+    cities = omega arith;
+    languages = omega arith;
+    categories = omega arith;
+    actors = omega arith;
+    films = omega arith;
+    branches = omega arith;
+    staff = omega arith;
+  };
   single = record { casts = refl; countries = refl; languages = refl; categories = refl };
   keys_fit = omega arith;
   keys = refl;
@@ -453,15 +586,36 @@ empty_sound rules token = opening_sound rules (empty_catalogue token) (record {
 
 pub opening_books_sound : OpeningBooksAreSound
 opening_books_sound rules = opening_sound rules opening_catalogue (record {
-  names = record { city_countries = refl; film_languages = refl; film_categories = refl; cast_films = refl; cast_actors = refl; branch_cities = refl; managers = λ b. managed b; staff_branches = refl; staff_cities = refl };
-  sizes = record { casts = omega arith; countries = omega arith; cities = omega arith; languages = omega arith; categories = omega arith; actors = omega arith; films = omega arith; branches = omega arith; staff = omega arith };
+  names = record {
+    city_countries = refl;
+    film_languages = refl;
+    film_categories = refl;
+    cast_films = refl;
+    cast_actors = refl;
+    branch_cities = refl;
+    managers = λ b. managed b;
+    staff_branches = refl;
+    staff_cities = refl;
+  };
+  sizes = record {
+    casts = omega arith;
+    countries = omega arith;
+    cities = omega arith;
+    languages = omega arith;
+    categories = omega arith;
+    actors = omega arith;
+    films = omega arith;
+    branches = omega arith;
+    staff = omega arith;
+  };
   single = record { casts = refl; countries = refl; languages = refl; categories = refl };
   keys_fit = omega arith;
   keys = refl;
   tokens = refl;
   office_token = refl;
 }) where
-  managed : (b : ℕ) → list_all (λ (it : Branch). list_all (is_staff_of b opening_catalogue.staff) (option_to_list it.manager)) (at b opening_catalogue.branches) ≡ true
+  managed : (b : ℕ)
+      → list_all (λ (it : Branch). list_all (is_staff_of b opening_catalogue.staff) (option_to_list it.manager)) (at b opening_catalogue.branches) ≡ true
   managed b = elim (cases_Bool (b == 1)) [
     | inl is ↦ rw (same_if b 1 is)
     | inr first ↦ elim (cases_Bool (b - 1 == 1)) [

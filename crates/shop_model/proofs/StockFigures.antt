@@ -1,6 +1,10 @@
 -- The copies of a film that are here are split into copies in stock and copies that are out. A copy that is out has one holder. An overdue copy is out with
 -- the customer that its row names.
-use Rattle.shop_model.proofs.Common.{◌≡◌, inl, inr, ℕ, ◌+◌, ◌-◌, ◌≤◌, List, [], ◌∷◌, ◌++◌, length, filter, map, Bool, true, false, not, refl, sym, ap, ◌∙◌, arith, append-nil, append_assoc, length-append, ◌==◌, ◌&&◌, ◌||◌, codes, flat_map, zip, is_none, AllByRecursion, list_any, list_all, cases_Bool, and_parts, or_parts, false≢true, true≢false, filter-append, at, has_double, is_empty, mem, numbered_from, Moment, Film, Customer, Copy, Rental, Terms, Catalogue, Shop, is_here, keeps_out, in_stock, film_of, is_overdue, shop_of, has_row, IsLinkedShop, HasOneHolder}
+use Rattle.shop_model.proofs.Common.{◌≡◌, inl, inr, ℕ, ◌+◌, ◌-◌, ◌≤◌, List, [], ◌∷◌, ◌++◌, length, filter, map, Bool, true, false, not, refl, sym, ap, ◌∙◌}
+use Rattle.shop_model.proofs.Common.{arith, append-nil, append_assoc, length-append, ◌==◌, ◌&&◌, ◌||◌, codes, flat_map, zip, is_none, AllByRecursion, list_any}
+use Rattle.shop_model.proofs.Common.{list_all, cases_Bool, and_parts, or_parts, false≢true, true≢false, filter-append, at, has_double, is_empty, mem}
+use Rattle.shop_model.proofs.Common.{numbered_from, Moment, Film, Customer, Copy, Rental, Terms, Catalogue, Shop, is_here, keeps_out, in_stock, film_of}
+use Rattle.shop_model.proofs.Common.{is_overdue, shop_of, has_row, IsLinkedShop, HasOneHolder}
 use Rattle.std.proofs.Math.Bool.{and-false, and-true}
 use Rattle.std.proofs.lemmas.List.Folds.{list_all-append}
 use Rattle.shop_model.specs.Stock.{film_in_stock, film_not_in_stock}
@@ -15,7 +19,8 @@ pub not_first : (n k : ℕ) → (n ≡ k → ⊥) → n + 1 - k ≡ 1 → ⊥
 not_first n k d e = d (omega (arith, e))
 
 -- one of them is the number of a row that passes
-pub mem_numbered : {A : Type 0} (p : ℕ × A → Bool) (x k : ℕ) (xs : List A) → mem x (map (λ (it : ℕ × A). it.0) (filter p (numbered_from k xs))) ≡ list_any (λ a. p (x, a)) (at (x + 1 - k) xs)
+pub mem_numbered : {A : Type 0} (p : ℕ × A → Bool) (x k : ℕ) (xs : List A)
+    → mem x (map (λ (it : ℕ × A). it.0) (filter p (numbered_from k xs))) ≡ list_any (λ a. p (x, a)) (at (x + 1 - k) xs)
 mem_numbered p x k [] = refl
 mem_numbered {A = A} p x k (a ∷ xs) = elim (cases_Bool (x == k)) [
   | inl is ↦
@@ -32,7 +37,8 @@ mem_numbered {A = A} p x k (a ∷ xs) = elim (cases_Bool (x == k)) [
       let d = differ_if x k isnt in
       let there : ((x + 1 - k) == 1) ≡ false = differ_test (x + 1 - k) 1 (not_first x k d) in
       let further : x + 1 - (k + 1) ≡ x + 1 - k - 1 = omega arith in
-      let more : mem x (map (λ (it : ℕ × A). it.0) (filter p (numbered_from (k + 1) xs))) ≡ list_any (λ a. p (x, a)) (at (x + 1 - k - 1) xs) = mem_numbered p x (k + 1) xs ∙ rw further refl in
+      let more : mem x (map (λ (it : ℕ × A). it.0) (filter p (numbered_from (k + 1) xs))) ≡ list_any (λ a. p (x, a)) (at (x + 1 - k - 1) xs) =
+      mem_numbered p x (k + 1) xs ∙ rw further refl in
       elim (cases_Bool (p (k, a))) [
         | inl passes ↦ rw (passes, differ_test k x (λ e. d (sym e)), there) more
         | inr fails ↦ rw (fails, there) more
@@ -140,7 +146,8 @@ no_length [] e = refl
 no_length (x ∷ xs) e = absurd (omega (arith, e))
 
 -- where at most one passes, one that does is the only one
-only_one : {A : Type 0} (p : A → Bool) (front : List A) (x : A) (back : List A) → p x ≡ true → length (filter p (front ++ x ∷ back)) ≤ 1 → filter p (front ++ x ∷ back) ≡ x ∷ []
+only_one : {A : Type 0} (p : A → Bool) (front : List A) (x : A) (back : List A) → p x ≡ true
+    → length (filter p (front ++ x ∷ back)) ≤ 1 → filter p (front ++ x ∷ back) ≡ x ∷ []
 only_one p front x back is few =
     let both : filter p (front ++ x ∷ back) ≡ filter p front ++ x ∷ filter p back = filter-append p front (x ∷ back) ∙ rw is in
     let n = length-append (filter p front) (x ∷ filter p back) in
@@ -173,19 +180,26 @@ each_overdue P moment front (rental ∷ rentals) (its ∷ terms) each =
       | inr isnt ↦ rw isnt rest
     ]
 
-out_with : (b : ℕ) (catalogue : Catalogue) (shop : Shop) → HasOneHolder shop → IsLinkedShop b catalogue shop → (front : List Rental) (rental : Rental) (back : List Rental)
+out_with : (b : ℕ) (catalogue : Catalogue) (shop : Shop) → HasOneHolder shop
+    → IsLinkedShop b catalogue shop → (front : List Rental) (rental : Rental) (back : List Rental)
     → shop.rentals ≡ front ++ rental ∷ back → is_none rental.returned ≡ true → IsOutWithNamed catalogue shop rental
 out_with b catalogue shop holds linked front rental back e lasts =
     let p = keeps_out rental.copy in
     let keeps : p rental ≡ true = rw (same_test rental.copy, lasts) refl in
     let only : filter p shop.rentals ≡ rental ∷ [] = ap (filter p) e ∙ only_one p front rental back keeps (rw e at (holds.one rental.copy)) in
     let out : in_stock rental.copy shop.rentals ≡ false = sym (none_left p shop.rentals) ∙ ap is_empty only in
-    let customer = row_there rental.customer shop.customers (within (λ (it : Rental). has_row shop.customers it.customer) front rental back (rw e at linked.rental_customers)) in
+    let customer =
+    row_there rental.customer shop.customers
+    (within (λ (it : Rental). has_row shop.customers it.customer) front rental back (rw e at linked.rental_customers)) in
     let copy = row_there rental.copy shop.copies (within (λ (it : Rental). has_row shop.copies it.copy) front rental back (rw e at linked.rental_copies)) in
-    let its : list_all (λ (it : Copy). has_row catalogue.films it.film) (copy.0 ∷ []) ≡ true = rw copy.1 at (all_at (λ (it : Copy). has_row catalogue.films it.film) rental.copy shop.copies linked.copy_films) in
+    let its : list_all (λ (it : Copy). has_row catalogue.films it.film) (copy.0 ∷ []) ≡ true =
+    rw copy.1 at (all_at (λ (it : Copy). has_row catalogue.films it.film) rental.copy shop.copies linked.copy_films) in
     let film = row_there copy.0.film catalogue.films (and_parts (has_row catalogue.films copy.0.film) true its).0 in
-    let what : film_of catalogue shop rental ≡ film.0 ∷ [] = ap (flat_map (λ (it : Copy). at it.film catalogue.films)) copy.1 ∙ append-nil (at copy.0.film catalogue.films) ∙ film.1 in
-    let name = ap (flat_map (λ (it : Customer). it.person.last ++ codes ", " ++ it.person.first)) customer.1 ∙ append-nil (customer.0.person.last ++ codes ", " ++ customer.0.person.first) in
+    let what : film_of catalogue shop rental ≡ film.0 ∷ [] =
+    ap (flat_map (λ (it : Copy). at it.film catalogue.films)) copy.1 ∙ append-nil (at copy.0.film catalogue.films) ∙ film.1 in
+    let name =
+    ap (flat_map (λ (it : Customer). it.person.last ++ codes ", " ++ it.person.first)) customer.1
+    ∙ append-nil (customer.0.person.last ++ codes ", " ++ customer.0.person.first) in
     let phone = ap (flat_map (λ (it : Customer). it.person.phone)) customer.1 ∙ append-nil customer.0.person.phone in
     let title = ap (flat_map (λ (it : Film). it.title)) what ∙ append-nil film.0.title in
     record {

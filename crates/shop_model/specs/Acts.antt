@@ -1,13 +1,16 @@
 -- What a branch's acts are: when two are the same, what each is refused for, what it changes, and what is replied. All refusals are our own, but that no
 -- two rentals share moment, copy and customer, which is a unique key of the manual's script.
-use Rattle.std.specs.Prelude.{ℕ, ◌==◌, ◌&&◌, Bool, true, false, List, Some, None, ◌+◌, ◌||◌, nat_lt, nat_le, not, if◌then◌else◌, [], ◌∷◌, length, filter, is_some, ◌++◌, map, flat_map, codes, decimal}
+use Rattle.std.specs.Prelude.{ℕ, ◌==◌, ◌&&◌, Bool, true, false, List, Some, None, ◌+◌, ◌||◌, nat_lt, nat_le, not, if◌then◌else◌, [], ◌∷◌, length, filter}
+use Rattle.std.specs.Prelude.{is_some, ◌++◌, map, flat_map, codes, decimal}
 use Rattle.std.specs.Str.{bytes_eq}
 use Rattle.shop_model.specs.Calendar.{Moment, same_moment}
-use Rattle.shop_model.specs.Values.{Text, Film, Customer, Copy, Rental, Arrival, Parcel, Act, AddCustomer, SetActive, Rent, TakeBack, Pay, Import, Dispatch, Receive, Scrap, Command, Stock, Copies, BadLine, Rules, new_customer, CopyState, Here, Sent, Scrapped}
+use Rattle.shop_model.specs.Values.{Text, Film, Customer, Copy, Rental, Arrival, Parcel, Act, AddCustomer, SetActive, Rent, TakeBack, Pay, Import, Dispatch}
+use Rattle.shop_model.specs.Values.{Receive, Scrap, Command, Stock, Copies, BadLine, Rules, new_customer, CopyState, Here, Sent, Scrapped}
 use Rattle.std.specs.Option.{option_to_list}
 use Rattle.std.specs.List.{list_any}
 use Rattle.shop_model.specs.Rows.{at, lacks, is_empty, has_double, arrived, total, set_at, set_all, set_among}
-use Rattle.shop_model.specs.Refusals.{Refusal, NoCustomer, CustomerInactive, NoCopy, CopyNotHere, CopyOut, FilmWithdrawn, SameMoment, NoRental, RentalReturned, WrongCustomer, NoFilm, LotIn, BadCsv, NoBranch, OwnBranch, NoArrival, ArrivalReceived, BadLines, NoSharedRow, Already}
+use Rattle.shop_model.specs.Refusals.{Refusal, NoCustomer, CustomerInactive, NoCopy, CopyNotHere, CopyOut, FilmWithdrawn, SameMoment, NoRental, RentalReturned}
+use Rattle.shop_model.specs.Refusals.{WrongCustomer, NoFilm, LotIn, BadCsv, NoBranch, OwnBranch, NoArrival, ArrivalReceived, BadLines, NoSharedRow, Already}
 use Rattle.shop_model.specs.Shop.{Catalogue, Shop, same_flag, same_option, same_numbers, same_person}
 use Rattle.shop_model.specs.Stock.{is_here, in_stock, terms_now}
 use Rattle.shop_model.specs.Json.{flag_text, numbers_text}
@@ -181,5 +184,6 @@ told rules (TakeBack r) shop = (codes "returned", decimal r) ∷ []
 told rules (Pay c rental amount) shop = (codes "payment", decimal (length shop.payments + 1)) ∷ []
 told rules (Import lot file) shop = (codes "copies", decimal (length (films_in (rules.stock_of file)))) ∷ (codes "first", decimal (length shop.copies + 1)) ∷ []
 told rules (Dispatch to xs) shop = (codes "consignment", decimal (length (parcels_to to shop) + 1)) ∷ (codes "to", decimal to) ∷ []
-told rules (Receive source number missing) shop = (codes "copies", numbers_text (numbers_from (length shop.copies + 1) (incoming missing (arrival source number shop)))) ∷ []
+told rules (Receive source number missing) shop =
+    (codes "copies", numbers_text (numbers_from (length shop.copies + 1) (incoming missing (arrival source number shop)))) ∷ []
 told rules (Scrap x) shop = (codes "scrapped", decimal x) ∷ []

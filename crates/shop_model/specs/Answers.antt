@@ -5,7 +5,8 @@ use Rattle.shop_model.specs.Calendar.{moment_text}
 use Rattle.shop_model.specs.Values.{Text, Customer, Film, Arrival, Parcel}
 use Rattle.shop_model.specs.Refusals.{BadCsv, Problem, Decision, problem_name, problem_status}
 use Rattle.shop_model.specs.Json.{quoted, flag_text, number_or_null, array, numbers_text, object}
-use Rattle.shop_model.specs.Machine.{Shown, CustomerIs, FilmIs, InStockIs, HolderIs, CopiesAre, BalanceIs, RowsAre, CustomersAre, ArrivalsAre, SentAre, HereAt, UnderWayTo, Gone, TransitIs, AuditIs, Reply, Sorry, Done, Shows}
+use Rattle.shop_model.specs.Machine.{Shown, CustomerIs, FilmIs, InStockIs, HolderIs, CopiesAre, BalanceIs, RowsAre, CustomersAre, ArrivalsAre, SentAre, HereAt}
+use Rattle.shop_model.specs.Machine.{UnderWayTo, Gone, TransitIs, AuditIs, Reply, Sorry, Done, Shows}
 
 pub record Answer : Type 0 where
   pub status : ℕ
@@ -88,11 +89,13 @@ shown_text (ArrivalsAre arrivals) = array (arrivals_text [] arrivals)
 shown_text (SentAre parcels) = array (sent_text [] parcels)
 shown_text (HereAt b x) = object ((codes "branch", decimal b) ∷ (codes "copy", decimal x) ∷ (codes "place", quoted (codes "here")) ∷ [])
 shown_text (UnderWayTo source addressee number) =
-    object ((codes "from", decimal source) ∷ (codes "number", decimal number) ∷ (codes "place", quoted (codes "transit")) ∷ (codes "to", decimal addressee) ∷ [])
+    object
+    ((codes "from", decimal source) ∷ (codes "number", decimal number) ∷ (codes "place", quoted (codes "transit")) ∷ (codes "to", decimal addressee) ∷ [])
 shown_text Gone = object ((codes "place", quoted (codes "gone")) ∷ [])
 shown_text (TransitIs rows) = array (map transit_text rows)
 shown_text (AuditIs sound made here transit gone) =
-    object ((codes "gone", decimal gone) ∷ (codes "here", decimal here) ∷ (codes "made", decimal made) ∷ (codes "sound", flag_text sound) ∷ (codes "transit", decimal transit) ∷ [])
+    object ((codes "gone", decimal gone) ∷ (codes "here", decimal here) ∷ (codes "made", decimal made)
+    ∷ (codes "sound", flag_text sound) ∷ (codes "transit", decimal transit) ∷ [])
 
 -- the line of a stock file's fault, where that is the problem
 abbrev pub line_member : Problem → List (Text × Text)

@@ -8,7 +8,8 @@ use Rattle.shop_model.specs.Refusals.{NoCounter, NoRoute}
 use Rattle.shop_model.specs.Shop.{Kept, Catalogue, Shop}
 use Rattle.shop_model.specs.Stock.{terms_now}
 use Rattle.shop_model.specs.Verdict.{verdict, office_verdict}
-use Rattle.shop_model.specs.Machine.{reply_text, office_text, Request, Unread, Do, Office, OfficeLook, Reply, Sorry, reply_by, reply_to, if_accepted, catalogue_after, Input, FromOffice, Arrive, Own, State}
+use Rattle.shop_model.specs.Machine.{reply_text, office_text, Request, Unread, Do, Office, OfficeLook, Reply, Sorry, reply_by, reply_to, if_accepted}
+use Rattle.shop_model.specs.Machine.{catalogue_after, Input, FromOffice, Arrive, Own, State}
 use Rattle.shop_model.specs.Acts.{films_in, films_at}
 
 -- where a copy was imported, and its number there: it moves with the copy, and no reply to a branch depends on it
@@ -70,7 +71,18 @@ head (x ∷ _) = Some x
 
 -- the books of a chain in which no branch has asked anything
 abbrev pub opening : Catalogue → Books
-opening catalogue = record { catalogue = catalogue; customers = []; copies = []; rentals = []; terms = []; payments = []; lots = []; consignments = []; kept = []; lasts = [] }
+opening catalogue = record {
+  catalogue = catalogue;
+  customers = [];
+  copies = [];
+  rentals = [];
+  terms = [];
+  payments = [];
+  lots = [];
+  consignments = [];
+  kept = [];
+  lasts = [];
+}
 
 -- its rows by number, without branch columns, marks and places; consignments in the order of dispatch
 abbrev pub shop_of : ℕ → Books → Shop
@@ -132,7 +144,8 @@ checked missing it = record it { received = true; lines = map (checked_line miss
 
 -- the lines of a consignment that came
 abbrev pub come : ℕ → ℕ → ℕ → List ℕ → List Consignment → List Line
-come source addressee number missing consignments = flat_map (λ (it : Consignment). arrived missing it.lines) (filter (is_consignment source addressee number) consignments)
+come source addressee number missing consignments =
+    flat_map (λ (it : Consignment). arrived missing it.lines) (filter (is_consignment source addressee number) consignments)
 
 -- ---- what an accepted command of a branch changes: a list of edits, by which each law is shown once for each kind
 
@@ -331,7 +344,8 @@ parcel_seen b source (Dispatch to xs) books = if to == b then Arrive source (fil
 parcel_seen b source act books = []
 
 abbrev pub other_seen : Rules → ℕ → ℕ → Request → Books → List Input
-other_seen rules b source (Do command) books = if_accepted (verdict rules source books.catalogue (shop_of source books) command) (parcel_seen b source command.act books) []
+other_seen rules b source (Do command) books =
+    if_accepted (verdict rules source books.catalogue (shop_of source books) command) (parcel_seen b source command.act books) []
 other_seen rules b source request books = []
 
 -- an accepted command of head office is seen by every branch
@@ -347,7 +361,8 @@ seen_of rules b Nobody request books = []
 -- everything else leaves nothing: no reading, no refused or repeated request, and no other command of another branch
 abbrev pub view : Rules → ℕ → List Event → Books → List Input
 view rules b [] books = []
-view rules b (event ∷ events) books = seen_of rules b (caller_in event books) (event.request (caller_in event books)) books ++ view rules b events (after rules event books)
+view rules b (event ∷ events) books =
+    seen_of rules b (caller_in event books) (event.request (caller_in event books)) books ++ view rules b events (after rules event books)
 
 abbrev pub state_of : ℕ → Books → State
 state_of b books = record { catalogue = books.catalogue; shop = shop_of b books }

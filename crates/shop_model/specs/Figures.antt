@@ -1,9 +1,11 @@
 -- Figures that agree with one another, by which a shopkeeper knows the definitions: of stock, of who has a copy, of what is overdue, of sales and of balances.
-use Rattle.std.specs.Prelude.{◌≡◌, ℕ, ◌*◌, ◌==◌, ◌&&◌, ◌||◌, ℤ, pos, ◌+ℤ◌, ◌-ℤ◌, Bool, true, false, not, if◌then◌else◌, List, [], ◌∷◌, ◌++◌, codes, filter, flat_map, length, ◌+◌, Some}
+use Rattle.std.specs.Prelude.{◌≡◌, ℕ, ◌*◌, ◌==◌, ◌&&◌, ◌||◌, ℤ, pos, ◌+ℤ◌, ◌-ℤ◌, Bool, true, false, not, if◌then◌else◌, List, [], ◌∷◌, ◌++◌, codes, filter}
+use Rattle.std.specs.Prelude.{flat_map, length, ◌+◌, Some}
 use Rattle.std.specs.List.{list_any, AllByRecursion}
 use Rattle.shop_model.specs.Rows.{at, is_empty, mem, has_double, numbered, total}
 use Rattle.shop_model.specs.Calendar.{Moment, is_by}
-use Rattle.shop_model.specs.Values.{Text, Film, Customer, Copy, Rental, Terms, Branch, Act, Rent, TakeBack, Pay, Import, Command, OfficeAct, ChooseRule, OfficeCommand, Rules, Rule, ByCode, SalesByStore, Sales}
+use Rattle.shop_model.specs.Values.{Text, Film, Customer, Copy, Rental, Terms, Branch, Act, Rent, TakeBack, Pay, Import, Command, OfficeAct, ChooseRule}
+use Rattle.shop_model.specs.Values.{OfficeCommand, Rules, Rule, ByCode, SalesByStore, Sales}
 use Rattle.shop_model.specs.Shop.{Catalogue, Shop, Kept}
 use Rattle.shop_model.specs.Stock.{is_here, keeps_out, in_stock, held_by, film_in_stock, film_not_in_stock, film_of, termed, late_days, balance, overdue}
 use Rattle.shop_model.specs.Views.{overdue_row, StoreRow, sales_by_store, sales_by_category, view_rows}
@@ -59,7 +61,8 @@ pub record IsOutWithNamed (catalogue : Catalogue) (shop : Shop) (rental : Rental
   pub inside : list_any is_here (at rental.copy shop.copies) ≡ true
   pub who : at rental.customer shop.customers ≡ customer ∷ []
   pub what : film_of catalogue shop rental ≡ film ∷ []
-  pub row : overdue_row catalogue shop rental ≡ record { customer = customer.person.last ++ codes ", " ++ customer.person.first; phone = customer.person.phone; title = film.title }
+  pub row : overdue_row catalogue shop rental
+      ≡ record { customer = customer.person.last ++ codes ", " ++ customer.person.first; phone = customer.person.phone; title = film.title }
 
 abbrev pub OverdueIsOut : Type 0
 OverdueIsOut =
@@ -71,9 +74,11 @@ OverdueIsOut =
 pub record SalesAgree (books : Books) : Type 0 where
   -- a branch's sales by category add up to its sales
   pub sums : (b : ℕ) → has_row books.catalogue.branches b ≡ true
-      → total (λ (row : StoreRow). row.total) (sales_by_store b books.catalogue (shop_of b books)) ≡ total (λ (row : Text × ℕ). row.1) (sales_by_category books.catalogue (shop_of b books))
+      → total (λ (row : StoreRow). row.total) (sales_by_store b books.catalogue (shop_of b books))
+      ≡ total (λ (row : Text × ℕ). row.1) (sales_by_category books.catalogue (shop_of b books))
   -- and head office is shown the branches' own rows
-  pub rows : office_look Sales books ≡ Shows (RowsAre (flat_map (λ (it : ℕ × Branch). view_rows it.0 books.catalogue (shop_of it.0 books) SalesByStore) (numbered books.catalogue.branches)))
+  pub rows : office_look Sales books
+      ≡ Shows (RowsAre (flat_map (λ (it : ℕ × Branch). view_rows it.0 books.catalogue (shop_of it.0 books) SalesByStore) (numbered books.catalogue.branches)))
 
 abbrev pub SalesAddUp : Type 0
 SalesAddUp = (rules : Rules) (books : Books) → IsSound rules books → SalesAgree books
@@ -88,7 +93,8 @@ rate_of catalogue shop x = total (λ (film : Film). film.rate) (flat_map (λ (co
 abbrev pub charge : Catalogue → Shop → Moment → Act → ℕ → Moment → ℕ
 charge catalogue shop now (Rent c x) customer moment = if c == customer && is_by now moment then rate_of catalogue shop x else 0
 charge catalogue shop now (TakeBack r) customer moment =
-    total (λ (it : Rental × Terms). if it.0.customer == customer && is_by it.0.rented moment then 100 * late_days it.0.rented (Some now) it.1.period else 0) (at r (termed shop))
+    total (λ (it : Rental × Terms). if it.0.customer == customer && is_by it.0.rented moment then 100 * late_days it.0.rented (Some now) it.1.period else 0)
+    (at r (termed shop))
 charge catalogue shop now act customer moment = 0
 
 -- What an act adds to what the customer has paid. A payment adds its amount, any other act nothing.
@@ -100,7 +106,8 @@ paid now act customer moment = 0
 pub record ChangesBalances (rules : Rules) (b : ℕ) (command : Command) (books : Books) : Type 0 where
   pub own : (customer : ℕ) (moment : Moment) →
       balance ByCode (shop_of b (book_done rules b command books)) customer moment
-      ≡ balance ByCode (shop_of b books) customer moment +ℤ (pos (charge books.catalogue (shop_of b books) command.moment command.act customer moment) -ℤ pos (paid command.moment command.act customer moment))
+      ≡ balance ByCode (shop_of b books) customer moment +ℤ
+      (pos (charge books.catalogue (shop_of b books) command.moment command.act customer moment) -ℤ pos (paid command.moment command.act customer moment))
   pub others : (c : ℕ) (rule : Rule) (customer : ℕ) (moment : Moment) → (b == c) ≡ false
       → balance rule (shop_of c (book_done rules b command books)) customer moment ≡ balance rule (shop_of c books) customer moment
 
@@ -112,7 +119,8 @@ abbrev pub balance_in : Books → ℕ → ℕ → Moment → ℤ
 balance_in books b customer moment = balance books.catalogue.rule (shop_of b books) customer moment
 
 pub record BalancesFollowActs : Type 0 where
-  pub branch : (rules : Rules) (b : ℕ) (command : Command) (books : Books) → IsSound rules books → verdict rules b books.catalogue (shop_of b books) command ≡ Accepted
+  pub branch : (rules : Rules) (b : ℕ) (command : Command) (books : Books) → IsSound rules books
+      → verdict rules b books.catalogue (shop_of b books) command ≡ Accepted
       → ChangesBalances rules b command books
   -- no command of head office but its choice of the rule changes any
   pub office : (rules : Rules) (command : OfficeCommand) (books : Books) (b customer : ℕ) (moment : Moment) → is_choice command.act ≡ false

@@ -16,7 +16,9 @@ is_store_failure answer = answer.status == 503 && bytes_eq answer.body (problem_
 
 -- a decision, or one of the three refusals of the store
 abbrev pub is_answer : Answer → Bool
-is_answer answer = is_decided answer || bytes_eq answer.body (problem_text Memory) || bytes_eq answer.body (problem_text Size) || bytes_eq answer.body (problem_text StoreFailed)
+is_answer answer =
+    is_decided answer || bytes_eq answer.body (problem_text Memory)
+    || bytes_eq answer.body (problem_text Size) || bytes_eq answer.body (problem_text StoreFailed)
 
 abbrev pub outcome_of : Answer → Outcome
 outcome_of answer = if is_decided answer then Decided else (if is_store_failure answer then Failed else NoRoom)

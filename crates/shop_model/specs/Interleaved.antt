@@ -3,10 +3,12 @@ use Rattle.std.specs.Prelude.{◌≡◌, ℕ, zero, suc, ◌==◌, ◌&&◌, Boo
 use Rattle.std.specs.List.{list_all}
 use Rattle.shop_model.specs.Rows.{Owned, is_of}
 use Rattle.shop_model.specs.Calendar.{Moment}
-use Rattle.shop_model.specs.Values.{Text, Act, AddCustomer, Rent, Import, Dispatch, Receive, Command, OfficeAct, AddCity, AddFilm, PriceFilm, WithdrawFilm, AddBranch, AddStaff, StaffLeaves, OfficeCommand, Ask, Arrivals, OfficeAsk, Rules}
+use Rattle.shop_model.specs.Values.{Text, Act, AddCustomer, Rent, Import, Dispatch, Receive, Command, OfficeAct, AddCity, AddFilm, PriceFilm, WithdrawFilm}
+use Rattle.shop_model.specs.Values.{AddBranch, AddStaff, StaffLeaves, OfficeCommand, Ask, Arrivals, OfficeAsk, Rules}
 use Rattle.shop_model.specs.Shop.{Kept}
 use Rattle.shop_model.specs.Machine.{Request, Do, Look, Office, Reply}
-use Rattle.shop_model.specs.Books.{Books, Event, Caller, Counter, HeadOffice, Consignment, Table, rows_of, caller_in, after, after_for, reply_for, run, last_books, replies_to, state_of, view}
+use Rattle.shop_model.specs.Books.{Books, Event, Caller, Counter, HeadOffice, Consignment, Table, rows_of, caller_in, after, after_for, reply_for, run}
+use Rattle.shop_model.specs.Books.{last_books, replies_to, state_of, view}
 use Rattle.shop_model.specs.Repeats.{marked_ones}
 use Rattle.shop_model.specs.Resends.{is_nobody}
 use Rattle.shop_model.specs.Reentered.{are_accepted, accepted_ones}
@@ -97,7 +99,9 @@ is_awaited b c one other = reaches c one && takes b other
 pub record Commute (rules : Rules) (look : OfficeAsk → Books → Reply) (caller caller' : Caller) (request request' : Request) (books : Books) : Type 0 where
   pub first : reply_for rules look caller request (after_for rules caller' request' books) ≡ reply_for rules look caller request books
   pub second : reply_for rules look caller' request' (after_for rules caller request books) ≡ reply_for rules look caller' request' books
-  pub leaves : AreAlike (after_for rules caller' request' (after_for rules caller request books)) (after_for rules caller request (after_for rules caller' request' books))
+  pub leaves :
+      AreAlike (after_for rules caller' request' (after_for rules caller request books))
+      (after_for rules caller request (after_for rules caller' request' books))
 
 -- requests of two branches commute, unless one is a dispatch to the other branch and the other is its receipt or a reading
 abbrev pub BranchesCommute : Type 0
@@ -121,7 +125,8 @@ reads office act = false
 -- a branch's command and a command of head office commute, if the branch's command doesn't read what the other changes
 abbrev pub OfficeCommutes : Type 0
 OfficeCommutes =
-    (rules : Rules) (look : OfficeAsk → Books → Reply) (b : ℕ) (command : Command) (office : OfficeCommand) (books : Books) → reads office.act command.act ≡ false
+    (rules : Rules) (look : OfficeAsk → Books → Reply) (b : ℕ) (command : Command) (office : OfficeCommand) (books : Books)
+    → reads office.act command.act ≡ false
     → Commute rules look (Counter b) HeadOffice (Do command) (Office office) books
 
 -- ---- histories in another order
@@ -179,7 +184,8 @@ are_apart_in books e f = are_apart (caller_in e books) (e.request (caller_in e b
 abbrev pub IsOrderOf : Books → List Event → List Event → Type 0
 IsOrderOf books [] events = events ≡ []
 IsOrderOf books (e ∷ order) events =
-    (front : List Event) × (back : List Event) × (events ≡ front ++ e ∷ back) × (list_all (λ (f : Event). are_apart_in books f e) front ≡ true) × IsOrderOf books order (front ++ back)
+    (front : List Event) × (back : List Event) × (events ≡ front ++ e ∷ back)
+    × (list_all (λ (f : Event). are_apart_in books f e) front ≡ true) × IsOrderOf books order (front ++ back)
 
 abbrev pub is_office : Caller → Bool
 is_office HeadOffice = true
@@ -207,7 +213,8 @@ AnyOrderTellsAlike =
 -- ---- a disk is lost, and the tills send again in an order of their own
 
 -- each caller gets the replies that it had got, and the books are alike to the lost ones
-pub record BringsBackAlike (rules : Rules) (look : OfficeAsk → Books → Reply) (told : List (Caller × Reply)) (order : List Event) (copy last : Books) : Type 0 where
+pub record BringsBackAlike (rules : Rules) (look : OfficeAsk → Books → Reply) (told : List (Caller × Reply)) (order : List Event) (copy last : Books) :
+    Type 0 where
   pub branches : (b : ℕ) → replies_to b (run rules look order copy) ≡ replies_to b told
   pub office : office_replies (run rules look order copy) ≡ office_replies told
   pub leaves : AreAlike (last_books rules order copy) last
@@ -218,7 +225,8 @@ pub record IsBroughtBackAlike (rules : Rules) (look : OfficeAsk → Books → Re
   pub late : are_known (accepted_ones rules lost copy) copy ≡ true → IsOrderOf copy order (accepted_ones rules lost copy)
       → BringsBackAlike rules look (marked_ones (are_accepted rules lost copy) (run rules look lost copy)) order copy (last_books rules (front ++ lost) books)
   pub all : are_known (accepted_ones rules (front ++ lost) books) copy ≡ true → IsOrderOf copy order (accepted_ones rules (front ++ lost) books)
-      → BringsBackAlike rules look (marked_ones (are_accepted rules (front ++ lost) books) (run rules look (front ++ lost) books)) order copy (last_books rules (front ++ lost) books)
+      → BringsBackAlike rules look (marked_ones (are_accepted rules (front ++ lost) books) (run rules look (front ++ lost) books)) order copy
+      (last_books rules (front ++ lost) books)
 
 abbrev pub LostIsBroughtBackAlike : Type 0
 LostIsBroughtBackAlike =

@@ -21,7 +21,8 @@ pub record IsAlone (rules : Rules) (look : OfficeAsk → Books → Reply) (event
   pub state : state_of b (last_books rules events books) ≡ state_after rules b (view rules b events books) (state_of b books)
 
 abbrev pub BranchesAreAlone : Type 0
-BranchesAreAlone = (rules : Rules) (look : OfficeAsk → Books → Reply) (events : List Event) (books : Books) (b : ℕ) → HasNumbers books → IsAlone rules look events books b
+BranchesAreAlone =
+    (rules : Rules) (look : OfficeAsk → Books → Reply) (events : List Event) (books : Books) (b : ℕ) → HasNumbers books → IsAlone rules look events books b
 
 -- a branch gets the same replies from two states, whatever reaches it, and the states stay the same
 pub record IsToldTheSame (rules : Rules) (b : ℕ) (inputs : List Input) (one other : State) : Type 0 where
@@ -90,14 +91,16 @@ CallersAreKnown = (token : Option Text) (catalogue : Catalogue) → known_caller
 abbrev pub ResentIsAgain : Type 0
 ResentIsAgain =
     (rules : Rules) (b : ℕ) (command : Command) (books : Books) (events : List Event) → verdict rules b books.catalogue (shop_of b books) command ≡ Accepted
-    → verdict rules b (last_books rules events (book_done rules b command books)).catalogue (shop_of b (last_books rules events (book_done rules b command books))) command
+    → verdict rules b (last_books rules events (book_done rules b command books)).catalogue
+    (shop_of b (last_books rules events (book_done rules b command books))) command
     ≡ Again (reply_text rules command (shop_of b books))
 
 -- and so is an accepted command of head office that comes again
 abbrev pub OfficeResentIsAgain : Type 0
 OfficeResentIsAgain =
     (rules : Rules) (command : OfficeCommand) (books : Books) (events : List Event) → office_verdict rules books.catalogue command ≡ Accepted
-    → office_verdict rules (last_books rules events (record books { catalogue = office_done command books.catalogue })).catalogue command ≡ Again (office_text command books.catalogue)
+    → office_verdict rules (last_books rules events (record books { catalogue = office_done command books.catalogue })).catalogue command
+    ≡ Again (office_text command books.catalogue)
 
 -- the history without its repeats leaves the same books, and answers every other event as before
 pub record IsWithoutRepeats (rules : Rules) (look : OfficeAsk → Books → Reply) (events : List Event) (books : Books) : Type 0 where

@@ -80,7 +80,9 @@ look b catalogue shop (FilmInStock f) = given NoFilm (λ _. CopiesAre (film_in_s
 look b catalogue shop (FilmNotInStock f) = given NoFilm (λ _. CopiesAre (film_not_in_stock f shop)) (at f catalogue.films)
 look b catalogue shop (Balance c moment) = given NoCustomer (λ _. BalanceIs (balance catalogue.rule shop c moment)) (at c shop.customers)
 look b catalogue shop (Overdue moment) = Shows (RowsAre (map overdue_text (overdue_list catalogue shop moment)))
-look b catalogue shop (Rewards moment purchases cents) = if nat_lt 0 purchases then (if nat_lt 0 cents then Shows (CustomersAre (rewarded shop moment purchases cents)) else Sorry BadThreshold) else Sorry BadThreshold
+look b catalogue shop (Rewards moment purchases cents) =
+    if nat_lt 0 purchases then (if nat_lt 0 cents then Shows (CustomersAre (rewarded shop moment purchases cents)) else Sorry BadThreshold)
+    else Sorry BadThreshold
 look b catalogue shop Arrivals = Shows (ArrivalsAre shop.arrivals)
 look b catalogue shop SentOff = Shows (SentAre shop.sent)
 look b catalogue shop (OneView view) = Shows (RowsAre (view_rows b catalogue shop view))
@@ -125,7 +127,9 @@ catalogue_after rules command catalogue = if_accepted (office_verdict rules cata
 
 abbrev pub moved : Rules → ℕ → Input → State → State
 moved rules b (FromOffice command) s = record s { catalogue = catalogue_after rules command s.catalogue }
-moved rules b (Arrive source films) s = record s { shop = record s.shop { arrivals = s.shop.arrivals ++ record { source = source; films = films; received = false } ∷ [] } }
+moved rules b (Arrive source films) s = record s {
+  shop = record s.shop { arrivals = s.shop.arrivals ++ record { source = source; films = films; received = false } ∷ [] };
+}
 moved rules b (Own request) s = record s { shop = shop_after rules b s.catalogue s.shop request }
 
 abbrev pub answers : Rules → ℕ → Input → State → List Reply

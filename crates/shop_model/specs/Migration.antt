@@ -60,7 +60,8 @@ SoundWithoutTerms = (rules : Rules) (books : Books) → IsSound rules books → 
 
 -- balances and overdue rentals stay as they were in version 1, which used the manual's code for all balances
 pub record KeepsBalances (books : Books) : Type 0 where
-  pub balances : (b customer : ℕ) (moment : Moment) → balance books.catalogue.rule (shop_of b (migrated books)) customer moment ≡ film_balance books.catalogue (shop_of b books) customer moment
+  pub balances : (b customer : ℕ) (moment : Moment)
+      → balance books.catalogue.rule (shop_of b (migrated books)) customer moment ≡ film_balance books.catalogue (shop_of b books) customer moment
   pub overdue_same : (b : ℕ) (moment : Moment) → overdue (shop_of b (migrated books)) moment ≡ film_overdue books.catalogue (shop_of b books) moment
 
 abbrev pub MigratedKeepsBalances : Type 0

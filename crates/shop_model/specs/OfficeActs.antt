@@ -1,7 +1,9 @@
 -- What head office's acts are: when two are the same, what each is refused for, what it changes, and what is replied. Refusals read shared rows alone.
 use Rattle.std.specs.Prelude.{◌==◌, ◌&&◌, Bool, true, false, List, Some, None, ◌+◌, ◌||◌, not, [], ◌∷◌, length, ◌++◌, codes, decimal}
 use Rattle.std.specs.Str.{bytes_eq}
-use Rattle.shop_model.specs.Values.{Text, Film, Cast, Branch, Staff, Rule, ByCode, ByComment, OfficeAct, AddCountry, AddCity, AddLanguage, AddCategory, AddActor, AddFilm, PriceFilm, WithdrawFilm, AddCast, AddBranch, AddStaff, StaffLeaves, SetManager, ChooseRule, OfficeCommand}
+use Rattle.shop_model.specs.Values.{Text, Film, Cast, Branch, Staff, Rule, ByCode, ByComment, OfficeAct, AddCountry, AddCity, AddLanguage, AddCategory}
+use Rattle.shop_model.specs.Values.{AddActor, AddFilm, PriceFilm, WithdrawFilm, AddCast, AddBranch, AddStaff, StaffLeaves, SetManager, ChooseRule}
+use Rattle.shop_model.specs.Values.{OfficeCommand}
 use Rattle.std.specs.List.{list_any}
 use Rattle.shop_model.specs.Rows.{at, lacks, set_at}
 use Rattle.shop_model.specs.Refusals.{Refusal, NoStaff, NoFilm, NoBranch, TokenTaken, NoSharedRow, Already}
@@ -12,10 +14,15 @@ use Rattle.shop_model.specs.Json.{quoted}
 -- ---- acts that are equal
 
 abbrev pub same_film : Film → Film → Bool
-same_film a b = bytes_eq a.title b.title && bytes_eq a.description b.description && a.language == b.language && a.category == b.category && a.period == b.period && a.rate == b.rate && a.replacement == b.replacement && same_option a.minutes b.minutes && bytes_eq a.rating b.rating && bytes_eq a.features b.features && same_flag a.withdrawn b.withdrawn
+same_film a b =
+    bytes_eq a.title b.title && bytes_eq a.description b.description && a.language == b.language && a.category == b.category
+    && a.period == b.period && a.rate == b.rate && a.replacement == b.replacement && same_option a.minutes b.minutes
+    && bytes_eq a.rating b.rating && bytes_eq a.features b.features && same_flag a.withdrawn b.withdrawn
 
 abbrev pub same_branch : Branch → Branch → Bool
-same_branch a b = bytes_eq a.token b.token && bytes_eq a.address b.address && bytes_eq a.postal b.postal && bytes_eq a.phone b.phone && a.city == b.city && same_option a.manager b.manager
+same_branch a b =
+    bytes_eq a.token b.token && bytes_eq a.address b.address && bytes_eq a.postal b.postal
+    && bytes_eq a.phone b.phone && a.city == b.city && same_option a.manager b.manager
 
 -- Every field is compared but one: whether new staff have left. They haven't, whatever the act's row has there (`office_acted`), and the form in which a
 -- command is kept leaves it out.

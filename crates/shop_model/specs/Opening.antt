@@ -56,7 +56,9 @@ opening_catalogue = record {
   rule = ByCode;
   casts = record { film = 1; actor = 1 } ∷ record { film = 1; actor = 2 } ∷ record { film = 2; actor = 2 } ∷ [];
   countries = codes "Canada" ∷ codes "Australia" ∷ [];
-  cities = record { name = codes "Lethbridge"; country = 1 } ∷ record { name = codes "Woodridge"; country = 2 } ∷ record { name = codes "Brisbane"; country = 2 } ∷ [];
+  cities =
+      record { name = codes "Lethbridge"; country = 1 } ∷ record { name = codes "Woodridge"; country = 2 }
+      ∷ record { name = codes "Brisbane"; country = 2 } ∷ [];
   languages = codes "English" ∷ [];
   categories = codes "Action" ∷ codes "Comedy" ∷ [];
   actors = record { first = codes "ANN"; last = codes "HILL" } ∷ record { first = codes "BO"; last = codes "KERR" } ∷ [];
@@ -67,7 +69,20 @@ opening_catalogue = record {
 
 -- that of a new chain: head office's token, the manual's rule, and no shared row
 abbrev pub empty_catalogue : Text → Catalogue
-empty_catalogue token = record { office_token = token; kept = []; rule = ByCode; casts = []; countries = []; cities = []; languages = []; categories = []; actors = []; films = []; branches = []; staff = [] }
+empty_catalogue token = record {
+  office_token = token;
+  kept = [];
+  rule = ByCode;
+  casts = [];
+  countries = [];
+  cities = [];
+  languages = [];
+  categories = [];
+  actors = [];
+  films = [];
+  branches = [];
+  staff = [];
+}
 
 abbrev pub opening_books : Books
 opening_books = opening opening_catalogue

@@ -20,7 +20,8 @@ accepts rules caller request books = false
 -- of each event of a history, whether it is such a command
 abbrev pub are_accepted : Rules → List Event → Books → List Bool
 are_accepted rules [] books = []
-are_accepted rules (event ∷ events) books = accepts rules (caller_in event books) (event.request (caller_in event books)) books ∷ are_accepted rules events (after rules event books)
+are_accepted rules (event ∷ events) books =
+    accepts rules (caller_in event books) (event.request (caller_in event books)) books ∷ are_accepted rules events (after rules event books)
 
 -- these events, in their order
 abbrev pub accepted_ones : Rules → List Event → Books → List Event
@@ -52,7 +53,10 @@ BooksAreOfAccepted = (rules : Rules) (look : OfficeAsk → Books → Reply) (eve
 -- what an event adds to the kept commands of a branch: the branch's own command, where it is accepted, with its reply
 abbrev pub kept_by : Rules → ℕ → Caller → Request → Books → List Kept
 kept_by rules b (Counter c) (Do command) books =
-    if c == b then if_accepted (verdict rules c books.catalogue (shop_of c books) command) (record { command = command; reply = reply_text rules command (shop_of c books) } ∷ []) [] else []
+    if c == b
+    then if_accepted (verdict rules c books.catalogue (shop_of c books) command)
+    (record { command = command; reply = reply_text rules command (shop_of c books) } ∷ []) []
+    else []
 kept_by rules b caller request books = []
 
 -- and to head office's
@@ -63,11 +67,13 @@ office_kept_by rules caller request books = []
 
 abbrev pub kept_in : Rules → ℕ → List Event → Books → List Kept
 kept_in rules b [] books = []
-kept_in rules b (event ∷ events) books = kept_by rules b (caller_in event books) (event.request (caller_in event books)) books ++ kept_in rules b events (after rules event books)
+kept_in rules b (event ∷ events) books =
+    kept_by rules b (caller_in event books) (event.request (caller_in event books)) books ++ kept_in rules b events (after rules event books)
 
 abbrev pub office_kept_in : Rules → List Event → Books → List OfficeKept
 office_kept_in rules [] books = []
-office_kept_in rules (event ∷ events) books = office_kept_by rules (caller_in event books) (event.request (caller_in event books)) books ++ office_kept_in rules events (after rules event books)
+office_kept_in rules (event ∷ events) books =
+    office_kept_by rules (caller_in event books) (event.request (caller_in event books)) books ++ office_kept_in rules events (after rules event books)
 
 -- after what was kept, each caller's accepted commands are kept, in their order, with their replies, and nothing else is
 pub record KeepsAccepted (rules : Rules) (events : List Event) (books : Books) : Type 0 where
@@ -82,11 +88,13 @@ AcceptedAreKept = (rules : Rules) (events : List Event) (books : Books) → Keep
 -- The chain is put back to a copy, which has the books after a front of the history. The accepted commands are sent again in their order: all of the history,
 -- or only the commands that came after the copy. Then the books are the lost ones, and each command is answered as it was.
 pub record BringsBack (rules : Rules) (look : OfficeAsk → Books → Reply) (front lost : List Event) (books copy : Books) : Type 0 where
-  pub all_replies : run rules look (accepted_ones rules (front ++ lost) books) copy ≡ marked_ones (are_accepted rules (front ++ lost) books) (run rules look (front ++ lost) books)
+  pub all_replies : run rules look (accepted_ones rules (front ++ lost) books) copy
+      ≡ marked_ones (are_accepted rules (front ++ lost) books) (run rules look (front ++ lost) books)
   pub all_leave : last_books rules (accepted_ones rules (front ++ lost) books) copy ≡ last_books rules (front ++ lost) books
   pub late_replies : run rules look (accepted_ones rules lost copy) copy ≡ marked_ones (are_accepted rules lost copy) (run rules look lost copy)
   pub late_leave : last_books rules (accepted_ones rules lost copy) copy ≡ last_books rules (front ++ lost) books
 
 abbrev pub LostIsBroughtBack : Type 0
 LostIsBroughtBack =
-    (rules : Rules) (look : OfficeAsk → Books → Reply) (front lost : List Event) (books : Books) → BringsBack rules look front lost books (last_books rules front books)
+    (rules : Rules) (look : OfficeAsk → Books → Reply) (front lost : List Event) (books : Books)
+    → BringsBack rules look front lost books (last_books rules front books)

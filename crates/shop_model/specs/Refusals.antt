@@ -4,7 +4,9 @@ use Rattle.shop_model.specs.Values.{Text}
 
 -- what a decision may refuse a request for
 pub data Refusal : Type 0 where
-  TooLong NoCounter NoRoute BadBody KeyUsed Full MomentBack NoStaff NoCustomer CustomerInactive NoCopy CopyNotHere CopyOut FilmWithdrawn SameMoment NoRental RentalReturned WrongCustomer NoFilm LotIn : Refusal
+  TooLong NoCounter NoRoute BadBody KeyUsed Full MomentBack NoStaff NoCustomer CustomerInactive NoCopy
+      CopyNotHere CopyOut FilmWithdrawn SameMoment NoRental RentalReturned WrongCustomer NoFilm LotIn :
+      Refusal
   BadCsv : ℕ → Refusal  -- line
   NoBranch OwnBranch NoArrival ArrivalReceived BadLines BadThreshold TokenTaken NoSharedRow Already Usage : Refusal
 

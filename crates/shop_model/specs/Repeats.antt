@@ -18,7 +18,8 @@ repeats rules caller request books = false
 -- of each event of a history, whether it is no repeat
 abbrev pub are_new : Rules → List Event → Books → List Bool
 are_new rules [] books = []
-are_new rules (event ∷ events) books = not (repeats rules (caller_in event books) (event.request (caller_in event books)) books) ∷ are_new rules events (after rules event books)
+are_new rules (event ∷ events) books =
+    not (repeats rules (caller_in event books) (event.request (caller_in event books)) books) ∷ are_new rules events (after rules event books)
 
 -- the items at the places that are marked
 abbrev pub marked_ones : {A : Type 0} → List Bool → List A → List A

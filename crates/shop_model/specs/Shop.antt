@@ -2,7 +2,8 @@
 use Rattle.std.specs.Prelude.{ℕ, ◌==◌, ◌&&◌, Bool, true, false, List, Option, Some, None}
 use Rattle.std.specs.Str.{bytes_eq}
 use Rattle.shop_model.specs.Calendar.{Moment}
-use Rattle.shop_model.specs.Values.{Text, Person, City, Actor, Film, Cast, Branch, Staff, Customer, Copy, Rental, Terms, Payment, Arrival, Parcel, Rule, ByCode, ByComment, Command, OfficeCommand}
+use Rattle.shop_model.specs.Values.{Text, Person, City, Actor, Film, Cast, Branch, Staff, Customer, Copy, Rental, Terms, Payment, Arrival, Parcel, Rule, ByCode}
+use Rattle.shop_model.specs.Values.{ByComment, Command, OfficeCommand}
 
 -- A kept command and the bytes of its reply. It is kept permanently, under its key, among the kept commands of the same caller.
 pub record Kept : Type 0 where
@@ -63,4 +64,6 @@ same_rule ByComment ByComment = true
 same_rule a b = false
 
 abbrev pub same_person : Person → Person → Bool
-same_person a b = bytes_eq a.first b.first && bytes_eq a.last b.last && bytes_eq a.address b.address && bytes_eq a.postal b.postal && bytes_eq a.phone b.phone && a.city == b.city
+same_person a b =
+    bytes_eq a.first b.first && bytes_eq a.last b.last && bytes_eq a.address b.address
+    && bytes_eq a.postal b.postal && bytes_eq a.phone b.phone && a.city == b.city

@@ -19,7 +19,8 @@ AreRowsNumbered t rows = (b : ℕ) → AreNumbered (is_of b) (λ (row : Row (Row
 -- rows are numbered from 1 in the order in which they were added, and so are the consignments of a sender and addressee
 pub record HasNumbers (books : Books) : Type 0 where
   pub rows : (t : Table) → AreRowsNumbered t (rows_of books t)
-  pub consignments : (source addressee : ℕ) → AreNumbered (λ (it : Consignment). it.source == source && it.addressee == addressee) (λ it. it.number) books.consignments
+  pub consignments : (source addressee : ℕ)
+      → AreNumbered (λ (it : Consignment). it.source == source && it.addressee == addressee) (λ it. it.number) books.consignments
 
 -- ---- where copies are
 
@@ -81,7 +82,8 @@ HasCustody books = (test : Mark → Bool) → made test books ≡ places test bo
 
 -- the mark was made, by the import of a copy of that film
 abbrev pub is_made_as : List (Row BookCopy) → ℕ → Mark → Bool
-is_made_as copies film mark = list_any (λ (row : Row BookCopy). is_origin row && row.it.film == film && row.it.mark.branch == mark.branch && row.it.mark.copy == mark.copy) copies
+is_made_as copies film mark =
+    list_any (λ (row : Row BookCopy). is_origin row && row.it.film == film && row.it.mark.branch == mark.branch && row.it.mark.copy == mark.copy) copies
 
 pub record HasOrigins (books : Books) : Type 0 where
   pub rows : list_all (λ (row : Row BookCopy). is_made_as books.copies row.it.film row.it.mark) books.copies ≡ true

@@ -27,7 +27,8 @@ film_in_stock film shop = map (λ (it : ℕ × Copy). it.0) (filter (λ (it : �
 
 -- `film_not_in_stock` of the manual: those that are here and aren't in stock
 abbrev pub film_not_in_stock : ℕ → Shop → List ℕ
-film_not_in_stock film shop = map (λ (it : ℕ × Copy). it.0) (filter (λ (it : ℕ × Copy). it.1.film == film && is_here it.1 && not (in_stock it.0 shop.rentals)) (numbered shop.copies))
+film_not_in_stock film shop =
+    map (λ (it : ℕ × Copy). it.0) (filter (λ (it : ℕ × Copy). it.1.film == film && is_here it.1 && not (in_stock it.0 shop.rentals)) (numbered shop.copies))
 
 -- the film of a rental
 abbrev pub film_of : Catalogue → Shop → Rental → List Film
@@ -93,12 +94,17 @@ overdue shop moment = map (λ (it : Rental × Terms). it.0) (filter (is_overdue 
 
 -- the payments of a customer on the days from the first to the last
 abbrev pub paid_within : ℕ × ℕ → ℕ → List Payment → List Payment
-paid_within days customer payments = filter (λ payment. payment.customer == customer && nat_le days.0 (day_of payment.paid) && nat_le (day_of payment.paid) days.1) payments
+paid_within days customer payments =
+    filter (λ payment. payment.customer == customer && nat_le days.0 (day_of payment.paid) && nat_le (day_of payment.paid) days.1) payments
 
 -- the customers, rising, with more payments than the one threshold and more cents than the other
 abbrev pub rewarded_in : Option (ℕ × ℕ) → Shop → ℕ → ℕ → List ℕ
 rewarded_in None shop purchases cents = []
-rewarded_in (Some days) shop purchases cents = filter (λ customer. nat_lt purchases (length (paid_within days customer shop.payments)) && nat_lt cents (total (λ payment. payment.amount) (paid_within days customer shop.payments))) (map (λ it. it.0) (numbered shop.customers))
+rewarded_in (Some days) shop purchases cents =
+    filter (λ customer.
+    nat_lt purchases (length (paid_within days customer shop.payments))
+    && nat_lt cents (total (λ payment. payment.amount) (paid_within days customer shop.payments)))
+    (map (λ it. it.0) (numbered shop.customers))
 
 -- `rewards_report` of the manual. Our own: which month it is, that both thresholds have to be passed, the order, and none in January 1970
 abbrev pub rewarded : Shop → Moment → ℕ → ℕ → List ℕ

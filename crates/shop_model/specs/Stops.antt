@@ -72,9 +72,11 @@ begun rules lives old n = last_books rules (history_of (take n lives)) old
 -- its caller's one kept row under the command's key has the same command, with that reply
 abbrev pub IsKeptWith : Caller → Request → Text → Books → Type 0
 IsKeptWith (Counter b) (Do command) reply books =
-    (it : Kept) × (filter (λ (k : Kept). bytes_eq k.command.key command.key) (shop_of b books).kept ≡ it ∷ []) × (same_command it.command command ≡ true) × (it.reply ≡ reply)
+    (it : Kept) × (filter (λ (k : Kept). bytes_eq k.command.key command.key) (shop_of b books).kept ≡ it ∷ [])
+    × (same_command it.command command ≡ true) × (it.reply ≡ reply)
 IsKeptWith HeadOffice (Office command) reply books =
-    (it : OfficeKept) × (filter (λ (k : OfficeKept). bytes_eq k.command.key command.key) books.catalogue.kept ≡ it ∷ []) × (same_office it.command command ≡ true) × (it.reply ≡ reply)
+    (it : OfficeKept) × (filter (λ (k : OfficeKept). bytes_eq k.command.key command.key) books.catalogue.kept ≡ it ∷ [])
+    × (same_office it.command command ≡ true) × (it.reply ≡ reply)
 IsKeptWith caller request reply books = ⊥
 
 -- a command that was answered with 200 in some life is kept at the end, with its reply
@@ -97,7 +99,8 @@ pub record IsOneHistory (rules : Rules) (look : OfficeAsk → Books → Reply) (
 
 abbrev pub LivesAreOneHistory : Type 0
 LivesAreOneHistory =
-    (rules : Rules) (look : OfficeAsk → Books → Reply) (lives : List Life) (old new : Books) → Lives rules look lives old new → IsOneHistory rules look lives old new
+    (rules : Rules) (look : OfficeAsk → Books → Reply) (lives : List Life) (old new : Books)
+    → Lives rules look lives old new → IsOneHistory rules look lives old new
 
 -- ---- the request in flight, sent again
 
@@ -110,14 +113,17 @@ abbrev pub EachActsOnce : Type 0
 EachActsOnce = (rules : Rules) (look : OfficeAsk → Books → Reply) (event : Event) (old : Books) → ActsOnce rules look event old
 
 -- The answer is the one that the step gives in the books before the stop. All later books come from the history that contains the request once.
-pub record IsResentFirst (rules : Rules) (look : OfficeAsk → Books → Reply) (first next : Life) (event : Event) (answer : Answer) (old new : Books) : Type 0 where
+pub record IsResentFirst (rules : Rules) (look : OfficeAsk → Books → Reply) (first next : Life) (event : Event) (answer : Answer) (old new : Books) :
+    Type 0 where
   pub reply : answer ≡ answer_of (reply_in rules look event (last_books rules (counted_in first.events first.answers) old))
   pub books : new ≡ last_books rules (counted_in first.events first.answers ++ acted_in next) old
 
 abbrev pub ResentFirst : Type 0
 ResentFirst =
-    (rules : Rules) (look : OfficeAsk → Books → Reply) (first next : Life) (event : Event) (more : List Event) (answer : Answer) (others : List Answer) (old new : Books)
-    → Lives rules look (first ∷ next ∷ []) old new → failing first.events first.answers ≡ Some event → next.events ≡ event ∷ more → next.answers ≡ answer ∷ others
+    (rules : Rules) (look : OfficeAsk → Books → Reply) (first next : Life) (event : Event)
+    (more : List Event) (answer : Answer) (others : List Answer) (old new : Books)
+    → Lives rules look (first ∷ next ∷ []) old new → failing first.events first.answers ≡ Some event
+    → next.events ≡ event ∷ more → next.answers ≡ answer ∷ others
     → is_decided answer ≡ true → IsResentFirst rules look first next event answer old new
 
 -- ---- one after another
@@ -125,5 +131,6 @@ ResentFirst =
 -- lives that go on from the books that others left are all one list of lives
 abbrev pub LivesFollow : Type 0
 LivesFollow =
-    (rules : Rules) (look : OfficeAsk → Books → Reply) (lives more : List Life) (old mid new : Books) → Lives rules look lives old mid → Lives rules look more mid new
+    (rules : Rules) (look : OfficeAsk → Books → Reply) (lives more : List Life) (old mid new : Books)
+    → Lives rules look lives old mid → Lives rules look more mid new
     → Lives rules look (lives ++ more) old new

@@ -54,7 +54,8 @@ resent command = resent_by (λ (k : Kept). same_command k.command command) (λ k
 
 -- only the keys of the same branch count: other callers' keys have nothing to do with them
 abbrev pub verdict : Rules → ℕ → Catalogue → Shop → Command → Verdict
-verdict rules b catalogue shop command = resent command (filter (λ (k : Kept). bytes_eq k.command.key command.key) shop.kept) (first (refusals rules b catalogue shop command))
+verdict rules b catalogue shop command =
+    resent command (filter (λ (k : Kept). bytes_eq k.command.key command.key) shop.kept) (first (refusals rules b catalogue shop command))
 
 -- ---- head office: its conditions read shared rows and its own keys alone
 

@@ -8,7 +8,8 @@ use Rattle.std.specs.Cmp.Lexicographic.{slice_cmp}
 use Rattle.std.specs.List.{list_any, join_by}
 use Rattle.shop_model.specs.Rows.{at, is_empty, numbered, total}
 use Rattle.shop_model.specs.Calendar.{Moment}
-use Rattle.shop_model.specs.Values.{Text, Person, City, Actor, Film, Cast, Branch, Staff, Customer, Rental, Payment, View, CustomerList, StaffList, FilmList, ActorInfo, SalesByStore, SalesByCategory}
+use Rattle.shop_model.specs.Values.{Text, Person, City, Actor, Film, Cast, Branch, Staff, Customer, Rental, Payment, View, CustomerList, StaffList, FilmList}
+use Rattle.shop_model.specs.Values.{ActorInfo, SalesByStore, SalesByCategory}
 use Rattle.shop_model.specs.Json.{quoted, number_or_null, object}
 use Rattle.shop_model.specs.Shop.{Catalogue, Shop}
 use Rattle.shop_model.specs.Stock.{film_of, overdue}
@@ -86,7 +87,8 @@ customer_list b catalogue shop = map (λ (it : ℕ × Customer). (person_row cat
 
 -- `staff_list` of the manual: all staff of the branch, those who left too (the last is our own)
 abbrev pub staff_list : ℕ → Catalogue → List PersonRow
-staff_list b catalogue = map (λ (it : ℕ × Staff). person_row catalogue b it.0 it.1.person) (filter (λ (it : ℕ × Staff). it.1.branch == b) (numbered catalogue.staff))
+staff_list b catalogue =
+    map (λ (it : ℕ × Staff). person_row catalogue b it.0 it.1.person) (filter (λ (it : ℕ × Staff). it.1.branch == b) (numbered catalogue.staff))
 
 -- ---- overdue rentals
 
@@ -184,7 +186,8 @@ actor_row catalogue it = record {
   number = it.0;
   first = it.1.first;
   last = it.1.last;
-  films = join_by (group_text catalogue it.0) (codes "; ") (filter (λ (c : ℕ × Text). not (is_empty (films_of catalogue it.0 c.0))) (categories_by_name catalogue));
+  films =
+      join_by (group_text catalogue it.0) (codes "; ") (filter (λ (c : ℕ × Text). not (is_empty (films_of catalogue it.0 c.0))) (categories_by_name catalogue));
 }
 
 -- `actor_info` of the manual: all actors, those without a film too (the last is our own)
@@ -192,7 +195,8 @@ abbrev pub actor_info : Catalogue → List ActorRow
 actor_info catalogue = map (actor_row catalogue) (numbered catalogue.actors)
 
 abbrev pub listed_actor : ActorRow → Text
-listed_actor it = object ((codes "actor", decimal it.number) ∷ (codes "film_info", quoted it.films) ∷ (codes "first", quoted it.first) ∷ (codes "last", quoted it.last) ∷ [])
+listed_actor it =
+    object ((codes "actor", decimal it.number) ∷ (codes "film_info", quoted it.films) ∷ (codes "first", quoted it.first) ∷ (codes "last", quoted it.last) ∷ [])
 
 -- ---- sales
 

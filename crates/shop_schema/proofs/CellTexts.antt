@@ -1,5 +1,6 @@
 -- The texts of ratings and of special features, as columns have them.
-use Rattle.shop_schema.proofs.Common.{◌≢◌, ℕ, List, refl, IsUtf8, IsUtf8-from_ascii, Value, rating_text, features_text, Features, Rating, ◌≡◌, Bool, true, false, nat_lt, list_all, IsFeatures}
+use Rattle.shop_schema.proofs.Common.{◌≢◌, ℕ, List, refl, IsUtf8, IsUtf8-from_ascii, Value, rating_text, features_text, Features, Rating, ◌≡◌, Bool, true}
+use Rattle.shop_schema.proofs.Common.{false, nat_lt, list_all, IsFeatures}
 use Rattle.sqlite.specs.declared.types.Value.TheVariants.{Text}
 use Rattle.shop_types.specs.declared.film.Rating.TheVariants as rating
 use Rattle.shop_schema.proofs.Replies.{ascii_bytes}
@@ -10,7 +11,9 @@ features_are it = (it, refl)
 
 -- the sixteen texts have no byte above 127
 all_plain : (trailers commentaries deleted behind : Bool)
-    → list_all (λ b. nat_lt b 128) (features_text (record { trailers = trailers; commentaries = commentaries; deleted_scenes = deleted; behind_the_scenes = behind })) ≡ true
+    → list_all (λ b. nat_lt b 128)
+    (features_text (record { trailers = trailers; commentaries = commentaries; deleted_scenes = deleted; behind_the_scenes = behind }))
+    ≡ true
 all_plain false false false false = refl
 all_plain true false false false = refl
 all_plain false true false false = refl
@@ -29,7 +32,8 @@ all_plain false true true true = refl
 all_plain true true true true = refl
 
 pub features_utf8 : (it : Features) → IsUtf8 (features_text it)
-features_utf8 it = IsUtf8-from_ascii (features_text it) (ascii_bytes (features_text it) (all_plain it.trailers it.commentaries it.deleted_scenes it.behind_the_scenes))
+features_utf8 it =
+    IsUtf8-from_ascii (features_text it) (ascii_bytes (features_text it) (all_plain it.trailers it.commentaries it.deleted_scenes it.behind_the_scenes))
 
 rating_utf8 : (it : Rating) → IsUtf8 (rating_text it)
 rating_utf8 rating.G = IsUtf8-from_ascii _ (ascii_bytes (rating_text rating.G) refl)

@@ -1,5 +1,6 @@
 -- Days are numbered in the order of year, month and day.
-use Rattle.shop_schema.proofs.Common.{◌≡◌, inl, inr, refl, ap, arith, ℕ, zero, suc, ◌+◌, ◌<◌, ◌≤◌, cases_Bool, Moment, IsMoment, is_leap_year, days_in_year, days_in_month, same_if, differ_if}
+use Rattle.shop_schema.proofs.Common.{◌≡◌, inl, inr, refl, ap, arith, ℕ, zero, suc, ◌+◌, ◌<◌, ◌≤◌, cases_Bool, Moment, IsMoment, is_leap_year, days_in_year}
+use Rattle.shop_schema.proofs.Common.{days_in_month, same_if, differ_if}
 use Rattle.std.specs.Prelude.{◌-◌, ◌==◌}
 use Rattle.shop_model.specs.Calendar.{days_of_years, days_of_months, day_number, day_of}
 
@@ -10,7 +11,8 @@ years_up m zero h = absurd (omega (arith, h))
 years_up m (suc n) h = elim (cases_Bool (m == n)) [
   | inl same ↦
       let is : m ≡ n = same_if m n same in
-      let last : days_of_years m + days_in_year (1970 + m) ≡ days_of_years n + days_in_year (1970 + n) = ap (λ (k : ℕ). days_of_years k + days_in_year (1970 + k)) is in
+      let last : days_of_years m + days_in_year (1970 + m) ≡ days_of_years n + days_in_year (1970 + n) =
+      ap (λ (k : ℕ). days_of_years k + days_in_year (1970 + k)) is in
       omega (arith, last)
   | inr other ↦
       let isnt = differ_if m n other in
@@ -25,7 +27,8 @@ months_up year m zero h = absurd (omega (arith, h))
 months_up year m (suc n) h = elim (cases_Bool (m == n)) [
   | inl same ↦
       let is : m ≡ n = same_if m n same in
-      let last : days_of_months year m + days_in_month year (suc m) ≡ days_of_months year n + days_in_month year (suc n) = ap (λ (k : ℕ). days_of_months year k + days_in_month year (suc k)) is in
+      let last : days_of_months year m + days_in_month year (suc m) ≡ days_of_months year n + days_in_month year (suc n) =
+      ap (λ (k : ℕ). days_of_months year k + days_in_month year (suc k)) is in
       omega (arith, last)
   | inr other ↦
       let isnt = differ_if m n other in

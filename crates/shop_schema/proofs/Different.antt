@@ -1,5 +1,6 @@
 -- Lists in which no two values have the same text.
-use Rattle.shop_schema.proofs.Common.{◌≡◌, ◌≤◌, ◌||◌, ℕ, List, [], ◌∷◌, filter, length, not, Bool, true, false, cond, refl, sym, ap, subst, ◌∙◌, arith, true≢false, list_any, bytes_eq, bytes_eq-Decides, and_parts, are_different}
+use Rattle.shop_schema.proofs.Common.{◌≡◌, ◌≤◌, ◌||◌, ℕ, List, [], ◌∷◌, filter, length, not, Bool, true, false, cond, refl, sym, ap, subst, ◌∙◌, arith}
+use Rattle.shop_schema.proofs.Common.{true≢false, list_any, bytes_eq, bytes_eq-Decides, and_parts, are_different}
 
 turned : (s t : List ℕ) → bytes_eq s t ≡ false → bytes_eq t s ≡ false
 turned s t h = go (bytes_eq t s) refl
@@ -27,7 +28,8 @@ module _ {X : Type 0} (text : X → List ℕ) where
       ap (λ b. cond b (x ∷ filter (λ y. bytes_eq (text y) t) xs) (filter (λ y. bytes_eq (text y) t) xs)) (turned t (text x) parts.0) ∙ none_with t xs parts.1
 
   -- at most one value has the text
-  pub different_once : (t : List ℕ) (xs : List X) → are_different (λ a b. bytes_eq (text a) (text b)) xs ≡ true → length (filter (λ x. bytes_eq (text x) t) xs) ≤ 1
+  pub different_once : (t : List ℕ) (xs : List X) → are_different (λ a b. bytes_eq (text a) (text b)) xs ≡ true
+      → length (filter (λ x. bytes_eq (text x) t) xs) ≤ 1
   different_once t [] h = omega arith
   different_once t (x ∷ xs) h =
       let parts = and_parts (not (list_any (λ y. bytes_eq (text x) (text y)) xs)) (are_different (λ a b. bytes_eq (text a) (text b)) xs) h in

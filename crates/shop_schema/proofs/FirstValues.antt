@@ -1,6 +1,8 @@
 -- The rows with which a chain begins are such as the program can hold.
 use Rattle.std.proofs.Common.{IfSome}
-use Rattle.shop_schema.proofs.Common.{◌≡◌, ℕ, [], true, false, Option, Some, None, refl, arith, codes, nat_lt, list_all, IsUtf8-from_ascii, is_text, Text, token_of, river_dawn, north_light, opening_branch, opening_staff, opening_books, first_books, IsNumber, IsText, IsName, IsToken, IsFilm, IsBranch, IsStaff, AreValues, by_none, AreRowValues}
+use Rattle.shop_schema.proofs.Common.{◌≡◌, ℕ, [], true, false, Option, Some, None, refl, arith, codes, nat_lt, list_all, IsUtf8-from_ascii, is_text, Text}
+use Rattle.shop_schema.proofs.Common.{token_of, river_dawn, north_light, opening_branch, opening_staff, opening_books, first_books, IsNumber, IsText, IsName}
+use Rattle.shop_schema.proofs.Common.{IsToken, IsFilm, IsBranch, IsStaff, AreValues, by_none, AreRowValues}
 use Rattle.shop_schema.proofs.Replies.{ascii_bytes}
 
 pub first_values : (token : Text) → IsToken token → AreValues (first_books token)
@@ -28,7 +30,8 @@ first_values token is = record {
 ascii_text : (low high : ℕ) (text : Text) → is_text low high text ≡ true → list_all (λ b. nat_lt b 128) text ≡ true → IsText low high text
 ascii_text low high text is ascii = (is, IsUtf8-from_ascii text (ascii_bytes text ascii))
 
-opening_branch_values : (number : ℕ) (address : Text) (manager : Option ℕ) → IsNumber number → IsToken (token_of number) → IsText 1 128 address → IfSome manager IsNumber
+opening_branch_values : (number : ℕ) (address : Text) (manager : Option ℕ) → IsNumber number
+    → IsToken (token_of number) → IsText 1 128 address → IfSome manager IsNumber
     → IsBranch (opening_branch number address manager)
 opening_branch_values number address manager numbered token text managed = record {
   token = token;

@@ -1,5 +1,6 @@
 -- A form shows where it ends: what two forms begin with is one part, and what follows is one too.
-use Rattle.shop_schema.proofs.Common.{◌≡◌, ℕ, ◌%◌, ◌/◌, List, [], ◌∷◌, ◌++◌, length, Bool, true, false, Option, Some, None, refl, arith, option_to_list, Moment, moment_text, Text, number_form, text_form, numbers_form, option_form, flag_form}
+use Rattle.shop_schema.proofs.Common.{◌≡◌, ℕ, ◌%◌, ◌/◌, List, [], ◌∷◌, ◌++◌, length, Bool, true, false, Option, Some, None, refl, arith, option_to_list, Moment}
+use Rattle.shop_schema.proofs.Common.{moment_text, Text, number_form, text_form, numbers_form, option_form, flag_form}
 use Rattle.std.specs.Prelude.{flat_map}
 
 same_number : (a b : ℕ) → a % 256 ≡ b % 256 → a / 256 % 256 ≡ b / 256 % 256 → a / 65_536 % 256 ≡ b / 65_536 % 256 → a / 16_777_216 ≡ b / 16_777_216 → a ≡ b
@@ -40,7 +41,8 @@ each_ends (x ∷ ms) (y ∷ ns) r s n h =
     ((λ i. head.0 i ∷ more.0 i), more.1)
 
 pub numbers_ends : (ms ns : List ℕ) (r s : List ℕ) → numbers_form ms ++ r ≡ numbers_form ns ++ s → (ms ≡ ns) × (r ≡ s)
-numbers_ends ms ns r s h = let n = number_ends (length ms) (length ns) (flat_map number_form ms ++ r) (flat_map number_form ns ++ s) h in each_ends ms ns r s n.0 n.1
+numbers_ends ms ns r s h =
+    let n = number_ends (length ms) (length ns) (flat_map number_form ms ++ r) (flat_map number_form ns ++ s) h in each_ends ms ns r s n.0 n.1
 
 pub option_ends : (o p : Option ℕ) (r s : List ℕ) → option_form o ++ r ≡ option_form p ++ s → (o ≡ p) × (r ≡ s)
 option_ends o p r s h = let it = numbers_ends (option_to_list o) (option_to_list p) r s h in (one o p it.0, it.1)

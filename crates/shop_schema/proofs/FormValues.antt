@@ -1,5 +1,7 @@
 -- What the parts of a form hold, by their kinds: two forms of the same kinds are one exactly where their parts hold the same.
-use Rattle.shop_schema.proofs.Common.{◌≡◌, ◌↔◌, ℕ, ◌==◌, ◌&&◌, List, [], ◌∷◌, ◌++◌, Bool, true, false, Option, Some, None, refl, ap, bytes_eq, bytes_eq-Decides, and_parts, Text, same_option, same_numbers, same_if, equal_test, bytes_same, option_same, flag_same, subst, number_form, text_form, numbers_form, option_form, flag_form}
+use Rattle.shop_schema.proofs.Common.{◌≡◌, ◌↔◌, ℕ, ◌==◌, ◌&&◌, List, [], ◌∷◌, ◌++◌, Bool, true, false, Option, Some, None, refl, ap, bytes_eq, bytes_eq-Decides}
+use Rattle.shop_schema.proofs.Common.{and_parts, Text, same_option, same_numbers, same_if, equal_test, bytes_same, option_same, flag_same, subst, number_form}
+use Rattle.shop_schema.proofs.Common.{text_form, numbers_form, option_form, flag_form}
 use Rattle.shop_model.specs.Shop.{same_flag}
 use Rattle.shop_schema.proofs.FormLemmas.{number_ends, text_ends, numbers_ends, option_ends, flag_ends}
 
@@ -137,5 +139,6 @@ one_form n ks v w = (
 )
 
 -- and what is made of them is one, by their forms or as they are the same
-pub made_one : {A : Type 0} (n : ℕ) (ks : List Kind) (make : Values ks → A) (v w : Values ks) → (n ∷ forms ks v ≡ n ∷ forms ks w → make v ≡ make w) × (same_values ks v w ≡ true → make v ≡ make w)
+pub made_one : {A : Type 0} (n : ℕ) (ks : List Kind) (make : Values ks → A) (v w : Values ks)
+    → (n ∷ forms ks v ≡ n ∷ forms ks w → make v ≡ make w) × (same_values ks v w ≡ true → make v ≡ make w)
 made_one n ks make v w = (λ h. by_form ks make v w (ap behind h), by_test ks make v w)

@@ -1,5 +1,8 @@
 -- The last moment of a branch, as a column of its row, and shared rows by their numbers.
-use Rattle.shop_schema.proofs.Common.{◌≡◌, ◌≤◌, ◌+◌, ◌==◌, ◌&&◌, ℕ, List, [], ◌∷◌, map, filter, not, length, Bool, true, false, cond, refl, sym, ap, ◌∙◌, arith, nat_tests, IfSome, AllByRecursion, all-filter, all_map, Value, or_null, column, update_where, number_test, number_tested, one_tested, Moment, IsMoment, Owned, owned_by, numbered_from, IsCounted, Branch, head, set_last, moment_value, branch_columns, IsLast}
+use Rattle.shop_schema.proofs.Common.{◌≡◌, ◌≤◌, ◌+◌, ◌==◌, ◌&&◌, ℕ, List, [], ◌∷◌, map, filter, not, length, Bool, true, false, cond, refl, sym, ap, ◌∙◌, arith}
+use Rattle.shop_schema.proofs.Common.{nat_tests, IfSome, AllByRecursion, all-filter, all_map, Value, or_null, column, update_where, number_test, number_tested}
+use Rattle.shop_schema.proofs.Common.{one_tested, Moment, IsMoment, Owned, owned_by, numbered_from, IsCounted, Branch, head, set_last, moment_value}
+use Rattle.shop_schema.proofs.Common.{branch_columns, IsLast}
 use Rattle.sqlite_value.specs.Order as sql
 use Rattle.shop_schema.proofs.Lists.{counted_once}
 
@@ -13,7 +16,10 @@ numbered_once {A} k xs n = counted_once (λ (it : ℕ × A). it.0) k (numbered_f
 
 -- the last moment of a branch is one
 pub last_fits : (b : ℕ) (lasts : List (Owned Moment)) → AllByRecursion IsLast lasts → IfSome (head (owned_by b lasts)) IsMoment
-last_fits b lasts all = first (owned_by b lasts) (all_map IsMoment (λ (row : Owned Moment). row.it) (filter (λ (row : Owned Moment). row.owner == b) lasts) (all-filter IsLast (λ (row : Owned Moment). row.owner == b) lasts all))
+last_fits b lasts all =
+    first (owned_by b lasts)
+    (all_map IsMoment (λ (row : Owned Moment). row.it) (filter (λ (row : Owned Moment). row.owner == b) lasts)
+    (all-filter IsLast (λ (row : Owned Moment). row.owner == b) lasts all))
   where
     first : (ms : List Moment) → AllByRecursion IsMoment ms → IfSome (head ms) IsMoment
     first [] fit = tt
@@ -36,8 +42,12 @@ kept_apart n b [] h = refl
 kept_apart n b (row ∷ lasts) h = go (row.owner == b) refl (kept_apart n b lasts h)
   where
     go : (t : Bool) → (row.owner == b) ≡ t → owned_by n (others b lasts) ≡ owned_by n lasts
-        → owned_by n (cond (not t) (row ∷ others b lasts) (others b lasts)) ≡ map (λ it. it.it) (cond (row.owner == n) (row ∷ filter (λ it. it.owner == n) lasts) (filter (λ it. it.owner == n) lasts))
-    go true is more = more ∙ ap (λ u. map (λ (it : Owned Moment). it.it) (cond u (row ∷ filter (λ it. it.owner == n) lasts) (filter (λ it. it.owner == n) lasts))) (sym (apart row.owner n b h is))
+        → owned_by n (cond (not t) (row ∷ others b lasts) (others b lasts))
+        ≡ map (λ it. it.it) (cond (row.owner == n) (row ∷ filter (λ it. it.owner == n) lasts) (filter (λ it. it.owner == n) lasts))
+    go true is more =
+        more
+        ∙ ap (λ u. map (λ (it : Owned Moment). it.it) (cond u (row ∷ filter (λ it. it.owner == n) lasts) (filter (λ it. it.owner == n) lasts)))
+        (sym (apart row.owner n b h is))
     go false is more = further (row.owner == n) more
       where
         further : (u : Bool) → owned_by n (others b lasts) ≡ owned_by n lasts
@@ -51,21 +61,38 @@ turned m n true h = grind (arith, nat_tests)
 turned m n false h = grind (arith, nat_tests)
 
 one_branch : (b : ℕ) (moment : Moment) (lasts : List (Owned Moment)) (it : ℕ × Branch)
-    → branch_columns (set_last b moment lasts) it ≡ cond (number_test 0 b (branch_columns lasts it) && true) (with_last moment (branch_columns lasts it)) (branch_columns lasts it)
+    → branch_columns (set_last b moment lasts) it
+    ≡ cond (number_test 0 b (branch_columns lasts it) && true) (with_last moment (branch_columns lasts it)) (branch_columns lasts it)
 one_branch b moment lasts it =
-    go (it.0 == b) refl ∙ ap (λ t. cond t (with_last moment (branch_columns lasts it)) (branch_columns lasts it)) (sym (one_tested (number_test 0 b (branch_columns lasts it)) (number_tested it.0 b)))
+    go (it.0 == b) refl
+    ∙ ap (λ t. cond t (with_last moment (branch_columns lasts it)) (branch_columns lasts it))
+    (sym (one_tested (number_test 0 b (branch_columns lasts it)) (number_tested it.0 b)))
   where
-    first : (t : Bool) → (b == it.0) ≡ t → owned_by it.0 (set_last b moment lasts) ≡ cond t (moment ∷ owned_by it.0 (others b lasts)) (owned_by it.0 (others b lasts))
-    first true is = ap (λ u. map (λ (row : Owned Moment). row.it) (cond u (record { owner = b; it = moment } ∷ filter (λ row. row.owner == it.0) (others b lasts)) (filter (λ row. row.owner == it.0) (others b lasts)))) is
-    first false is = ap (λ u. map (λ (row : Owned Moment). row.it) (cond u (record { owner = b; it = moment } ∷ filter (λ row. row.owner == it.0) (others b lasts)) (filter (λ row. row.owner == it.0) (others b lasts)))) is
+    first : (t : Bool) → (b == it.0) ≡ t
+        → owned_by it.0 (set_last b moment lasts) ≡ cond t (moment ∷ owned_by it.0 (others b lasts)) (owned_by it.0 (others b lasts))
+    first true is =
+        ap (λ u.
+        map (λ (row : Owned Moment). row.it)
+        (cond u (record { owner = b; it = moment } ∷ filter (λ row. row.owner == it.0) (others b lasts))
+        (filter (λ row. row.owner == it.0) (others b lasts))))
+        is
+    first false is =
+        ap (λ u.
+        map (λ (row : Owned Moment). row.it)
+        (cond u (record { owner = b; it = moment } ∷ filter (λ row. row.owner == it.0) (others b lasts))
+        (filter (λ row. row.owner == it.0) (others b lasts))))
+        is
 
     shown : (xs ys : List Moment) → xs ≡ ys → or_null moment_value (head xs) ≡ or_null moment_value (head ys)
     shown xs ys same = ap (λ (ms : List Moment). or_null moment_value (head ms)) same
 
     row_with : Value → sql.Row
-    row_with v = column (branch_columns lasts it) 0 ∷ column (branch_columns lasts it) 1 ∷ column (branch_columns lasts it) 2 ∷ column (branch_columns lasts it) 3 ∷ column (branch_columns lasts it) 4 ∷ column (branch_columns lasts it) 5 ∷ column (branch_columns lasts it) 6 ∷ v ∷ []
+    row_with v =
+        column (branch_columns lasts it) 0 ∷ column (branch_columns lasts it) 1 ∷ column (branch_columns lasts it) 2 ∷ column (branch_columns lasts it) 3
+        ∷ column (branch_columns lasts it) 4 ∷ column (branch_columns lasts it) 5 ∷ column (branch_columns lasts it) 6 ∷ v ∷ []
 
-    go : (t : Bool) → (it.0 == b) ≡ t → branch_columns (set_last b moment lasts) it ≡ cond t (with_last moment (branch_columns lasts it)) (branch_columns lasts it)
+    go : (t : Bool) → (it.0 == b) ≡ t
+        → branch_columns (set_last b moment lasts) it ≡ cond t (with_last moment (branch_columns lasts it)) (branch_columns lasts it)
     go true is = ap row_with (shown _ _ (first true (turned it.0 b true is)))
     go false is = ap row_with (shown _ _ (first false (turned it.0 b false is) ∙ kept_apart it.0 b lasts is))
 

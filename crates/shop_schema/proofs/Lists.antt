@@ -1,5 +1,6 @@
 -- The lists of the books when a row is put last, and a branch's rows in the order of their numbers.
-use Rattle.shop_schema.proofs.Common.{◌≡◌, ◌≤◌, ◌<◌, ◌+◌, ◌==◌, ◌&&◌, ℕ, List, [], ◌∷◌, ◌++◌, map, filter, length, Bool, true, false, cond, refl, sym, ap, subst, ◌∙◌, arith, AllByRecursion, flat_map, nat_tests, PicksOne, Row, is_of, is_row, IsCounted, AreNumbered}
+use Rattle.shop_schema.proofs.Common.{◌≡◌, ◌≤◌, ◌<◌, ◌+◌, ◌==◌, ◌&&◌, ℕ, List, [], ◌∷◌, ◌++◌, map, filter, length, Bool, true, false, cond, refl, sym, ap}
+use Rattle.shop_schema.proofs.Common.{subst, ◌∙◌, arith, AllByRecursion, flat_map, nat_tests, PicksOne, Row, is_of, is_row, IsCounted, AreNumbered}
 
 -- facts, one after another
 infixr 3 ◌also◌
@@ -27,7 +28,8 @@ module _ {X : Type 0} (number : X → ℕ) where
 
   none_equal : (n : ℕ) (xs : List X) → AllByRecursion (λ x. n < number x) xs → length (filter (λ x. number x == n) xs) ≡ 0
   none_equal n [] up = refl
-  none_equal n (x ∷ xs) up = ap (λ b. length (cond b (x ∷ filter (λ y. number y == n) xs) (filter (λ y. number y == n) xs))) (unequal (number x) n up.0) ∙ none_equal n xs up.1
+  none_equal n (x ∷ xs) up =
+      ap (λ b. length (cond b (x ∷ filter (λ y. number y == n) xs) (filter (λ y. number y == n) xs))) (unequal (number x) n up.0) ∙ none_equal n xs up.1
     where
       unequal : (m n : ℕ) → n < m → (m == n) ≡ false
       unequal m n h = grind (arith, nat_tests)
@@ -36,7 +38,8 @@ module _ {X : Type 0} (number : X → ℕ) where
   counted_once k [] n c = omega arith
   counted_once k (x ∷ xs) n c = go (number x == n) refl (counted_once (k + 1) xs n c.1)
     where
-      go : (b : Bool) → (number x == n) ≡ b → length (filter (λ y. number y == n) xs) ≤ 1 → length (cond b (x ∷ filter (λ y. number y == n) xs) (filter (λ y. number y == n) xs)) ≤ 1
+      go : (b : Bool) → (number x == n) ≡ b → length (filter (λ y. number y == n) xs) ≤ 1
+          → length (cond b (x ∷ filter (λ y. number y == n) xs) (filter (λ y. number y == n) xs)) ≤ 1
       go true is few =
           let same : number x ≡ n = grind (arith, nat_tests) in
           let none = none_equal n xs (subst (λ m. AllByRecursion (λ y. m < number y) xs) same (counted_above (k + 1) xs (number x) (omega (arith, c.0)) c.1)) in
@@ -58,4 +61,5 @@ module _ {A : Type 0} (b : ℕ) (rows : List (Row A)) (counted : AreNumbered (is
   -- a branch has at most one row of a number
   pub picks_row : (n : ℕ) → PicksOne (is_row b n) rows
   picks_row n =
-      subst (λ (l : List (Row A)). length l ≤ 1) (sym (filter_twice (is_of b) (λ row. row.number == n) rows)) (counted_once (λ (row : Row A). row.number) 1 (filter (is_of b) rows) n counted)
+      subst (λ (l : List (Row A)). length l ≤ 1) (sym (filter_twice (is_of b) (λ row. row.number == n) rows))
+      (counted_once (λ (row : Row A). row.number) 1 (filter (is_of b) rows) n counted)

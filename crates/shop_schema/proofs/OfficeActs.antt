@@ -1,5 +1,12 @@
 -- What is shown of each act of head office: its form is its own, what it replies is a text, and the rows that it makes are such as the program can hold.
-use Rattle.shop_schema.proofs.Common.{◌≡◌, ◌≤◌, ◌-◌, ◌==◌, ℕ, List, [], ◌∷◌, ◌++◌, length, Bool, true, false, cond, refl, arith, codes, IsUtf8, length-append, IfSome, AllByRecursion, All-push, object, set_at, Film, Branch, Staff, OfficeAct, AddCountry, AddCity, AddLanguage, AddCategory, AddActor, AddFilm, PriceFilm, WithdrawFilm, AddCast, AddBranch, AddStaff, StaffLeaves, SetManager, ByCode, ByComment, ChooseRule, OfficeCommand, office_acted, office_told, office_text, office_done, Catalogue, Books, length_set, HasFewShared, IsToken, IsNumber, IsName, IsCity, IsActor, IsFilm, IsCast, IsBranch, IsStaff, IsKey, IsOfficeAct, IsOfficeKept, AreShared, AreCatalogueValues, AreValues, ◌↔◌, ◌&&◌, Option, Some, ap, subst, bytes_eq-Decides, bytes_eq, and_parts, Text, Person, Rule, same_person, same_rule, same_office_act, same_if, equal_test, person_same, joined, number_form, text_form, person_form, rule_form, office_form}
+use Rattle.shop_schema.proofs.Common.{◌≡◌, ◌≤◌, ◌-◌, ◌==◌, ℕ, List, [], ◌∷◌, ◌++◌, length, Bool, true, false, cond, refl, arith, codes, IsUtf8, length-append}
+use Rattle.shop_schema.proofs.Common.{IfSome, AllByRecursion, All-push, object, set_at, Film, Branch, Staff, OfficeAct, AddCountry, AddCity, AddLanguage}
+use Rattle.shop_schema.proofs.Common.{AddCategory, AddActor, AddFilm, PriceFilm, WithdrawFilm, AddCast, AddBranch, AddStaff, StaffLeaves, SetManager, ByCode}
+use Rattle.shop_schema.proofs.Common.{ByComment, ChooseRule, OfficeCommand, office_acted, office_told, office_text, office_done, Catalogue, Books, length_set}
+use Rattle.shop_schema.proofs.Common.{HasFewShared, IsToken, IsNumber, IsName, IsCity, IsActor, IsFilm, IsCast, IsBranch, IsStaff, IsKey, IsOfficeAct}
+use Rattle.shop_schema.proofs.Common.{IsOfficeKept, AreShared, AreCatalogueValues, AreValues, ◌↔◌, ◌&&◌, Option, Some, ap, subst, bytes_eq-Decides, bytes_eq}
+use Rattle.shop_schema.proofs.Common.{and_parts, Text, Person, Rule, same_person, same_rule, same_office_act, same_if, equal_test, person_same, joined}
+use Rattle.shop_schema.proofs.Common.{number_form, text_form, person_form, rule_form, office_form}
 use Rattle.std.specs.Prelude.{None}
 use Rattle.shop_model.specs.Json.{escape_byte}
 use Rattle.shop_schema.proofs.Replies.{ascii_bytes, number_ascii, object_utf8}
@@ -14,7 +21,8 @@ abbrev film_kinds : List Kind
 film_kinds = Bytes ∷ Bytes ∷ Number ∷ Number ∷ Number ∷ Number ∷ Number ∷ Perhaps ∷ Bytes ∷ Bytes ∷ Flag ∷ []
 
 abbrev of_film : Film → Values film_kinds
-of_film f = (f.title, (f.description, (f.language, (f.category, (f.period, (f.rate, (f.replacement, (f.minutes, (f.rating, (f.features, (f.withdrawn, tt)))))))))))
+of_film f =
+    (f.title, (f.description, (f.language, (f.category, (f.period, (f.rate, (f.replacement, (f.minutes, (f.rating, (f.features, (f.withdrawn, tt)))))))))))
 
 abbrev branch_kinds : List Kind
 branch_kinds = Bytes ∷ Bytes ∷ Bytes ∷ Bytes ∷ Number ∷ Perhaps ∷ []
@@ -29,7 +37,8 @@ one_name n x y = (λ h. (bytes_eq-Decides x y).1 (text_is x y (ap behind h)), λ
 one_number : (n x y : ℕ) → (n ∷ forms (Number ∷ []) (x, tt) ≡ n ∷ forms (Number ∷ []) (y, tt)) ↔ ((x == y) ≡ true)
 one_number n x y = one_form n (Number ∷ []) (x, tt) (y, tt)
 
-two_numbers : (n a b c d : ℕ) → (n ∷ joined (number_form a ∷ number_form b ∷ []) ≡ n ∷ joined (number_form c ∷ number_form d ∷ [])) ↔ ((a == c && b == d) ≡ true)
+two_numbers : (n a b c d : ℕ)
+    → (n ∷ joined (number_form a ∷ number_form b ∷ []) ≡ n ∷ joined (number_form c ∷ number_form d ∷ [])) ↔ ((a == c && b == d) ≡ true)
 two_numbers n a b c d = one_form n (Number ∷ Number ∷ []) (a, (b, tt)) (c, (d, tt))
 
 one_rule : (a b : Rule) → (14 ∷ rule_form a ≡ 14 ∷ rule_form b) ↔ (same_rule a b ≡ true)
@@ -37,7 +46,8 @@ one_rule ByCode ByCode = (λ h. refl, λ h. refl)
 one_rule ByComment ByComment = (λ h. refl, λ h. refl)
 one_rule a b = (λ h. cc, λ h. cc)
 
-one_staff : (b c : ℕ) (p q : Person) → (11 ∷ joined (number_form b ∷ person_form p ∷ []) ≡ 11 ∷ joined (number_form c ∷ person_form q ∷ [])) ↔ ((b == c && same_person p q) ≡ true)
+one_staff : (b c : ℕ) (p q : Person)
+    → (11 ∷ joined (number_form b ∷ person_form p ∷ []) ≡ 11 ∷ joined (number_form c ∷ person_form q ∷ [])) ↔ ((b == c && same_person p q) ≡ true)
 one_staff b c p q = (
   λ h.
       let branch = number_ends b c (person_form p ++ []) (person_form q ++ []) (ap behind h) in
@@ -182,7 +192,8 @@ acted_values (ChooseRule rule) it is v few =
     values_of _ v.office_token v.kept v.casts v.countries v.cities v.languages v.categories v.actors v.films v.branches v.staff
 
 -- what an accepted command of head office makes of the books
-pub office_values_done : (command : OfficeCommand) (books : Books) → IsOfficeAct command.act → IsKey command.key → AreValues books → HasFewShared books.catalogue
+pub office_values_done : (command : OfficeCommand) (books : Books) → IsOfficeAct command.act
+    → IsKey command.key → AreValues books → HasFewShared books.catalogue
     → AreValues (record books { catalogue = office_done command books.catalogue })
 office_values_done command books is key values few =
     let v = acted_values command.act books.catalogue is values.catalogue few in
@@ -190,7 +201,9 @@ office_values_done command books is key values few =
     record {
       catalogue = record {
         office_token = v.office_token;
-        kept = All-push IsOfficeKept books.catalogue.kept (record { command = command; reply = office_text command books.catalogue }) values.catalogue.kept (key, is, reply);
+        kept =
+            All-push IsOfficeKept books.catalogue.kept
+            (record { command = command; reply = office_text command books.catalogue }) values.catalogue.kept (key, is, reply);
         casts = v.casts;
         countries = v.countries;
         cities = v.cities;

@@ -1,5 +1,7 @@
 -- Under one key, two commands of head office have one form exactly where they are one command.
-use Rattle.shop_schema.proofs.Common.{◌≡◌, ℕ, ◌&&◌, List, [], ◌∷◌, map, filter, cond, Bool, true, false, Option, Some, option_map, refl, ap, ◌∙◌, sym, bytes_eq-Decides, bytes_eq, and_parts, OfficeCommand, OfficeKept, same_office_act, same_office, head, office_command_form, OfficeFormsAreOneToOne}
+use Rattle.shop_schema.proofs.Common.{◌≡◌, ℕ, ◌&&◌, List, [], ◌∷◌, map, filter, cond, Bool, true, false, Option, Some, option_map, refl, ap, ◌∙◌, sym}
+use Rattle.shop_schema.proofs.Common.{bytes_eq-Decides, bytes_eq, and_parts, OfficeCommand, OfficeKept, same_office_act, same_office, head, office_command_form}
+use Rattle.shop_schema.proofs.Common.{OfficeFormsAreOneToOne}
 use Rattle.shop_schema.proofs.OfficeActs.{one_act}
 
 pub office_forms_are_one_to_one : OfficeFormsAreOneToOne
@@ -17,7 +19,8 @@ same_truth false true f h = h refl
 same_truth false false f h = refl
 
 -- under one key, the stored forms have the same bytes exactly where the commands are one
-pub office_form_same : (kept command : OfficeCommand) → bytes_eq kept.key command.key ≡ true → bytes_eq (office_command_form kept) (office_command_form command) ≡ same_office kept command
+pub office_form_same : (kept command : OfficeCommand) → bytes_eq kept.key command.key ≡ true
+    → bytes_eq (office_command_form kept) (office_command_form command) ≡ same_office kept command
 office_form_same kept command key =
     let one = office_forms_are_one_to_one kept command ((bytes_eq-Decides kept.key command.key).0 key) in
     let bytes = bytes_eq-Decides (office_command_form kept) (office_command_form command) in
@@ -50,5 +53,6 @@ first_told command form is (k ∷ kept) = go (is_under command k) refl (first_to
 
 -- so the stored form and the reply that are found under the command's key show whether the kept command is the same
 pub office_told : (command : OfficeCommand) (form : List ℕ) (found : Option (List ℕ × List ℕ)) (kept : List OfficeKept) → form ≡ office_command_form command
-    → found ≡ head (map stored (filter (is_under command) kept)) → option_map (by_form form) found ≡ head (map (by_command command) (filter (is_under command) kept))
+    → found ≡ head (map stored (filter (is_under command) kept))
+    → option_map (by_form form) found ≡ head (map (by_command command) (filter (is_under command) kept))
 office_told command form found kept is has = ap (λ (o : Option (List ℕ × List ℕ)). option_map (by_form form) o) has ∙ first_told command form is kept

@@ -1,5 +1,8 @@
 -- The columns of a row of kinds determine its values, and so do the columns of a table's row.
-use Rattle.shop_schema.proofs.Common.{◌≡◌, ℕ, List, [], ◌∷◌, Option, Some, None, IfSome, or_null, Bool, true, false, refl, sym, ap, ◌∙◌, same_flag, same_number, same_or_null, number_value, Moment, IsMoment, moment_text, moment_value, rating_text, rating_of, features_text, features_of, seen_rule, seen_state, seen_line_state, Rating, Features, rule_value, state_value, line_value, Kind, value_of, Fits, FitEach, TableOf}
+use Rattle.shop_schema.proofs.Common.{◌≡◌, ℕ, List, [], ◌∷◌, Option, Some, None, IfSome, or_null, Bool, true, false, refl, sym, ap, ◌∙◌, same_flag, same_number}
+use Rattle.shop_schema.proofs.Common.{same_or_null, number_value, Moment, IsMoment, moment_text, moment_value, rating_text, rating_of, features_text}
+use Rattle.shop_schema.proofs.Common.{features_of, seen_rule, seen_state, seen_line_state, Rating, Features, rule_value, state_value, line_value, Kind}
+use Rattle.shop_schema.proofs.Common.{value_of, Fits, FitEach, TableOf}
 use Rattle.sqlite_value.specs.Order as sql
 use Rattle.shop_types.specs.declared.film.Rating.TheVariants as rating
 use Rattle.shop_types.specs.declared.rule.Rule.{Rule}
@@ -113,7 +116,8 @@ same_values (k ∷ ks) u v p q h =
     (λ i. (first i, more i))
 
 -- the columns of a table's rows are one to one
-pub same_row : {A : Type 0} {columns : A → sql.Row} {IsOne : A → Type 0} (t : TableOf columns IsOne) (a b : A) → IsOne a → IsOne b → columns a ≡ columns b → a ≡ b
+pub same_row : {A : Type 0} {columns : A → sql.Row} {IsOne : A → Type 0} (t : TableOf columns IsOne) (a b : A)
+    → IsOne a → IsOne b → columns a ≡ columns b → a ≡ b
 same_row {A} {columns} t a b p q h =
     let u = t.only a p in
     let v = t.only b q in

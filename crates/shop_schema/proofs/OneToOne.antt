@@ -1,5 +1,7 @@
 -- Under one key, two commands have one form exactly where they are one command.
-use Rattle.shop_schema.proofs.Common.{◌≡◌, ◌≤◌, ◌/◌, ℕ, ◌==◌, ◌&&◌, ◌||◌, List, [], ◌∷◌, ◌++◌, Bool, true, false, sym, ap, subst, ◌∙◌, arith, bytes_eq, and_parts, if◌then◌else◌, Moment, IsMoment, moment_text, same_moment, digit, days_in_month, is_leap_year, Command, same_act, same_command, same_if, command_same, act_form, command_form, FormsAreOneToOne}
+use Rattle.shop_schema.proofs.Common.{◌≡◌, ◌≤◌, ◌/◌, ℕ, ◌==◌, ◌&&◌, ◌||◌, List, [], ◌∷◌, ◌++◌, Bool, true, false, sym, ap, subst, ◌∙◌, arith, bytes_eq}
+use Rattle.shop_schema.proofs.Common.{and_parts, if◌then◌else◌, Moment, IsMoment, moment_text, same_moment, digit, days_in_month, is_leap_year, Command}
+use Rattle.shop_schema.proofs.Common.{same_act, same_command, same_if, command_same, act_form, command_form, FormsAreOneToOne}
 use Rattle.std.proofs.lemmas.List.{append-nil}
 use Rattle.shop_schema.proofs.FormLemmas.{number_ends, moment_ends}
 use Rattle.shop_schema.proofs.FormValues.{Kind, Number, Values, text_equal, by_test}
@@ -14,7 +16,8 @@ abbrev of_moment : Moment → Values moment_kinds
 of_moment m = (m.year, (m.month, (m.day, (m.hour, (m.minute, (m.second, tt))))))
 
 abbrev to_moment : Values moment_kinds → Moment
-to_moment (year, (month, (day, (hour, (minute, (second, end)))))) = record { year = year; month = month; day = day; hour = hour; minute = minute; second = second }
+to_moment (year, (month, (day, (hour, (minute, (second, end)))))) =
+    record { year = year; month = month; day = day; hour = hour; minute = minute; second = second }
 
 pub moment_equal : (a b : Moment) → same_moment a b ≡ true → a ≡ b
 moment_equal a b h = by_test moment_kinds to_moment (of_moment a) (of_moment b) h
@@ -36,7 +39,8 @@ alone xs ys h = sym (append-nil xs) ∙ h ∙ append-nil ys
 
 -- ---- a moment's text shows its parts
 
-four_digits : (a b : ℕ) → a ≤ 9999 → b ≤ 9999 → digit (a / 1000) ≡ digit (b / 1000) → digit (a / 100) ≡ digit (b / 100) → digit (a / 10) ≡ digit (b / 10) → digit a ≡ digit b → a ≡ b
+four_digits : (a b : ℕ) → a ≤ 9999 → b ≤ 9999 → digit (a / 1000) ≡ digit (b / 1000)
+    → digit (a / 100) ≡ digit (b / 100) → digit (a / 10) ≡ digit (b / 10) → digit a ≡ digit b → a ≡ b
 four_digits a b p q thousands hundreds tens ones = omega (arith, p, q, thousands, hundreds, tens, ones)
 
 two_digits : (a b : ℕ) → a ≤ 99 → b ≤ 99 → digit (a / 10) ≡ digit (b / 10) → digit a ≡ digit b → a ≡ b

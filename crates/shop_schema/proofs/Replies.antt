@@ -1,5 +1,7 @@
 -- A reply is a text: an object whose names are plain and whose values are ASCII.
-use Rattle.shop_schema.proofs.Common.{◌<◌, ◌/◌, ◌%◌, ◌==◌, ◌+◌, ℕ, zero, suc, List, [], ◌∷◌, ◌++◌, map, Bool, true, false, if◌then◌else◌, ◌≡◌, refl, arith, nat_lt, list_all, and_parts, ltb-true, codes, decimal, IsUtf8, IsAscii, IsAscii-nil, IsAscii-cons, IsAscii-append, IsUtf8-from_ascii, AllByRecursion, Text, comma_if, flag_text, items_text, numbers_text, object}
+use Rattle.shop_schema.proofs.Common.{◌<◌, ◌/◌, ◌%◌, ◌==◌, ◌+◌, ℕ, zero, suc, List, [], ◌∷◌, ◌++◌, map, Bool, true, false, if◌then◌else◌, ◌≡◌, refl, arith}
+use Rattle.shop_schema.proofs.Common.{nat_lt, list_all, and_parts, ltb-true, codes, decimal, IsUtf8, IsAscii, IsAscii-nil, IsAscii-cons, IsAscii-append}
+use Rattle.shop_schema.proofs.Common.{IsUtf8-from_ascii, AllByRecursion, Text, comma_if, flag_text, items_text, numbers_text, object}
 use Rattle.std.specs.Fmt.{digits, digits_onto, digit_glyph}
 use Rattle.shop_model.specs.Json.{members_text, quoted}
 

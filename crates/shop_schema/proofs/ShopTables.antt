@@ -1,5 +1,9 @@
 -- The tables of the shop, each as one value.
-use Rattle.shop_schema.proofs.Common.{◌≡◌, ◌||◌, ℕ, List, [], ◌∷◌, Bool, true, false, true≢false, refl, sym, codes, bytes_eq, rating_text, features_text, seen_rule, seen_state, Rating, chain_columns, rule_columns, named_columns, city_columns, actor_columns, film_columns, cast_columns, staff_columns, customer_columns, copy_columns, rental_columns, terms_columns, payment_columns, lot_columns, IsName, IsToken, IsRating, IsCity, IsActor, IsFilm, IsCast, IsStaff, IsRow, IsCustomer, IsCopy, IsRental, IsTerms, IsPayment, IsLot, IsShared, TableOf, person_kinds}
+use Rattle.shop_schema.proofs.Common.{◌≡◌, ◌||◌, ℕ, List, [], ◌∷◌, Bool, true, false, true≢false, refl, sym, codes, bytes_eq, rating_text, features_text}
+use Rattle.shop_schema.proofs.Common.{seen_rule, seen_state, Rating, chain_columns, rule_columns, named_columns, city_columns, actor_columns, film_columns}
+use Rattle.shop_schema.proofs.Common.{cast_columns, staff_columns, customer_columns, copy_columns, rental_columns, terms_columns, payment_columns, lot_columns}
+use Rattle.shop_schema.proofs.Common.{IsName, IsToken, IsRating, IsCity, IsActor, IsFilm, IsCast, IsStaff, IsRow, IsCustomer, IsCopy, IsRental, IsTerms}
+use Rattle.shop_schema.proofs.Common.{IsPayment, IsLot, IsShared, TableOf, person_kinds}
 use Rattle.shop_model.specs.Values as model
 use Rattle.shop_types.specs.declared.film.Rating.TheVariants as rating
 use Rattle.shop_types.specs.declared.rule.Rule.TheVariants as rule
@@ -19,9 +23,11 @@ rating_fits rating.Nc17 = refl
 
 pub rating_is : (t : List ℕ) → IsRating t → (it : Rating) × (rating_text it ≡ t)
 rating_is t h =
-    go (bytes_eq t (codes "G")) (bytes_eq t (codes "PG")) (bytes_eq t (codes "PG-13")) (bytes_eq t (codes "R")) (bytes_eq t (codes "NC-17")) refl refl refl refl refl h
+    go (bytes_eq t (codes "G")) (bytes_eq t (codes "PG")) (bytes_eq t (codes "PG-13"))
+    (bytes_eq t (codes "R")) (bytes_eq t (codes "NC-17")) refl refl refl refl refl h
   where
-    go : (a b c d e : Bool) → bytes_eq t (codes "G") ≡ a → bytes_eq t (codes "PG") ≡ b → bytes_eq t (codes "PG-13") ≡ c → bytes_eq t (codes "R") ≡ d → bytes_eq t (codes "NC-17") ≡ e
+    go : (a b c d e : Bool) → bytes_eq t (codes "G") ≡ a → bytes_eq t (codes "PG") ≡ b
+        → bytes_eq t (codes "PG-13") ≡ c → bytes_eq t (codes "R") ≡ d → bytes_eq t (codes "NC-17") ≡ e
         → (a || b || c || d || e) ≡ true → (it : Rating) × (rating_text it ≡ t)
     go true b c d e is _ _ _ _ h = (rating.G, sym (text_equal t (codes "G") is))
     go false true c d e _ is _ _ _ h = (rating.Pg, sym (text_equal t (codes "PG") is))
@@ -127,7 +133,19 @@ films = record {
       let is = h.1 in
       let rated = rating_is film.rating is.rating in
       let featured = is.features in (
-        (it.0, (film.title, (film.description, (film.language, (film.category, (film.period, (film.rate, (film.replacement, (film.minutes, (rated.0, (featured.0, (film.withdrawn, tt)))))))))))),
+        (
+          it.0,
+          (
+            film.title,
+            (
+              film.description,
+              (
+                film.language,
+                (film.category, (film.period, (film.rate, (film.replacement, (film.minutes, (rated.0, (featured.0, (film.withdrawn, tt)))))))),
+              ),
+            ),
+          ),
+        ),
         (h.0, (is.title, (is.description, (is.language, (is.category, (is.period, (is.rate, (is.replacement, (is.minutes, (tt, (tt, (tt, tt)))))))))))),
         (λ i. (it.0, record film { rating = rated.1 i; features = featured.1 i })),
       );
@@ -145,10 +163,18 @@ casts = record {
 abbrev pub staff : TableOf staff_columns (IsShared IsStaff)
 staff = record {
   kinds = kind.Number ∷ kind.Number ∷ person_kinds (kind.Flag ∷ []);
-  from = λ (number, (branch, (first, (last, (address, (postal, (phone, (city, (gone, z))))))))).
-      (number, record { branch = branch; person = record { first = first; last = last; address = address; postal = postal; phone = phone; city = city }; gone = gone });
+  from = λ (number, (branch, (first, (last, (address, (postal, (phone, (city, (gone, z))))))))). (
+    number,
+    record {
+      branch = branch;
+      person = record { first = first; last = last; address = address; postal = postal; phone = phone; city = city };
+      gone = gone;
+    },
+  );
   told = λ v. refl;
-  ones = λ v h. let who = h.1.1 in (h.0, (h.1.0, record { first = who.0; last = who.1.0; address = who.1.1.0; postal = who.1.1.1.0; phone = who.1.1.1.1.0; city = who.1.1.1.1.1.0 }));
+  ones = λ v h.
+      let who = h.1.1 in
+      (h.0, (h.1.0, record { first = who.0; last = who.1.0; address = who.1.1.0; postal = who.1.1.1.0; phone = who.1.1.1.1.0; city = who.1.1.1.1.1.0 }));
   only = λ it h.
       let who = it.1.person in
       let is = h.1.1 in (
@@ -175,8 +201,14 @@ customers = record {
       };
   told = λ v. refl;
   ones = λ v h.
-      let who = h.1.1 in
-      (h.0, h.1.0, (record { first = who.0; last = who.1.0; address = who.1.1.0; postal = who.1.1.1.0; phone = who.1.1.1.1.0; city = who.1.1.1.1.1.0 }, who.1.1.1.1.1.1.1.0));
+      let who = h.1.1 in (
+        h.0,
+        h.1.0,
+        (
+          record { first = who.0; last = who.1.0; address = who.1.1.0; postal = who.1.1.1.0; phone = who.1.1.1.1.0; city = who.1.1.1.1.1.0 },
+          who.1.1.1.1.1.1.1.0,
+        ),
+      );
   only = λ row h.
       let who = row.it.person in
       let is = h.2.0 in (
@@ -220,10 +252,15 @@ rentals = record {
 abbrev pub terms : TableOf terms_columns (IsRow IsTerms)
 terms = record {
   kinds = kind.Number ∷ kind.Number ∷ kind.AtMost 9_999 ∷ kind.Within 1 255 ∷ kind.AtMost 99_999 ∷ [];
-  from = λ (branch, (number, (rate, (period, (replacement, z))))). record { branch = branch; number = number; it = record { rate = rate; period = period; replacement = replacement } };
+  from = λ (branch, (number, (rate, (period, (replacement, z))))).
+      record { branch = branch; number = number; it = record { rate = rate; period = period; replacement = replacement } };
   told = λ v. refl;
   ones = λ v h. (h.0, h.1.0, record { rate = h.1.1.0; period = h.1.1.1.0; replacement = h.1.1.1.1.0 });
-  only = λ row h. ((row.branch, (row.number, (row.it.rate, (row.it.period, (row.it.replacement, tt))))), (h.0, (h.1, (h.2.rate, (h.2.period, (h.2.replacement, tt))))), refl);
+  only = λ row h. (
+    (row.branch, (row.number, (row.it.rate, (row.it.period, (row.it.replacement, tt))))),
+    (h.0, (h.1, (h.2.rate, (h.2.period, (h.2.replacement, tt))))),
+    refl,
+  );
 }
 
 abbrev pub payments : TableOf payment_columns (IsRow IsPayment)

@@ -1,6 +1,7 @@
 -- Defines commands as they are kept. The stored form of a command leaves out its key. It is a byte that names the act, and then the parts (our own). Each part
 -- shows where it ends. This module also says which values an act may have.
-use Rattle.std.specs.Prelude.{⊤, ◌≡◌, ◌↔◌, ◌≤◌, ◌<◌, IsTrue, ℕ, ◌/◌, ◌%◌, Bool, true, false, if◌then◌else◌, List, [], ◌∷◌, ◌++◌, map, length, flat_map, Option, None, IfSome, IsUtf8}
+use Rattle.std.specs.Prelude.{⊤, ◌≡◌, ◌↔◌, ◌≤◌, ◌<◌, IsTrue, ℕ, ◌/◌, ◌%◌, Bool, true, false, if◌then◌else◌, List, [], ◌∷◌, ◌++◌, map, length, flat_map, Option}
+use Rattle.std.specs.Prelude.{None, IfSome, IsUtf8}
 use Rattle.std.specs.List.{AllByRecursion}
 use Rattle.std.specs.Option.{option_to_list}
 use Rattle.sqlite.specs.declared.types.Value.TheVariants as value
@@ -8,7 +9,9 @@ use Rattle.sqlite_value.specs.Order as sql
 use Rattle.sql_rows.specs.Rows.{number_value}
 use Rattle.shop_model.specs.Calendar.{IsMoment, moment_text}
 use Rattle.shop_model.specs.Rows.{Owned}
-use Rattle.shop_model.specs.Values.{Text, Person, Film, Branch, Act, Command, OfficeAct, AddCountry, AddCity, AddLanguage, AddCategory, AddActor, AddFilm, PriceFilm, WithdrawFilm, AddCast, AddBranch, AddStaff, StaffLeaves, SetManager, Rule, ByCode, ByComment, ChooseRule, OfficeCommand}
+use Rattle.shop_model.specs.Values.{Text, Person, Film, Branch, Act, Command, OfficeAct, AddCountry, AddCity, AddLanguage, AddCategory, AddActor, AddFilm}
+use Rattle.shop_model.specs.Values.{PriceFilm, WithdrawFilm, AddCast, AddBranch, AddStaff, StaffLeaves, SetManager, Rule, ByCode, ByComment, ChooseRule}
+use Rattle.shop_model.specs.Values.{OfficeCommand}
 use Rattle.shop_model.specs.Values as model
 use Rattle.shop_model.specs.Shop.{Kept, OfficeKept}
 use Rattle.shop_model.specs.OfficeActs.{same_office}

@@ -1,5 +1,7 @@
--- Which rows the program can hold, and the columns of each table's rows: the ranges and forms of their values, as the shop's profile sets them, and those values
--- in SQL, as they come from the rows of the books. A moment is its text, so that the order of bytes is that of time; a truth value is 0 or 1; what may be missing
+-- Which rows the program can hold, and the columns of each table's rows: the ranges and forms of their values, as the shop's profile sets them, and those
+-- values
+-- in SQL, as they come from the rows of the books. A moment is its text, so that the order of bytes is that of time; a truth value is 0 or 1; what may be
+-- missing
 -- is NULL.
 use Rattle.std.specs.Prelude.{◌≡◌, ◌≤◌, ◌<◌, ◌^◌, ℕ, ◌||◌, List, [], ◌∷◌, ◌++◌, map, length, true, codes, IsUtf8, IfSome}
 use Rattle.std.specs.List.{AllByRecursion}
@@ -13,9 +15,11 @@ use Rattle.shop_types.specs.Numbers.{is_row_number}
 use Rattle.shop_types.specs.Texts.{is_text, is_key, is_token}
 use Rattle.shop_model.specs.Calendar.{Moment, IsMoment, moment_text}
 use Rattle.shop_model.specs.Rows.{Row, Owned, numbered, owned_by}
-use Rattle.shop_model.specs.Values.{Person, City, Actor, Film, Cast, Branch, Staff, Customer, CopyState, Here, Sent, Scrapped, Rental, Terms, Rule, ByCode, ByComment, Payment}
+use Rattle.shop_model.specs.Values.{Person, City, Actor, Film, Cast, Branch, Staff, Customer, CopyState, Here, Sent, Scrapped, Rental, Terms, Rule, ByCode}
+use Rattle.shop_model.specs.Values.{ByComment, Payment}
 use Rattle.shop_model.specs.Values as model
-use Rattle.shop_model.specs.Books.{Mark, BookCopy, LineState, UnderWay, Arrived, Missing, Line, Consignment, Table, Customers, CopyRows, Rentals, TermRows, Payments, RowOf, RowsOf, head}
+use Rattle.shop_model.specs.Books.{Mark, BookCopy, LineState, UnderWay, Arrived, Missing, Line, Consignment, Table, Customers, CopyRows, Rentals, TermRows}
+use Rattle.shop_model.specs.Books.{Payments, RowOf, RowsOf, head}
 use Rattle.shop_types.specs.Films.{features_text}
 use Rattle.shop_types.specs.declared.film.Features.{Features}
 use Rattle.shop_schema.specs.Counts.{Count, Out, Pair}
@@ -114,7 +118,8 @@ pub record IsFilm (it : Film) : Type 0 where
 abbrev pub film_columns : ℕ × Film → sql.Row
 film_columns it =
     number_value it.0 ∷ Text it.1.title ∷ Text it.1.description ∷ number_value it.1.language ∷ number_value it.1.category ∷ number_value it.1.period
-    ∷ number_value it.1.rate ∷ number_value it.1.replacement ∷ or_null number_value it.1.minutes ∷ Text it.1.rating ∷ Text it.1.features ∷ flag_value it.1.withdrawn ∷ []
+    ∷ number_value it.1.rate ∷ number_value it.1.replacement ∷ or_null number_value it.1.minutes
+    ∷ Text it.1.rating ∷ Text it.1.features ∷ flag_value it.1.withdrawn ∷ []
 
 abbrev pub IsCast : Cast → Type 0
 IsCast it = IsNumber it.film × IsNumber it.actor
@@ -154,7 +159,8 @@ abbrev pub IsCustomer : Customer → Type 0
 IsCustomer it = IsPerson it.person × IsMoment it.created
 
 abbrev pub customer_columns : Row Customer → sql.Row
-customer_columns row = number_value row.branch ∷ number_value row.number ∷ person_columns row.it.person ++ flag_value row.it.active ∷ moment_value row.it.created ∷ []
+customer_columns row =
+    number_value row.branch ∷ number_value row.number ∷ person_columns row.it.person ++ flag_value row.it.active ∷ moment_value row.it.created ∷ []
 
 abbrev pub IsMark : Mark → Type 0
 IsMark it = IsNumber it.branch × IsNumber it.copy
@@ -170,7 +176,8 @@ state_value Scrapped = number_value 2
 -- the last two columns are the mark: where the copy was imported, and its number there
 abbrev pub copy_columns : Row BookCopy → sql.Row
 copy_columns row =
-    number_value row.branch ∷ number_value row.number ∷ number_value row.it.film ∷ state_value row.it.state ∷ number_value row.it.mark.branch ∷ number_value row.it.mark.copy ∷ []
+    number_value row.branch ∷ number_value row.number ∷ number_value row.it.film
+    ∷ state_value row.it.state ∷ number_value row.it.mark.branch ∷ number_value row.it.mark.copy ∷ []
 
 pub record IsRental (it : Rental) : Type 0 where
   pub rented : IsMoment it.rented

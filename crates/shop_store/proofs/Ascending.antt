@@ -1,5 +1,6 @@
 -- Rows of a branch, in the order of their numbers and by their numbers.
-use Rattle.shop_schema.proofs.Common.{◌≡◌, ◌<◌, ◌==◌, ◌+◌, ◌-◌, ℕ, List, [], ◌∷◌, ◌++◌, length, false, ap, refl, ◌∙◌, arith, is_eq, is_lt, inl, inr, AllByRecursion, nat_cmp, cases_Bool, nat_tests, Row, at, is_of, of, differ_test, IsRow}
+use Rattle.shop_schema.proofs.Common.{◌≡◌, ◌<◌, ◌==◌, ◌+◌, ◌-◌, ℕ, List, [], ◌∷◌, ◌++◌, length, false, ap, refl, ◌∙◌, arith, is_eq, is_lt, inl, inr}
+use Rattle.shop_schema.proofs.Common.{AllByRecursion, nat_cmp, cases_Bool, nat_tests, Row, at, is_of, of, differ_test, IsRow}
 
 pub not_equal : (m n : ℕ) → m < n → is_eq (nat_cmp m n) ≡ false
 not_equal m n h = grind (arith, nat_tests)

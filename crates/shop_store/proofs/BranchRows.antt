@@ -1,5 +1,11 @@
 -- A table of the branches' rows, each with its branch and its number there: what a SELECT says of it, and what an UPDATE of one row makes of it.
-use Rattle.shop_schema.proofs.Common.{◌≡◌, ◌≤◌, ◌&&◌, ◌/◌, ℕ, zero, suc, List, [], ◌∷◌, map, filter, drop, length, Bool, true, cond, Ok, refl, sym, ap, subst, ◌∙◌, arith, IfSome, option_to_list, AllByRecursion, list_all, map-id, Value, Int, Null, column, ascending, Binary, rowid, Term, col, eval_all, holds, Query, output, cast, cast_all, cast_row, Insert, Update, Values, value_rows, values, State, ExecutesInside, sort_by, update_where, map-map, all-filter, all_map, Means, by, PicksOne, columns_from, columns_of, number_value, are_kept, id_of, length-map, number_test, two_tested, test_of, unmapped_kind, still_holds, writes_by, Selects, plain_query, selects_one, selects_sorted, sets_row, Row, is_of, is_row, of, at, set_row, AreNumbered, Books, row_at, IsHeld, IsRow, shop_schema, StandsFor, StandsWith, Holds, Reads, Writes, counts_of, cols}
+use Rattle.shop_schema.proofs.Common.{◌≡◌, ◌≤◌, ◌&&◌, ◌/◌, ℕ, zero, suc, List, [], ◌∷◌, map, filter, drop, length, Bool, true, cond, Ok, refl, sym, ap, subst}
+use Rattle.shop_schema.proofs.Common.{◌∙◌, arith, IfSome, option_to_list, AllByRecursion, list_all, map-id, Value, Int, Null, column, ascending, Binary, rowid}
+use Rattle.shop_schema.proofs.Common.{Term, col, eval_all, holds, Query, output, cast, cast_all, cast_row, Insert, Update, Values, value_rows, values, State}
+use Rattle.shop_schema.proofs.Common.{ExecutesInside, sort_by, update_where, map-map, all-filter, all_map, Means, by, PicksOne, columns_from, columns_of}
+use Rattle.shop_schema.proofs.Common.{number_value, are_kept, id_of, length-map, number_test, two_tested, test_of, unmapped_kind, still_holds, writes_by}
+use Rattle.shop_schema.proofs.Common.{Selects, plain_query, selects_one, selects_sorted, sets_row, Row, is_of, is_row, of, at, set_row, AreNumbered, Books}
+use Rattle.shop_schema.proofs.Common.{row_at, IsHeld, IsRow, shop_schema, StandsFor, StandsWith, Holds, Reads, Writes, counts_of, cols}
 use Rattle.std.specs.Prelude.{Option, Some, None, take, option_map}
 use Rattle.sqlite_value.specs.Order as sql
 use Rattle.sqlite_schema.specs.declared.schema.Kind.TheVariants as kind
@@ -77,21 +83,27 @@ module _ {A : Type 0} (t : BranchRows A) where
   module _ {R : Type 0} (seen : R → Row A) (text : List ℕ) where
     abbrev pub ReadsOne : Type 1
     ReadsOne = (old new : State) (b n : ℕ) (rows : List sql.Row) (o : Option R) → Shown text (number_value b ∷ number_value n ∷ []) old new rows
-        → map (λ x. columns (seen x)) (option_to_list o) ≡ take 1 rows → IfSome o (λ x. IsRow t.Fits (seen x)) → Reads old new (λ books. option_to_list (option_map (λ x. (seen x).it) o) ≡ at n (of b (items books)))
+        → map (λ x. columns (seen x)) (option_to_list o) ≡ take 1 rows → IfSome o (λ x. IsRow t.Fits (seen x))
+        → Reads old new (λ books. option_to_list (option_map (λ x. (seen x).it) o) ≡ at n (of b (items books)))
 
     -- `only` is `refl`
     pub reads_one : Selects shop_schema text one_query
-        → ((b n : ℕ) (r : sql.Row) → cond (list_all (holds ((number_value b ∷ number_value n ∷ []) ∷ r ∷ [])) of_two) (output one_query ((number_value b ∷ number_value n ∷ []) ∷ r ∷ []) ∷ []) []
+        → ((b n : ℕ) (r : sql.Row)
+        → cond (list_all (holds ((number_value b ∷ number_value n ∷ []) ∷ r ∷ [])) of_two)
+        (output one_query ((number_value b ∷ number_value n ∷ []) ∷ r ∷ []) ∷ []) []
         ≡ cond (has_key b n (columns_of wide r)) (([], columns_of wide r) ∷ []) []) → ReadsOne
     reads_one means only old new b n rows o h read kind = λ books holds held.
         let counted = t.counted books held b in
         let few : PicksOne (is_row b n) (items books) = picks_row b (items books) counted n in
         let found : rows ≡ map columns (filter (is_row b n) (items books)) =
-        selects_one shop_schema text tree wide of_two (cols 1 1 wide) [] means (number_value b ∷ number_value n ∷ []) old new rows holds.schema_is h columns (items books)
-        (stood t.rows (counts_of books) books old.now.trees (with_own old.now.trees books holds.stands)) (own_rows old.now.trees tree) (has_key b n) (is_row b n) (key_tested b n) (only b n) few in
+        selects_one shop_schema text tree wide of_two (cols 1 1 wide) [] means
+        (number_value b ∷ number_value n ∷ []) old new rows holds.schema_is h columns (items books)
+        (stood t.rows (counts_of books) books old.now.trees (with_own old.now.trees books holds.stands))
+        (own_rows old.now.trees tree) (has_key b n) (is_row b n) (key_tested b n) (only b n) few in
         let short : length rows ≤ 1 = subst (λ (k : ℕ). k ≤ 1) (sym (ap length found ∙ length-map columns (filter (is_row b n) (items books)))) few in
         let one : map seen (option_to_list o) ≡ filter (is_row b n) (items books) =
-        unmapped_kind columns (IsRow t.Fits) t.one _ _ (some_seen (IsRow t.Fits) seen o kind) (all-filter (IsRow t.Fits) (is_row b n) (items books) (t.valued books held))
+        unmapped_kind columns (IsRow t.Fits) t.one _ _ (some_seen (IsRow t.Fits) seen o kind)
+        (all-filter (IsRow t.Fits) (is_row b n) (items books) (t.valued books held))
         (map-map columns seen (option_to_list o) ∙ read ∙ take_few rows short ∙ found) in (
           still_holds shop_schema StandsFor text _ old new means.plain rows h books holds,
           option_list (λ (x : R). (seen x).it) o ∙ sym (map-map (λ (row : Row A). row.it) seen (option_to_list o)) ∙ ap (map (λ (row : Row A). row.it)) one
@@ -104,36 +116,53 @@ module _ {A : Type 0} (t : BranchRows A) where
     abbrev pub sorted_query : Query
     sorted_query = plain_query tree tests (cols 1 1 wide) ((col 1 2, ascending Binary) ∷ [])
 
-    module _ {R : Type 0} (seen : R → Row A) (text : List ℕ) (means : Selects shop_schema text sorted_query) (params : sql.Row) (test : sql.Row → Bool) (p : Row A → Bool) where
+    module _ {R : Type 0} (seen : R → Row A) (text : List ℕ) (means : Selects shop_schema text sorted_query)
+        (params : sql.Row) (test : sql.Row → Bool) (p : Row A → Bool) where
       pub reads_sorted : ((row : Row A) → test (columns row) ≡ p row)
-          → ((r : sql.Row) → cond (list_all (holds (params ∷ r ∷ [])) tests) (output sorted_query (params ∷ r ∷ []) ∷ []) [] ≡ cond (test (columns_of wide r)) ((column (columns_of wide r) 1 ∷ [], columns_of wide r) ∷ []) [])
+          → ((r : sql.Row)
+          → cond (list_all (holds (params ∷ r ∷ [])) tests) (output sorted_query (params ∷ r ∷ []) ∷ []) []
+          ≡ cond (test (columns_of wide r)) ((column (columns_of wide r) 1 ∷ [], columns_of wide r) ∷ []) [])
           → ((books : Books) → IsHeld books → Rise (filter p (items books)))
-          → (old new : State) (rows : List sql.Row) (all : List R) → Shown text params old new rows → map (λ x. columns (seen x)) all ≡ rows → AllByRecursion (λ x. IsRow t.Fits (seen x)) all
+          → (old new : State) (rows : List sql.Row) (all : List R) → Shown text params old new rows
+          → map (λ x. columns (seen x)) all ≡ rows → AllByRecursion (λ x. IsRow t.Fits (seen x)) all
           → (books : Books) → Holds old books → IsHeld books → Holds new books × (map seen all ≡ filter p (items books))
       reads_sorted tested only rises old new rows all h read kinds books holds held =
           let rise = rises books held in
-          let sorted : sort_by (by (λ (row : Row A). row.number)) (filter p (items books)) ≡ filter p (items books) = rise_sorted (λ (row : Row A). row.number) (filter p (items books)) rise in
+          let sorted : sort_by (by (λ (row : Row A). row.number)) (filter p (items books)) ≡ filter p (items books) =
+          rise_sorted (λ (row : Row A). row.number) (filter p (items books)) rise in
           let found : rows ≡ map columns (sort_by (by (λ (row : Row A). row.number)) (filter p (items books))) =
           selects_sorted shop_schema text tree wide tests (cols 1 1 wide) 1 means params old new rows holds.schema_is h columns (items books)
-          (stood t.rows (counts_of books) books old.now.trees (with_own old.now.trees books holds.stands)) (own_rows old.now.trees tree) test p tested only (λ row. row.number) (λ row. (t.begins row).1) (rise_differ (λ (row : Row A). row.number) (filter p (items books)) rise) in (
+          (stood t.rows (counts_of books) books old.now.trees (with_own old.now.trees books holds.stands)) (own_rows old.now.trees tree) test p tested only
+          (λ row. row.number) (λ row. (t.begins row).1) (rise_differ (λ (row : Row A). row.number) (filter p (items books)) rise) in (
             still_holds shop_schema StandsFor text params old new means.plain rows h books holds,
-            unmapped_kind columns (IsRow t.Fits) t.one _ _ (all_map (IsRow t.Fits) seen all kinds) (all-filter (IsRow t.Fits) p (items books) (t.valued books held))
+            unmapped_kind columns (IsRow t.Fits) t.one _ _ (all_map (IsRow t.Fits) seen all kinds)
+                (all-filter (IsRow t.Fits) p (items books) (t.valued books held))
                 (map-map columns seen all ∙ read ∙ found ∙ ap (map columns) sorted),
           )
 
   module _ {R : Type 0} (seen : R → Row A) (text : List ℕ) where
     -- the statement reads a branch's items that pass a test
     abbrev pub ReadsWhich : sql.Row → ℕ → (A → Bool) → Type 1
-    ReadsWhich params b which = (old new : State) (rows : List sql.Row) (all : List R) → Shown text params old new rows → map (λ x. columns (seen x)) all ≡ rows → AllByRecursion (λ x. IsRow t.Fits (seen x)) all
+    ReadsWhich params b which =
+        (old new : State) (rows : List sql.Row) (all : List R) → Shown text params old new rows
+        → map (λ x. columns (seen x)) all ≡ rows → AllByRecursion (λ x. IsRow t.Fits (seen x)) all
         → Reads old new (λ books. map (λ x. (seen x).it) all ≡ filter which (of b (items books)))
 
     -- `tested` says that the filter on a row's columns is the test; `only` is `refl`
-    pub reads_which : (tests : List Term) → Selects shop_schema text (sorted_query tests) → (params : sql.Row) (b : ℕ) (test : sql.Row → Bool) (which : A → Bool) → ((row : Row A) → test (columns row) ≡ of_which which b row)
-        → ((r : sql.Row) → cond (list_all (holds (params ∷ r ∷ [])) tests) (output (sorted_query tests) (params ∷ r ∷ []) ∷ []) [] ≡ cond (test (columns_of wide r)) ((column (columns_of wide r) 1 ∷ [], columns_of wide r) ∷ []) [])
+    pub reads_which : (tests : List Term) → Selects shop_schema text (sorted_query tests)
+        → (params : sql.Row) (b : ℕ) (test : sql.Row → Bool) (which : A → Bool) → ((row : Row A) → test (columns row) ≡ of_which which b row)
+        → ((r : sql.Row)
+        → cond (list_all (holds (params ∷ r ∷ [])) tests) (output (sorted_query tests) (params ∷ r ∷ []) ∷ []) []
+        ≡ cond (test (columns_of wide r)) ((column (columns_of wide r) 1 ∷ [], columns_of wide r) ∷ []) [])
         → ReadsWhich params b which
     reads_which tests means params b test which tested only old new rows all h read kinds = λ books holds held.
-        let found = reads_sorted tests seen text means params test (of_which which b) tested only (λ books held. which_rise which b (items books) (t.counted books held b)) old new rows all h read kinds books holds held in
-        (found.0, sym (map-map (λ (row : Row A). row.it) seen all) ∙ ap (map (λ (row : Row A). row.it)) found.1 ∙ which_are which b (items books) (t.counted books held b))
+        let found =
+        reads_sorted tests seen text means params test (of_which which b) tested only
+        (λ books held. which_rise which b (items books) (t.counted books held b)) old new rows all h read kinds books holds held in (
+          found.0,
+          sym (map-map (λ (row : Row A). row.it) seen all) ∙ ap (map (λ (row : Row A). row.it)) found.1
+              ∙ which_are which b (items books) (t.counted books held b),
+        )
 
   -- ---- an INSERT of a row
 
@@ -143,7 +172,8 @@ module _ {A : Type 0} (t : BranchRows A) where
   -- the premises are `refl` if the text is known
   pub puts_row : (text : List ℕ) → Means shop_schema text (Insert t.rows.place (Values (values wide) (suc wide)))
       → ((x : Row A) → value_rows (columns x) (suc wide) (length (values wide) / suc wide) (values wide) ≡ eval_all (values wide) (columns x ∷ []) ∷ [])
-      → ((x : Row A) → eval_all (values wide) (columns x ∷ []) ≡ Null ∷ columns x) → ((x : Row A) (id : Value) → columns_of wide (id ∷ columns x) ≡ columns x) → PutsRow text
+      → ((x : Row A) → eval_all (values wide) (columns x ∷ []) ≡ Null ∷ columns x)
+      → ((x : Row A) (id : Value) → columns_of wide (id ∷ columns x) ≡ columns x) → PutsRow text
   puts_row text means one is whole = puts_last t.rows text means one is t.kept whole
 
   -- ---- an UPDATE of some columns of one row
@@ -167,21 +197,29 @@ module _ {A : Type 0} (t : BranchRows A) where
     IsOne books = PicksOne (is_row b n) (items books)
 
     abbrev pub SetsWhere : (Books → Type 0) → Type 1
-    SetsWhere Given = (old new : State) (count : ℕ) → ExecutesInside 0 text set_params old new (Ok count) → Writes old new Given (λ books. t.rows.part.filled (set_row b n f (items books)) books)
+    SetsWhere Given =
+        (old new : State) (count : ℕ) → ExecutesInside 0 text set_params old new (Ok count)
+        → Writes old new Given (λ books. t.rows.part.filled (set_row b n f (items books)) books)
 
-    module _ (means : Means shop_schema text (Update t.rows.place (record { lets = []; body = plain_query tree of_two makes [] }))) (sets_are : (row : Row A) → set_columns (columns row) ≡ columns (set_item row))
+    module _ (means : Means shop_schema text (Update t.rows.place (record { lets = []; body = plain_query tree of_two makes [] })))
+        (sets_are : (row : Row A) → set_columns (columns row) ≡ columns (set_item row))
         (sees : (r : sql.Row) → list_all (holds (set_params ∷ r ∷ [])) of_two ≡ has_key b n (columns_of wide r))
         (shown : (r : sql.Row) → drop 1 (eval_all makes (set_params ∷ r ∷ [])) ≡ rowid r ∷ set_columns (columns_of wide r))
-        (ids : (r : sql.Row) → id_of (eval_all makes (set_params ∷ r ∷ [])) ≡ id_of r) (whole : (r : sql.Row) → columns_of wide (Int (id_of r) ∷ set_columns (columns_of wide r)) ≡ set_columns (columns_of wide r))
+        (ids : (r : sql.Row) → id_of (eval_all makes (set_params ∷ r ∷ [])) ≡ id_of r)
+        (whole : (r : sql.Row) → columns_of wide (Int (id_of r) ∷ set_columns (columns_of wide r)) ≡ set_columns (columns_of wide r))
         (casts : (w : Value) (row : sql.Row) → cast_row t.rows.table (w ∷ row) ≡ cast kind.Integer w ∷ cast_all t.rows.table.columns row) where
       pub sets_one : SetsWhere IsOne
       sets_one old new count h counts =
           let change : Books → Books = λ them. t.rows.part.filled (update_where (is_row b n) set_item (items them)) them in
-          let kept : (row : Row A) → are_kept t.rows.table.columns (set_columns (columns row)) ≡ true = λ row. ap (are_kept t.rows.table.columns) (sets_are row) ∙ t.kept (set_item row) in
+          let kept : (row : Row A) → are_kept t.rows.table.columns (set_columns (columns row)) ≡ true =
+          λ row. ap (are_kept t.rows.table.columns) (sets_are row) ∙ t.kept (set_item row) in
           writes_by shop_schema (StandsWith counts) old new IsOne change (λ has.
-          sets_row shop_schema (StandsWith counts) text t.rows.place t.rows.table wide of_two makes set_params columns (has_key b n) (is_row b n) set_columns set_item (key_tested b n) sets_are kept old new has
+          sets_row shop_schema (StandsWith counts) text t.rows.place t.rows.table wide of_two makes set_params columns
+          (has_key b n) (is_row b n) set_columns set_item (key_tested b n) sets_are kept old new has
           means t.rows.plain.place refl count h (own_rows old.now.trees t.rows.table.tree) sees shown ids whole casts IsOne change
-          (λ them same s few sets. changed t.rows counts them (update_where (is_row b n) set_item (items them)) old.now.trees new.now.trees same s (sets (items them) (stood t.rows counts them old.now.trees s) few)))
+          (λ them same s few sets.
+          changed t.rows counts them (update_where (is_row b n) set_item (items them)) old.now.trees new.now.trees same s
+          (sets (items them) (stood t.rows counts them old.now.trees s) few)))
 
       pub sets_held : SetsWhere IsHeld
       sets_held old new count h counts books holds held = sets_one old new count h counts books holds (picks_row b (items books) (t.counted books held b) n)

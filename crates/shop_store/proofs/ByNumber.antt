@@ -1,5 +1,6 @@
 -- A table of shared rows, each with its number, which is its place in a list of the books.
-use Rattle.shop_schema.proofs.Common.{◌≡◌, ℕ, List, map, length, refl, column, Trees, Table, HasRows, SameBut, number_value, IsPlainTable, numbered, City, Actor, Film, Branch, Staff, Books, shop_schema, branch_table, branch_columns, Counts, StandsWith}
+use Rattle.shop_schema.proofs.Common.{◌≡◌, ℕ, List, map, length, refl, column, Trees, Table, HasRows, SameBut, number_value, IsPlainTable, numbered, City}
+use Rattle.shop_schema.proofs.Common.{Actor, Film, Branch, Staff, Books, shop_schema, branch_table, branch_columns, Counts, StandsWith}
 use Rattle.sqlite_value.specs.Order as sql
 use Rattle.shop_model.specs.Values as model
 use Rattle.shop_schema.proofs.Stands.{stands_but}
@@ -15,7 +16,8 @@ pub record ByNumber (A : Type 0) : Type 0 where
   pub columns : Books → ℕ × A → sql.Row
   pub plain : IsPlainTable shop_schema place table
   pub numbers : (books : Books) (it : ℕ × A) → column (columns books it) 0 ≡ number_value it.0
-  pub stood : (counts : Counts) (books : Books) (trees : Trees) → StandsWith counts trees books → HasRows (length table.columns) (trees table.tree) (map (columns books) (numbered (part.items books)))
+  pub stood : (counts : Counts) (books : Books) (trees : Trees) → StandsWith counts trees books
+      → HasRows (length table.columns) (trees table.tree) (map (columns books) (numbered (part.items books)))
   pub changed : (counts : Counts) (books : Books) (xs : List A) (old new : Trees) → SameBut shop_schema table.tree old new → StandsWith counts old books
       → HasRows (length table.columns) (new table.tree) (map (columns books) (numbered xs)) → StandsWith counts new (part.filled xs books)
 
@@ -62,5 +64,7 @@ branches = record {
   plain = record { place = refl; uncounted = refl; unstamped = refl };
   numbers = λ books it. refl;
   stood = λ counts books trees s. s.branches;
-  changed = λ counts books xs old new same s has. stands_but 8 branch_table refl refl counts counts books (shared.branches.filled xs books) (map (branch_columns books.lasts) (numbered xs)) refl old new same s has;
+  changed = λ counts books xs old new same s has.
+      stands_but 8 branch_table refl refl counts counts books (shared.branches.filled xs books)
+      (map (branch_columns books.lasts) (numbered xs)) refl old new same s has;
 }

@@ -22,7 +22,11 @@ seen_row row = record { branch = row.branch; number = row.number; it = seen_cust
 
 -- a copy of a branch, with the number
 abbrev pub seen_copy_row : CopyRow → Row BookCopy
-seen_copy_row row = record { branch = row.branch; number = row.number; it = record { film = row.film; state = seen_state row.state; mark = seen_mark row.mark } }
+seen_copy_row row = record {
+  branch = row.branch;
+  number = row.number;
+  it = record { film = row.film; state = seen_state row.state; mark = seen_mark row.mark };
+}
 
 -- the current state of a copy, as it is in its branch's shop
 abbrev pub seen_copy_now : CopyNow → Copy

@@ -8,7 +8,8 @@ use Rattle.shop_model.specs.Shop.{Catalogue}
 use Rattle.shop_model.specs.Books.{Caller, Counter, Nobody}
 use Rattle.shop_types.specs.Seen.{seen_film}
 use Rattle.shop_store.specs.declared.films.FilmRow.{FilmRow}
-use Rattle.shop_store.specs.declared.lasts.TheConstants.{SELECT_LAST_COUNTRY, SELECT_LAST_LANGUAGE, SELECT_LAST_CATEGORY, SELECT_LAST_CITY, SELECT_LAST_ACTOR, SELECT_LAST_FILM, SELECT_LAST_BRANCH, SELECT_LAST_STAFF}
+use Rattle.shop_store.specs.declared.lasts.TheConstants.{SELECT_LAST_COUNTRY, SELECT_LAST_LANGUAGE, SELECT_LAST_CATEGORY, SELECT_LAST_CITY, SELECT_LAST_ACTOR}
+use Rattle.shop_store.specs.declared.lasts.TheConstants.{SELECT_LAST_FILM, SELECT_LAST_BRANCH, SELECT_LAST_STAFF}
 use Rattle.shop_store.specs.declared.lasts.SharedTable.{SharedTable}
 use Rattle.shop_store.specs.declared.lasts.SharedTable.TheVariants as table
 

@@ -38,4 +38,5 @@ number_of_count (negsuc x) n count e f = absurd (omega arith)
 pub days_from_civil-day_of : (m : Moment) → IsMoment m → days_from_civil (pos m.year) m.month m.day ≡ pos (day_of m)
 unfolding day_of
 days_from_civil-day_of m h =
-    number_of_count _ (day_number m.year m.month m.day) _ (days_from_civil-day_count (pos m.year) m.month m.day) (day_number_is m.year m.month m.day h.year_low h.day_low)
+    number_of_count _ (day_number m.year m.month m.day) _ (days_from_civil-day_count (pos m.year) m.month m.day)
+    (day_number_is m.year m.month m.day h.year_low h.day_low)

@@ -1,5 +1,6 @@
 -- What the proofs on the texts of moments cite.
-use Rattle.shop_model.proofs.Common.{◌≡◌, refl, sym, subst, arith, ℕ, List, slice_index, pos, ◌+◌, ◌*◌, ◌/◌, ◌%◌, ◌≤◌, IsUtf8-from_ascii, IsAscii-cons, IsAscii-nil, AllByRecursion, IsAscii, IsUtf8, Moment, IsMoment, digit, moment_text}
+use Rattle.shop_model.proofs.Common.{◌≡◌, refl, sym, subst, arith, ℕ, List, slice_index, pos, ◌+◌, ◌*◌, ◌/◌, ◌%◌, ◌≤◌, IsUtf8-from_ascii, IsAscii-cons}
+use Rattle.shop_model.proofs.Common.{IsAscii-nil, AllByRecursion, IsAscii, IsUtf8, Moment, IsMoment, digit, moment_text}
 use Rattle.jiff_core.proofs.CalendarLemmas.{days_in_month_bounds}
 use Rattle.std.specs.Prelude.{◌<◌, [], ◌∷◌}
 use Rattle.shop_types.specs.Moments.{IsDigits}
@@ -37,7 +38,15 @@ parts_read m t a b mo d ho mi s h e ra rb rmo rd rho rmi rs =
     let ea = ra _ w.0 in
     let eb = rb _ w.1 in
     let y : m.year ≡ a * 100 + b = omega (arith, ea, eb) in
-    λ i. record { year = y i; month = sym (rmo _ w.2) i; day = sym (rd _ w.3) i; hour = sym (rho _ w.4) i; minute = sym (rmi _ w.5) i; second = sym (rs _ w.6) i }
+    λ i.
+    record {
+      year = y i;
+      month = sym (rmo _ w.2) i;
+      day = sym (rd _ w.3) i;
+      hour = sym (rho _ w.4) i;
+      minute = sym (rmi _ w.5) i;
+      second = sym (rs _ w.6) i;
+    }
 
 ascii_each : (bytes : List ℕ) → AllByRecursion (λ b. b < 128) bytes → IsAscii bytes
 ascii_each [] h = IsAscii-nil

@@ -12,10 +12,6 @@ is_row_number n = nat_le 1 n && nat_lt n (2 ^ 32)
 abbrev pub is_ten_digits : List ℕ → Bool
 is_ten_digits bytes = nat_le 1 (length bytes) && nat_le (length bytes) 10 && list_all is_ascii_digit bytes
 
--- the number that 1 to 10 digits write
-abbrev pub ten_digits_value : List ℕ → Option ℕ
-ten_digits_value bytes = if is_ten_digits bytes then Some (digits_value 10 bytes) else None
-
 -- digits with no leading zero, and so none that write 0
 abbrev pub is_plain_number : List ℕ → Bool
 is_plain_number bytes = is_ten_digits bytes && not (slice_index bytes 0 == 48)

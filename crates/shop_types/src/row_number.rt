@@ -1,6 +1,7 @@
 ghost use Rattle.std.specs.Prelude.{◌≡◌, ℕ, ◌≤◌, ◌<◌, ◌^◌, ◌==◌, Some, None, if◌then◌else◌};
-ghost use Rattle.shop_types.specs.Numbers.{row_number_of, ten_digits_value};
+ghost use Rattle.shop_types.specs.Numbers.{row_number_of};
 
+use crate::digits::decimal;
 use std::marker::Model;
 
 /// The number of a row, from 1 to 4,294,967,295. KIND names the table, so that the numbers of two tables don't mix.
@@ -47,23 +48,6 @@ impl<const KIND: u8> Model for RowNumber<KIND> {
     ghost inverse = { λ n. record { 0 = n } };
 }
 
-/// Returns the number that 1 to 10 digits write.
-fn ten_digits(bytes: &[u8]) -> Option<u64>
-    ensures { result ≡ ten_digits_value bytes.now }
-{
-    if bytes.is_empty() || bytes.len() > 10 {
-        return None;
-    }
-    let mut number = 0u64;
-    for b in bytes {
-        if !b.is_ascii_digit() {
-            return None;
-        }
-        number = number * 10 + u64::from(*b - b'0');
-    }
-    Some(number)
-}
-
 impl<const KIND: u8> RowNumber<KIND> {
     /// Returns the number, or none if it is 0.
     pub fn new(number: u32) -> Option<RowNumber<KIND>>
@@ -87,7 +71,10 @@ impl<const KIND: u8> RowNumber<KIND> {
     pub fn read(digits: &[u8]) -> Option<RowNumber<KIND>>
         ensures { result ≡ row_number_of digits.now }
     {
-        let number = ten_digits(digits)?;
+        if digits.len() > 10 {
+            return None;
+        }
+        let number = decimal(digits)?;
         if digits[0] == b'0' || number > 4_294_967_295 {
             return None;
         }

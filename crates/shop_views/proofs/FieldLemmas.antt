@@ -10,7 +10,8 @@ use Rattle.shop_views.specs.Fields.{with_field, with_fields, fields_value}
 use Rattle.shop_views.specs.Bodies.{numbers_value}
 use Rattle.shop_views.proofs.TextLemmas.{numbers_no_float}
 
-put_at : (o : Ordering) (k l : model.Text) (d e : Data) (ms put_ms : Members) → has_float d ≡ false → has_float e ≡ false → members_have_float ms ≡ false → members_have_float put_ms ≡ false
+put_at : (o : Ordering) (k l : model.Text) (d e : Data) (ms put_ms : Members) → has_float d ≡ false
+    → has_float e ≡ false → members_have_float ms ≡ false → members_have_float put_ms ≡ false
     → members_have_float (match_ordering o (member k d (member l e ms)) (member l d ms) (member l e put_ms)) ≡ false
 put_at Less k l d e ms put_ms hd he hms hput = rw (hd, he, hms) refl
 put_at Equal k l d e ms put_ms hd he hms hput = rw (hd, hms) refl

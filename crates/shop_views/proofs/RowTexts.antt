@@ -1,5 +1,6 @@
 -- The texts of rows, and that none has a float.
-use Rattle.shop_types.proofs.Common.{◌≡◌, ◌∙◌, ◌||◌, ap, ℕ, Bool, false, List, [], ◌∷◌, map, codes, decimal, Result, IfOk, IfOk-weaker, array, object, numbers_text, flag_text, Text}
+use Rattle.shop_types.proofs.Common.{◌≡◌, ◌∙◌, ◌||◌, ap, ℕ, Bool, false, List, [], ◌∷◌, map, codes, decimal, Result, IfOk, IfOk-weaker, array, object}
+use Rattle.shop_types.proofs.Common.{numbers_text, flag_text, Text}
 use Rattle.serde_json.specs.declared.value.Value.{Value}
 use Rattle.serde_json.specs.Data.{Data, number, unsigned}
 use Rattle.serde_json.specs.View.{view, items_of}
@@ -20,7 +21,8 @@ pub row_written : {A E : Type 0} (json : A → Data) (text : A → Text) (it : A
 row_written json text it told none made = IfOk-weaker made _ _ (λ v is. is_written (json it) (text it) (view v) is told none)
 
 -- the films of a consignment as a list of numbers, before the other members
-films_first : (ns : List ℕ) (more : List (Text × Text)) → object ((codes "films", array (item_texts (items_of (map (λ n. number (unsigned n)) ns)))) ∷ more) ≡ object ((codes "films", numbers_text ns) ∷ more)
+films_first : (ns : List ℕ) (more : List (Text × Text))
+    → object ((codes "films", array (item_texts (items_of (map (λ n. number (unsigned n)) ns)))) ∷ more) ≡ object ((codes "films", numbers_text ns) ∷ more)
 films_first ns more = ap (λ (ts : List Text). object ((codes "films", array ts) ∷ more)) (numbers_texts ns)
 
 pub arrival_is : (it : Listed) → json_text (arrival_data it) ≡ arrival_text it

@@ -1,5 +1,6 @@
 -- The text that serde_json writes is the JSON text that the definitions of the shop give.
-use Rattle.shop_types.proofs.Common.{◌≡◌, ◌∙◌, refl, ap, ℕ, true, false, Bool, List, [], ◌∷◌, ◌++◌, map, decimal, Result, IfOk, String, Global, IfOk-weaker, Text}
+use Rattle.shop_types.proofs.Common.{◌≡◌, ◌∙◌, refl, ap, ℕ, true, false, Bool, List, [], ◌∷◌, ◌++◌, map, decimal, Result, IfOk, String, Global, IfOk-weaker}
+use Rattle.shop_types.proofs.Common.{Text}
 use Rattle.std.specs.Prelude.{string_bytes}
 use Rattle.json.specs.Print as print
 use Rattle.serde_json.specs.Data.{Data, null, boolean, number, unsigned, string, array, object, Items, no_items, item, Members, no_members, member}

@@ -3,7 +3,8 @@ use Rattle.std.specs.Prelude.{ℕ, ℤ, List, [], ◌∷◌, codes, decimal, len
 use Rattle.serde_json.specs.Data.{Data, number, unsigned, array, object, member, no_members, put}
 use Rattle.serde_json.specs.Find.{of_integer}
 use Rattle.serde_json.specs.View.{items_of}
-use Rattle.shop_model.specs.Values.{Text, OfficeAct, AddCountry, AddCity, AddLanguage, AddCategory, AddActor, AddFilm, PriceFilm, WithdrawFilm, AddCast, AddBranch, AddStaff, StaffLeaves, SetManager, ChooseRule}
+use Rattle.shop_model.specs.Values.{Text, OfficeAct, AddCountry, AddCity, AddLanguage, AddCategory, AddActor, AddFilm, PriceFilm, WithdrawFilm, AddCast}
+use Rattle.shop_model.specs.Values.{AddBranch, AddStaff, StaffLeaves, SetManager, ChooseRule}
 use Rattle.shop_model.specs.Json.{quoted}
 use Rattle.shop_model.specs.OfficeActs.{rule_name}
 

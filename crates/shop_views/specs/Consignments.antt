@@ -40,7 +40,8 @@ transit_data it = object
 
 abbrev pub arrival_text : Listed → Text
 arrival_text it = json.object
-    ((codes "films", numbers_text it.films) ∷ (codes "from", decimal it.source) ∷ (codes "number", decimal it.number) ∷ (codes "received", flag_text it.received) ∷ [])
+    ((codes "films", numbers_text it.films) ∷ (codes "from", decimal it.source)
+    ∷ (codes "number", decimal it.number) ∷ (codes "received", flag_text it.received) ∷ [])
 
 abbrev pub sent_text : Listed → Text
 sent_text it = json.object ((codes "films", numbers_text it.films) ∷ (codes "number", decimal it.number) ∷ (codes "to", decimal it.addressee) ∷ [])

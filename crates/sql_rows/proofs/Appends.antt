@@ -1,5 +1,7 @@
 -- Rowids that rise, and values that a column takes as they are.
-use Rattle.sql_rows.proofs.Common.{◌≡◌, ℤ, ◌<ℤ◌, List, [], ◌∷◌, true, false, Bool, cond, ◌&&◌, refl, sym, subst, ◌∙◌, IsTrue, Less, AllByRecursion, and_parts, Value, Null, Int, Real, Text, Blob, Row, value_cmp, value_cmp-Int, rowid, IsShaped, is_int, id_in, cast, cast_all, IsKeyedBy, lt_from_Less}
+use Rattle.sql_rows.proofs.Common.{◌≡◌, ℤ, ◌<ℤ◌, List, [], ◌∷◌, true, false, Bool, cond, ◌&&◌, refl, sym, subst, ◌∙◌, IsTrue, Less, AllByRecursion, and_parts}
+use Rattle.sql_rows.proofs.Common.{Value, Null, Int, Real, Text, Blob, Row, value_cmp, value_cmp-Int, rowid, IsShaped, is_int, id_in, cast, cast_all, IsKeyedBy}
+use Rattle.sql_rows.proofs.Common.{lt_from_Less}
 use Rattle.sqlite_trees.specs.declared.store.Shape.TheVariants.{Table as TableShape}
 use Rattle.sqlite_schema.specs.declared.schema.Kind.{Kind}
 use Rattle.sqlite_schema.specs.declared.schema.Kind.TheVariants as kind
@@ -18,11 +20,16 @@ abbrev pub id_of : Row → ℤ
 id_of r = id_in (rowid r)
 
 below_id : (a b : Row) → IsTrue (is_int (rowid a)) → IsTrue (is_int (rowid b)) → value_cmp (rowid a) (rowid b) ≡ Less → id_of a <ℤ id_of b
-below_id a b p q h = lt_from_Less _ _ (sym (value_cmp-Int (id_of a) (id_of b)) ∙ subst (λ v. value_cmp v (Int (id_of b)) ≡ Less) (int_is _ p) (subst (λ v. value_cmp (rowid a) v ≡ Less) (int_is _ q) h))
+below_id a b p q h =
+    lt_from_Less _ _
+    (sym (value_cmp-Int (id_of a) (id_of b))
+    ∙ subst (λ v. value_cmp v (Int (id_of b)) ≡ Less) (int_is _ p) (subst (λ v. value_cmp (rowid a) v ≡ Less) (int_is _ q) h))
 
-ids_above : (x : Row) (rows : List Row) → IsTrue (is_int (rowid x)) → AllByRecursion (λ r. IsTrue (is_int (rowid r))) rows → AllByRecursion (λ r. value_cmp (rowid x) (rowid r) ≡ Less) rows
+ids_above : (x : Row) (rows : List Row) → IsTrue (is_int (rowid x)) → AllByRecursion (λ r. IsTrue (is_int (rowid r))) rows
+    → AllByRecursion (λ r. value_cmp (rowid x) (rowid r) ≡ Less) rows
     → AllByRecursion (λ r. id_of x <ℤ id_of r) rows
-ids_above x rows p = all_both (λ (r : Row). IsTrue (is_int (rowid r))) (λ r. value_cmp (rowid x) (rowid r) ≡ Less) (λ r. id_of x <ℤ id_of r) (λ r q. below_id x r p q) rows
+ids_above x rows p =
+    all_both (λ (r : Row). IsTrue (is_int (rowid r))) (λ r. value_cmp (rowid x) (rowid r) ≡ Less) (λ r. id_of x <ℤ id_of r) (λ r q. below_id x r p q) rows
 
 pub ids_rise : (rows : List Row) → IsShaped TableShape rows → IsKeyedBy id_of rows
 ids_rise [] h = tt
@@ -75,4 +82,5 @@ cast_kept kind.Any v h = refl
 pub cast_all_kept : (cs : List Column) (vs : Row) → are_kept cs vs ≡ true → cast_all cs vs ≡ vs
 cast_all_kept [] vs h = refl
 cast_all_kept (c ∷ cs) [] h = refl
-cast_all_kept (c ∷ cs) (v ∷ vs) h = let parts = and_parts (is_kept c.kind v) (are_kept cs vs) h in (λ i. cast_kept c.kind v parts.0 i ∷ cast_all_kept cs vs parts.1 i)
+cast_all_kept (c ∷ cs) (v ∷ vs) h =
+    let parts = and_parts (is_kept c.kind v) (are_kept cs vs) h in (λ i. cast_kept c.kind v parts.0 i ∷ cast_all_kept cs vs parts.1 i)

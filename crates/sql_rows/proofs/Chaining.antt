@@ -1,6 +1,7 @@
 -- Calls inside a transaction, one after another.
 use Rattle.std.specs.Prelude.{IsErr}
-use Rattle.sql_rows.proofs.Common.{Ok, Err, Result, MutBor, ⊤, IfOk, IfOk-weaker, refl, false≢true, Ghosts, Held, state, State, HasCleanDisk, StaysInside, StaysWithin, DoesInside, DoesWithin}
+use Rattle.sql_rows.proofs.Common.{Ok, Err, Result, MutBor, ⊤, IfOk, IfOk-weaker, refl, false≢true, Ghosts, Held, state, State, HasCleanDisk, StaysInside}
+use Rattle.sql_rows.proofs.Common.{StaysWithin, DoesInside, DoesWithin}
 use Rattle.sql_rows.proofs.Stays.{clean_within, inside_as, inside_err, inside_then, within_as, within_of, within_then}
 
 -- the calls succeeded and stay in the transaction; if the disk was honest, `Said` holds
@@ -24,7 +25,11 @@ module _ {S : Type 0} {g : Ghosts S} {a b : MutBor (Held S)} where
 
   -- calls, and then more from where they left the state
   abbrev pub and_then : {c : MutBor (Held S)} → Calls g a b → Calls g b c → Calls g a c
-  and_then one two = record { Said = one.Said × two.Said; inside = within_then one.inside two.inside; said = λ clean. (one.said (clean_within two.inside clean), two.said clean) }
+  and_then one two = record {
+    Said = one.Said × two.Said;
+    inside = within_then one.inside two.inside;
+    said = λ clean. (one.said (clean_within two.inside clean), two.said clean);
+  }
 
   -- all were well, and so is the result
   pub done : {Y F : Type 0} {y : Y} {Q : Y → State → State → Type 0} (calls : Calls g a b) → (calls.Said → Q y (state g a.now) (state g b.now))
@@ -65,7 +70,8 @@ module _ {S : Type 0} {g : Ghosts S} {a b : MutBor (Held S)} where
   }
 
   -- calls, and then one with two clauses
-  pub and_last : {c : MutBor (Held S)} {Y F : Type 0} {r : Result Y F} {P : Y → Type 0} {Q : Y → State → State → Type 0} (calls : Calls g a b) → StaysInside g b c r
+  pub and_last : {c : MutBor (Held S)} {Y F : Type 0} {r : Result Y F} {P : Y → Type 0} {Q : Y → State → State → Type 0} (calls : Calls g a b)
+      → StaysInside g b c r
       → (HasCleanDisk (state g c.now) → IfOk r P) → (calls.Said → (y : Y) → P y → Q y (state g a.now) (state g c.now)) → DoesWithin g a c r Q
   and_last {P = P} calls stays says more = and_more {P = λ y _ _. P y} calls (record { inside = within_of stays; says = says }) more
 
@@ -85,10 +91,14 @@ module _ {S X E : Type 0} {g : Ghosts S} {a b : MutBor (Held S)} {x : X} {P : X 
   then_does {R = R} two = first_last {R = R} (record { inside = within_of two.inside; says = two.says }) (λ said y also. (said, also))
 
   -- and so is the result
-  pub done_inside : {Y F : Type 0} {y : Y} {Q : Y → State → State → Type 0} → (P x (state g a.now) (state g b.now) → Q y (state g a.now) (state g b.now)) → DoesInside {E = F} g a b (Ok y) Q
+  pub done_inside : {Y F : Type 0} {y : Y} {Q : Y → State → State → Type 0}
+      → (P x (state g a.now) (state g b.now) → Q y (state g a.now) (state g b.now)) → DoesInside {E = F} g a b (Ok y) Q
   done_inside more = record { inside = inside_as one.inside; says = λ clean. more (one.says clean) }
 
   -- then others, and so is the result
   pub first_done : {c : MutBor (Held S)} {Y F : Type 0} {y : Y} {Q : Y → State → State → Type 0} (calls : Calls g b c)
       → (P x (state g a.now) (state g b.now) → calls.Said → Q y (state g a.now) (state g c.now)) → DoesInside {X = Y} {E = F} g a c (Ok y) Q
-  first_done calls more = record { inside = inside_then one.inside (within_as calls.inside); says = λ clean. more (one.says (clean_within calls.inside clean)) (calls.said clean) }
+  first_done calls more = record {
+    inside = inside_then one.inside (within_as calls.inside);
+    says = λ clean. more (one.says (clean_within calls.inside clean)) (calls.said clean);
+  }

@@ -1,5 +1,6 @@
 -- Tests of columns by a number, a text or a range of texts, and columns that may be NULL.
-use Rattle.sql_rows.proofs.Common.{◌≡◌, ◌==◌, ◌&&◌, ℕ, pos, Bool, true, false, Option, Some, None, List, refl, sym, ap, is_eq, is_lt, ◌∙◌, nat_cmp, is_ge, Value, Int, Text, Null, or_null, Row, column, Binary, value_cmp-Text, Compare, Eq, Lt, Ge, is_true, number_value, flag_value}
+use Rattle.sql_rows.proofs.Common.{◌≡◌, ◌==◌, ◌&&◌, ℕ, pos, Bool, true, false, Option, Some, None, List, refl, sym, ap, is_eq, is_lt, ◌∙◌, nat_cmp, is_ge}
+use Rattle.sql_rows.proofs.Common.{Value, Int, Text, Null, or_null, Row, column, Binary, value_cmp-Text, Compare, Eq, Lt, Ge, is_true, number_value, flag_value}
 use Rattle.std.specs.Str.{bytes_eq}
 use Rattle.std.specs.Cmp.Lexicographic.{slice_cmp}
 use Rattle.std.proofs.lemmas.Map.Text.{is_eq-slice_cmp}
@@ -67,7 +68,8 @@ same_flag false false h = refl
 same_flag true false h = cc
 same_flag false true h = cc
 
-pub same_or_null : {X : Type 0} (f : X → Value) → ((x : X) → f x ≡ Null → ⊥) → ((x y : X) → f x ≡ f y → x ≡ y) → (a b : Option X) → or_null f a ≡ or_null f b → a ≡ b
+pub same_or_null : {X : Type 0} (f : X → Value) → ((x : X) → f x ≡ Null → ⊥)
+    → ((x y : X) → f x ≡ f y → x ≡ y) → (a b : Option X) → or_null f a ≡ or_null f b → a ≡ b
 same_or_null f some one None None h = refl
 same_or_null f some one None (Some y) h = absurd (some y (sym h))
 same_or_null f some one (Some x) None h = absurd (some x h)

@@ -1,5 +1,7 @@
 -- Whether a table's rows are these, in any order, can be decided, so it is known where it is known only in some case.
-use Rattle.sql_rows.proofs.Common.{◌≡◌, ◌⊎◌, ◌∙◌, ◌+◌, ℕ, List, [], ◌∷◌, refl, sym, ap, subst, inl, inr, arith, IsPermutation, sum_by, ∥∥₁_elim, ∥∥₁_map, cases_eq, IsPermutation-refl, IsPermutation-sym, IsPermutation-trans, IsPermutation-cons, IsPermutation-middle, sum_by-IsPermutation, length_permutation, Row}
+use Rattle.sql_rows.proofs.Common.{◌≡◌, ◌⊎◌, ◌∙◌, ◌+◌, ℕ, List, [], ◌∷◌, refl, sym, ap, subst, inl, inr, arith, IsPermutation, sum_by, ∥∥₁_elim, ∥∥₁_map}
+use Rattle.sql_rows.proofs.Common.{cases_eq, IsPermutation-refl, IsPermutation-sym, IsPermutation-trans, IsPermutation-cons, IsPermutation-middle}
+use Rattle.sql_rows.proofs.Common.{sum_by-IsPermutation, length_permutation, Row}
 use mathlib.Core.HLevel.{⊥_prop}
 use Rattle.std.proofs.lemmas.List.Sums.{sum_by-cons}
 use base.Stored.{Gv, gnil, gnum, gcons}
@@ -69,7 +71,9 @@ module _ {X : Type 0} (same : (x y : X) → Decided (x ≡ y)) where
           with : Decided (IsPermutation xs found.0) → Decided (IsPermutation (x ∷ xs) ys)
           with (inl it) = inl (IsPermutation-trans _ _ _ (IsPermutation-cons x _ _ it) (IsPermutation-sym _ _ found.1))
           with (inr apart) =
-              inr (λ h. apart (from_counts xs found.0 (λ z. omega (arith, counts_alike _ _ h z, counts_alike _ _ found.1 z, counts_more z x xs, counts_more z x found.0))))
+              inr (λ h.
+              apart
+              (from_counts xs found.0 (λ z. omega (arith, counts_alike _ _ h z, counts_alike _ _ found.1 z, counts_more z x xs, counts_more z x found.0))))
       go (inr none) rest = inr (λ h. omega (arith, counts_alike _ _ h x, none, counts_own x xs))
 
 -- ---- rows

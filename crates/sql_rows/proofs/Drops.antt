@@ -1,5 +1,7 @@
 -- What a DELETE of at most one row makes of the books.
-use Rattle.sql_rows.proofs.Common.{◌≡◌, ◌≤◌, ℕ, List, [], ◌∷◌, map, not, slice_get, true, Bool, Some, Ok, refl, sym, ap, subst, list_all, Row, Trees, Enforced, Term, eval_all, holds, overlay, Schema, Table, Delete, State, ExecutesInside, delete_where, Means, HasRows, SameBut, columns_of, PicksOne, IsOf, Changes}
+use Rattle.sql_rows.proofs.Common.{◌≡◌, ◌≤◌, ℕ, List, [], ◌∷◌, map, not, slice_get, true, Bool, Some, Ok, refl, sym, ap, subst, list_all, Row, Trees, Enforced}
+use Rattle.sql_rows.proofs.Common.{Term, eval_all, holds, overlay, Schema, Table, Delete, State, ExecutesInside, delete_where, Means, HasRows, SameBut}
+use Rattle.sql_rows.proofs.Common.{columns_of, PicksOne, IsOf, Changes}
 use Rattle.sql_rows.proofs.Appends.{id_of}
 use Rattle.sql_rows.proofs.Keyed.{keyed_at, applies_keyed}
 use Rattle.sql_rows.proofs.Queries.{plain_query}
@@ -7,20 +9,26 @@ use Rattle.sql_rows.proofs.Bags.{as_many, bag_filter}
 use Rattle.sql_rows.proofs.Alters.{are_idle, deletes, left}
 
 -- `seen` is the filter, written over the columns; `tests_are` says that of a value's columns it is `p`
-module _ {B X : Type 0} (schema : Schema) (Stands : Trees → B → Type 0) (sql : List ℕ) (at : ℕ) (table : Table) (width : ℕ) (tests shown : List Term) (params : Row)
+module _ {B X : Type 0} (schema : Schema) (Stands : Trees → B → Type 0) (sql : List ℕ)
+    (at : ℕ) (table : Table) (width : ℕ) (tests shown : List Term) (params : Row)
     (columns : X → Row) (seen : Row → Bool) (p : X → Bool) (tests_are : (x : X) → seen (columns x) ≡ p x) (old new : State) (has : IsOf schema old) where
   abbrev test : Row → Bool
   test r = list_all (holds (params ∷ r ∷ [])) tests
 
   -- what the text does to the table's rows, where they are keyed
   abbrev pub DropsRows : Type 0
-  DropsRows = (xs : List X) → HasRows width (old.now.trees table.tree) (map columns xs) → PicksOne p xs → HasRows width (new.now.trees table.tree) (map columns (delete_where p xs))
+  DropsRows =
+      (xs : List X) → HasRows width (old.now.trees table.tree) (map columns xs) → PicksOne p xs
+      → HasRows width (new.now.trees table.tree) (map columns (delete_where p xs))
 
   -- The last premises but `drop` are `refl`.
-  pub drops_row : Means schema sql (Delete at (record { lets = []; body = plain_query table.tree tests shown [] })) → slice_get schema.tables at ≡ Some table → are_idle schema ≡ true
+  pub drops_row : Means schema sql (Delete at (record { lets = []; body = plain_query table.tree tests shown [] }))
+      → slice_get schema.tables at ≡ Some table → are_idle schema ≡ true
       → (count : ℕ) → ExecutesInside 0 sql params old new (Ok count) → overlay old.now.trees [] table.tree ≡ old.now.trees table.tree
       → ((r : Row) → list_all (holds (params ∷ r ∷ [])) tests ≡ seen (columns_of width r)) → ((r : Row) → id_of (eval_all shown (params ∷ r ∷ [])) ≡ id_of r)
-      → (Given : B → Type 0) (change : B → B) → ((books : B) → SameBut schema table.tree old.now.trees new.now.trees → Stands old.now.trees books → Given books → DropsRows → Stands new.now.trees (change books))
+      → (Given : B → Type 0) (change : B → B)
+      → ((books : B) → SameBut schema table.tree old.now.trees new.now.trees → Stands old.now.trees books
+      → Given books → DropsRows → Stands new.now.trees (change books))
       → Changes schema Stands old new Given change
   drops_row means place idle count h low sees id_shown Given change drop =
       let m = deletes schema sql params old new has at table (plain_query table.tree tests shown []) place idle means count h.0 in
@@ -32,6 +40,7 @@ module _ {B X : Type 0} (schema : Schema) (Stands : Trees → B → Type 0) (sql
             let short = subst (λ (k : ℕ). k ≤ 1) (sym (as_many (columns_of width) columns test seen p sees tests_are tree xs s)) few in
             let is = left schema table tests shown params old new low id_shown test refl (keyed_at schema old.now.trees at table place keyed) m short in
             subst (λ (es : List Row). HasRows width es (map columns (delete_where p xs))) (sym is)
-            (bag_filter (columns_of width) columns (λ r. not (test r)) (λ vs. not (seen vs)) (λ x. not (p x)) (λ r. ap not (sees r)) (λ x. ap not (tests_are x)) tree xs s));
+            (bag_filter (columns_of width) columns (λ r. not (test r)) (λ vs. not (seen vs))
+            (λ x. not (p x)) (λ r. ap not (sees r)) (λ x. ap not (tests_are x)) tree xs s));
         shows = h.1;
       }

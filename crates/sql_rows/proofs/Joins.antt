@@ -1,5 +1,10 @@
 -- What a join of tables shows, where each table's rows stand for values in any order. Nothing is asked of the rowids.
-use Rattle.sql_rows.proofs.Common.{◌≡◌, ◌≤◌, ◌==◌, ◌&&◌, ℕ, zero, suc, List, [], ◌∷◌, ◌++◌, map, filter, length, true, false, Bool, refl, sym, ap, subst, ◌∙◌, arith, add-one, is_eq, is_lt, IsPermutation, IsSorted, inl, inr, flat_map, IsPermutation-refl, IsPermutation-sym, IsPermutation-trans, length_permutation, Value, Null, Row, column, Key, Binary, Trees, IsAscending, Compare, Eq, is_true, Term, op2, Query, Join, inner, or_nulls, IsAnswer, Output, output_cmp, page, overlay, output_cmp_total, sort_by, flat_map-map, flat_map_same_on, IsPermutation-flat_map, ascending_weaker, sorted_is-sort_by, HasRows, columns_of, PicksOne, number_value}
+use Rattle.sql_rows.proofs.Common.{◌≡◌, ◌≤◌, ◌==◌, ◌&&◌, ℕ, zero, suc, List, [], ◌∷◌, ◌++◌, map, filter, length, true, false, Bool, refl, sym, ap, subst, ◌∙◌}
+use Rattle.sql_rows.proofs.Common.{arith, add-one, is_eq, is_lt, IsPermutation, IsSorted, inl, inr, flat_map, IsPermutation-refl, IsPermutation-sym}
+use Rattle.sql_rows.proofs.Common.{IsPermutation-trans, length_permutation, Value, Null, Row, column, Key, Binary, Trees, IsAscending, Compare, Eq, is_true}
+use Rattle.sql_rows.proofs.Common.{Term, op2, Query, Join, inner, or_nulls, IsAnswer, Output, output_cmp, page, overlay, output_cmp_total, sort_by}
+use Rattle.sql_rows.proofs.Common.{flat_map-map, flat_map_same_on, IsPermutation-flat_map, ascending_weaker, sorted_is-sort_by, HasRows, columns_of, PicksOne}
+use Rattle.sql_rows.proofs.Common.{number_value}
 use Rattle.std.specs.Prelude.{◌⊎◌}
 use Rattle.sqlite_sql.specs.Ops.{binary}
 pub use Rattle.sql_rows.proofs.Queries.{joined_query, shown_of}
@@ -42,7 +47,8 @@ module _ {Y Z : Type 0} (width : ℕ) (columns : Y → Row) (tree : List Row) (y
 
   pub left_bag : IsPermutation (flat_map gives (or_nulls (filter test tree))) (flat_map hands (or_blank width (map columns (filter p ys))))
   left_bag =
-      subst (λ l. IsPermutation l (flat_map hands (or_blank width (map columns (filter p ys))))) (sym (narrowed (or_nulls (filter test tree)) ∙ ap (flat_map hands) (narrow_nulls width (filter test tree))))
+      subst (λ l. IsPermutation l (flat_map hands (or_blank width (map columns (filter p ys)))))
+      (sym (narrowed (or_nulls (filter test tree)) ∙ ap (flat_map hands) (narrow_nulls width (filter test tree))))
       (IsPermutation-flat_map hands _ _ (blank_bag width _ _ kept_bag))
 
   module _ (few : PicksOne p ys) where
@@ -81,10 +87,13 @@ module _ {Y Z : Type 0} (width : ℕ) (columns : Y → Row) (tree : List Row) (y
   module _ (key : Y → ℕ) (keys : (y : Y) → column (columns y) 0 ≡ number_value (key y)) (first : (r : Row) → column r 1 ≡ column (columns_of width r) 0) where
     -- the key is a number
     pub left_key : (n : ℕ) → PicksOne (λ y. key y == n) ys
-        → flat_map gives (or_nulls (filter (λ r. equals (column r 1) (number_value n) && true) tree)) ≡ flat_map goes_on (or_blank width (map columns (filter (λ y. key y == n) ys)))
+        → flat_map gives (or_nulls (filter (λ r. equals (column r 1) (number_value n) && true) tree))
+        ≡ flat_map goes_on (or_blank width (map columns (filter (λ y. key y == n) ys)))
     left_key n few =
-        left_one width columns tree ys has (λ r. equals (column r 1) (number_value n) && true) (λ vs. equals (column vs 0) (number_value n) && true) (λ y. key y == n)
-        (λ r. ap (λ v. equals v (number_value n) && true) (first r)) (λ y. one_tested _ (ap (λ v. equals v (number_value n)) (keys y) ∙ number_tested (key y) n)) gives only few
+        left_one width columns tree ys has (λ r. equals (column r 1) (number_value n) && true)
+        (λ vs. equals (column vs 0) (number_value n) && true) (λ y. key y == n)
+        (λ r. ap (λ v. equals v (number_value n) && true) (first r))
+        (λ y. one_tested _ (ap (λ v. equals v (number_value n)) (keys y) ∙ number_tested (key y) n)) gives only few
 
     -- the key is NULL
     pub left_no_key : flat_map gives (or_nulls (filter (λ r. equals (column r 1) Null && true) tree)) ≡ goes_on (columns_of width []) ++ []
@@ -102,11 +111,16 @@ module _ {Y Z : Type 0} (width : ℕ) (columns : Y → Row) (tree : List Row) (y
 
     -- the second of the key is a number
     pub left_pair : (n : ℕ) → PicksOne (λ y. one y == m && two y == n) ys
-        → flat_map gives (or_nulls (filter (λ r. of_pair (column r 1) (column r 2) (number_value n)) tree)) ≡ flat_map goes_on (or_blank width (map columns (filter (λ y. one y == m && two y == n) ys)))
+        → flat_map gives (or_nulls (filter (λ r. of_pair (column r 1) (column r 2) (number_value n)) tree))
+        ≡ flat_map goes_on (or_blank width (map columns (filter (λ y. one y == m && two y == n) ys)))
     left_pair n few =
-        left_one width columns tree ys has (λ r. of_pair (column r 1) (column r 2) (number_value n)) (λ vs. of_pair (column vs 0) (column vs 1) (number_value n)) (λ y. one y == m && two y == n)
+        left_one width columns tree ys has (λ r. of_pair (column r 1) (column r 2) (number_value n))
+        (λ vs. of_pair (column vs 0) (column vs 1) (number_value n)) (λ y. one y == m && two y == n)
         (λ r. (λ i. of_pair (first r i) (second r i) (number_value n)))
-        (λ y. two_tested _ _ (ap (λ v. equals v (number_value m)) (ones y) ∙ number_tested (one y) m) (ap (λ v. equals v (number_value n)) (twos y) ∙ number_tested (two y) n)) gives only few
+        (λ y.
+        two_tested _ _ (ap (λ v. equals v (number_value m)) (ones y) ∙ number_tested (one y) m)
+        (ap (λ v. equals v (number_value n)) (twos y) ∙ number_tested (two y) n))
+        gives only few
 
     -- the second of the key is NULL
     pub left_no_pair : flat_map gives (or_nulls (filter (λ r. of_pair (column r 1) (column r 2) Null) tree)) ≡ goes_on (columns_of width []) ++ []
@@ -131,7 +145,8 @@ climbs_sorted q (x ∷ []) up k d a b = absurd (omega arith)
 climbs_sorted q (x ∷ y ∷ os) up zero d a b = up.0.0.1
 climbs_sorted q (x ∷ y ∷ os) up (suc k) d a b = rw add-one (rw add-one at (climbs_sorted q (y ∷ os) up.1 k d (omega arith) (omega arith)))
 
-module _ {X : Type 0} (tree : ℕ) (more : Join) (tests shown : List Term) (order : List (Term × Key)) (params : Row) (db : Trees) (width : ℕ) (columns : X → Row) (xs : List X)
+module _ {X : Type 0} (tree : ℕ) (more : Join) (tests shown : List Term) (order : List (Term × Key))
+    (params : Row) (db : Trees) (width : ℕ) (columns : X → Row) (xs : List X)
     (has : HasRows width (db tree) (map columns xs)) (low : overlay db [] tree ≡ db tree) where
   abbrev pub asked : Query
   asked = joined_query (inner tree more) tests shown order
@@ -140,17 +155,21 @@ module _ {X : Type 0} (tree : ℕ) (more : Join) (tests shown : List Term) (orde
   abbrev pub brings : Row → List Output
   brings r = shown_of asked (overlay db []) more (params ∷ r ∷ [])
 
-  module _ (only : (r : Row) → brings r ≡ brings (Null ∷ columns_of width r)) (outs : X → List Output) (picks : (x : X) → IsPermutation (brings (Null ∷ columns x)) (outs x)) where
+  module _ (only : (r : Row) → brings r ≡ brings (Null ∷ columns_of width r)) (outs : X → List Output)
+      (picks : (x : X) → IsPermutation (brings (Null ∷ columns x)) (outs x)) where
     pub joined_bag : (rows : List Row) (a : IsAnswer asked (overlay db []) params rows) → IsPermutation (flat_map outs xs) a.ordered
     joined_bag rows a = answer_bag tree more tests shown order params db columns xs (columns_of width) has low (λ vs. brings (Null ∷ vs)) only outs picks rows a
 
     -- a list of the same outputs that has the order of ORDER BY, and no tie, is what is shown
-    pub joined_rows : (rows : List Row) → IsAnswer asked (overlay db []) params rows → (target : List Output) → IsPermutation (flat_map outs xs) target → Climbs asked target → rows ≡ map (λ (o : Output). o.1) target
+    pub joined_rows : (rows : List Row) → IsAnswer asked (overlay db []) params rows → (target : List Output)
+        → IsPermutation (flat_map outs xs) target → Climbs asked target → rows ≡ map (λ (o : Output). o.1) target
     joined_rows rows a target same up =
         let ties : IsAscending (λ a b. is_eq (output_cmp asked a b) ≡ false) target =
-        ascending_weaker {A = Output} (λ a b. (is_eq (output_cmp asked a b) ≡ false) × (is_lt (output_cmp asked b a) ≡ false)) (λ a b. is_eq (output_cmp asked a b) ≡ false) (λ a b h. h.0) target up in
+        ascending_weaker {A = Output} (λ a b. (is_eq (output_cmp asked a b) ≡ false) × (is_lt (output_cmp asked b a) ≡ false))
+        (λ a b. is_eq (output_cmp asked a b) ≡ false) (λ a b h. h.0) target up in
         let theirs : a.ordered ≡ sort_by (output_cmp asked) target =
-        sorted_is-sort_by (output_cmp asked) (output_cmp_total asked) target a.ordered ties (IsPermutation-trans _ _ _ (IsPermutation-sym _ _ same) (joined_bag rows a)) a.sorted in
+        sorted_is-sort_by (output_cmp asked) (output_cmp_total asked) target a.ordered ties
+        (IsPermutation-trans _ _ _ (IsPermutation-sym _ _ same) (joined_bag rows a)) a.sorted in
         let ours : target ≡ sort_by (output_cmp asked) target =
         sorted_is-sort_by (output_cmp asked) (output_cmp_total asked) target target ties (IsPermutation-refl target) (climbs_sorted asked target up) in
         a.shown ∙ ap (λ os. page asked params (map (λ (o : Output). o.1) os)) (theirs ∙ sym ours)

@@ -1,5 +1,8 @@
 -- What a SELECT of some columns shows, and what a call says of the books.
-use Rattle.sql_rows.proofs.Common.{◌≡◌, ◌≤◌, ℕ, suc, List, [], ◌∷◌, map, filter, length, Bool, cond, sym, ap, subst, ◌∙◌, IsPermutation, list_all, IsPermutation-sym, length_permutation, Row, column, ascending, Binary, then-Equal, Trees, Term, col, holds, Query, Output, output, overlay, Schema, Database, State, sort_by, IsPlain, HasRows, AreKeyed, columns_of, PicksOne, by, Differ, number_value, IsOf, Changes, Holds}
+use Rattle.sql_rows.proofs.Common.{◌≡◌, ◌≤◌, ℕ, suc, List, [], ◌∷◌, map, filter, length, Bool, cond, sym, ap, subst, ◌∙◌, IsPermutation, list_all}
+use Rattle.sql_rows.proofs.Common.{IsPermutation-sym, length_permutation, Row, column, ascending, Binary, then-Equal, Trees, Term, col, holds, Query, Output}
+use Rattle.sql_rows.proofs.Common.{output, overlay, Schema, Database, State, sort_by, IsPlain, HasRows, AreKeyed, columns_of, PicksOne, by, Differ}
+use Rattle.sql_rows.proofs.Common.{number_value, IsOf, Changes, Holds}
 use Rattle.sqlite.specs.Listing.{understood}
 use Rattle.sqlite.specs.State.{Shown}
 use Rattle.sql_rows.specs.Calls.{Writes}
@@ -22,7 +25,8 @@ module _ {X : Type 0} (schema : Schema) (sql : List ℕ) (tree width : ℕ) (tes
     -- in any order
     pub projects_bag : IsPermutation (map (λ x. show (columns x)) (filter p xs)) rows
     projects_bag =
-        reads_bag tree tests shown [] params old.now.trees columns xs (columns_of width) s low (λ vs. cond (seen vs) (([], show vs) ∷ []) []) only p (λ x. ([], show (columns x)))
+        reads_bag tree tests shown [] params old.now.trees columns xs (columns_of width) s low
+        (λ vs. cond (seen vs) (([], show vs) ∷ []) []) only p (λ x. ([], show (columns x)))
         (λ x. ap (λ b. cond b (([], show (columns x)) ∷ []) []) (tests_are x)) rows (answers schema sql q params old new has means rows h)
 
     -- a row by its key
@@ -42,11 +46,17 @@ module _ {X : Type 0} (schema : Schema) (sql : List ℕ) (tree width : ℕ) (tes
   abbrev sorted : Query
   sorted = plain_query tree tests shown ((col 1 (suc place), ascending Binary) ∷ [])
 
-  pub projects_sorted : ((r : Row) → cond (list_all (holds (params ∷ r ∷ [])) tests) (output sorted (params ∷ r ∷ []) ∷ []) [] ≡ cond (seen (columns_of width r)) ((column (columns_of width r) place ∷ [], show (columns_of width r)) ∷ []) [])
-      → (number : X → ℕ) → ((x : X) → column (columns x) place ≡ number_value (number x)) → Differ number (filter p xs) → rows ≡ map (λ x. show (columns x)) (sort_by (by number) (filter p xs))
+  pub projects_sorted :
+      ((r : Row)
+      → cond (list_all (holds (params ∷ r ∷ [])) tests) (output sorted (params ∷ r ∷ []) ∷ []) []
+      ≡ cond (seen (columns_of width r)) ((column (columns_of width r) place ∷ [], show (columns_of width r)) ∷ []) [])
+      → (number : X → ℕ) → ((x : X) → column (columns x) place ≡ number_value (number x))
+      → Differ number (filter p xs) → rows ≡ map (λ x. show (columns x)) (sort_by (by number) (filter p xs))
   projects_sorted only number numbers apart =
-      reads_sorted tree tests shown ((col 1 (suc place), ascending Binary) ∷ []) params old.now.trees columns xs (columns_of width) s low (λ vs. cond (seen vs) ((column vs place ∷ [], show vs) ∷ []) []) only p
-      (λ x. (number_value (number x) ∷ [], show (columns x))) (λ x. (λ i. cond (tests_are x i) ((numbers x i ∷ [], show (columns x)) ∷ []) [])) rows (answers schema sql sorted params old new has means rows h)
+      reads_sorted tree tests shown ((col 1 (suc place), ascending Binary) ∷ []) params old.now.trees columns xs
+      (columns_of width) s low (λ vs. cond (seen vs) ((column vs place ∷ [], show vs) ∷ []) []) only p
+      (λ x. (number_value (number x) ∷ [], show (columns x))) (λ x. (λ i. cond (tests_are x i) ((numbers x i ∷ [], show (columns x)) ∷ []) [])) rows
+      (answers schema sql sorted params old new has means rows h)
       (by number) (λ x y. then-Equal _ ∙ number_cmp (number x) (number y)) (no_ties number (filter p xs) apart)
 
 module _ {B : Type 0} (schema : Schema) (Stands : Trees → B → Type 0) where
@@ -62,7 +72,8 @@ module _ {B : Type 0} (schema : Schema) (Stands : Trees → B → Type 0) where
       }
 
   -- a change, if the state has the tables of the schema
-  pub writes_by : (old new : State) (Given : B → Type 0) (change : B → B) → (IsOf schema old → Changes schema Stands old new Given change) → Writes schema Stands old new Given change
+  pub writes_by : (old new : State) (Given : B → Type 0) (change : B → B)
+      → (IsOf schema old → Changes schema Stands old new Given change) → Writes schema Stands old new Given change
   writes_by old new Given change changes books holds given =
       let done = changes holds.schema_is in
       record { schema_is = done.schema_is; keyed = done.keyed holds.keyed; stands = done.books holds.keyed books holds.stands given }

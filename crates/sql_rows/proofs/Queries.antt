@@ -1,5 +1,11 @@
 -- What a query with a filter and an order shows, of one table or of several that are joined.
-use Rattle.sql_rows.proofs.Common.{cases_Bool, inl, inr, ⊤, Join, made, counted, folded, matches, or_nulls, left, IsPermutation-flat_map_each, Env, ◌≡◌, ◌==◌, ℕ, pos, negsuc, List, [], ◌∷◌, ◌++◌, map, filter, true, false, Bool, cond, Some, None, refl, sym, ap, subst, subst₂, ◌∙◌, arith, Ordering, is_eq, IsPermutation, int_cmp, flat_map, list_all, ints, nat_tests, Null, Int, Row, value_cmp, Key, Binary, value_cmp-Int, Trees, IsAscending, Compare, Eq, is_true, from_truth, Term, lit, holds, Query, inner, end, IsAnswer, Output, output, output_cmp, page, overlay, output_cmp_total, Schema, Select, reads_listing, State, IsPlain, command_of, reads_as, map-map, map-flat_map, flat_map-map, flat_map_same_on, ascending-map, ascending_weaker, IsPermutation-flat_map, sorted_is-sort_by, sort_by-map, sort_by, nat_cmp, IsPermutation-sym, IsPermutation-trans, IsPermutation-map}
+use Rattle.sql_rows.proofs.Common.{cases_Bool, inl, inr, ⊤, Join, made, counted, folded, matches, or_nulls, left, IsPermutation-flat_map_each, Env, ◌≡◌, ◌==◌}
+use Rattle.sql_rows.proofs.Common.{ℕ, pos, negsuc, List, [], ◌∷◌, ◌++◌, map, filter, true, false, Bool, cond, Some, None, refl, sym, ap, subst, subst₂, ◌∙◌}
+use Rattle.sql_rows.proofs.Common.{arith, Ordering, is_eq, IsPermutation, int_cmp, flat_map, list_all, ints, nat_tests, Null, Int, Row, value_cmp, Key, Binary}
+use Rattle.sql_rows.proofs.Common.{value_cmp-Int, Trees, IsAscending, Compare, Eq, is_true, from_truth, Term, lit, holds, Query, inner, end, IsAnswer, Output}
+use Rattle.sql_rows.proofs.Common.{output, output_cmp, page, overlay, output_cmp_total, Schema, Select, reads_listing, State, IsPlain, command_of, reads_as}
+use Rattle.sql_rows.proofs.Common.{map-map, map-flat_map, flat_map-map, flat_map_same_on, ascending-map, ascending_weaker, IsPermutation-flat_map}
+use Rattle.sql_rows.proofs.Common.{sorted_is-sort_by, sort_by-map, sort_by, nat_cmp, IsPermutation-sym, IsPermutation-trans, IsPermutation-map}
 use Rattle.sqlite_sql.specs.Ops.{binary}
 use Rattle.sqlite.specs.Listing.{understood}
 use Rattle.sqlite.specs.State.{Shown}
@@ -32,7 +38,8 @@ pub record Selects (schema : Schema) (sql : List ℕ) (q : Query) : Type 0 where
   pub plain : IsPlain (understood schema sql)
   pub unlisted : reads_listing schema sql ≡ false
 
-pub answers : (schema : Schema) (sql : List ℕ) (q : Query) (params : Row) (old new : State) → old.now.schema ≡ schema → Selects schema sql q → (rows : List Row) → Shown sql params old new rows
+pub answers : (schema : Schema) (sql : List ℕ) (q : Query) (params : Row) (old new : State)
+    → old.now.schema ≡ schema → Selects schema sql q → (rows : List Row) → Shown sql params old new rows
     → IsAnswer q (overlay old.now.trees []) params rows
 answers schema sql q params old new has means rows h =
     (reads_as sql params old new schema has (Select (record { lets = []; body = q }) means.names) means.is means.plain means.unlisted rows h).answer Null
@@ -53,19 +60,24 @@ shown_of q db other env = map (output q) (matches db q.filter other env)
 pub shown_is : (q : Query) (db : Trees) (from : Join) (env : Env) → map (output q) (matches db q.filter from env) ≡ shown_of q db from env
 shown_is q db end env = elim (cases_Bool (list_all (holds env) q.filter)) [ inl hit ↦ rw hit refl | inr miss ↦ rw miss refl ]
 shown_is q db (inner t more) env =
-    map-flat_map (output q) (λ r. matches db q.filter more (env ++ r ∷ [])) (db t) ∙ flat_map_same_on _ (λ r. shown_of q db more (env ++ r ∷ [])) (λ r. shown_is q db more (env ++ r ∷ [])) (db t)
+    map-flat_map (output q) (λ r. matches db q.filter more (env ++ r ∷ [])) (db t)
+    ∙ flat_map_same_on _ (λ r. shown_of q db more (env ++ r ∷ [])) (λ r. shown_is q db more (env ++ r ∷ [])) (db t)
 shown_is q db (left t on more) env =
     map-flat_map (output q) (λ r. matches db q.filter more (env ++ r ∷ [])) (or_nulls (filter (λ r. list_all (holds (env ++ r ∷ [])) on) (db t)))
-    ∙ flat_map_same_on _ (λ r. shown_of q db more (env ++ r ∷ [])) (λ r. shown_is q db more (env ++ r ∷ [])) (or_nulls (filter (λ r. list_all (holds (env ++ r ∷ [])) on) (db t)))
+    ∙ flat_map_same_on _ (λ r. shown_of q db more (env ++ r ∷ [])) (λ r. shown_is q db more (env ++ r ∷ []))
+    (or_nulls (filter (λ r. list_all (holds (env ++ r ∷ [])) on) (db t)))
 shown_is q db (counted cap from test more) env = refl
 shown_is q db (made m more) env = refl
 shown_is q db (folded from test all more) env = refl
 shown_is q db (first from test order shown more) env = refl
 
--- Each table's rows stand for values in any order. `sees` is what a row of the first table brings to the answer, written over its columns. Nothing is asked of the rowids.
-module _ {X : Type 0} (tree : ℕ) (more : Join) (tests shown : List Term) (order : List (Term × Key)) (params : Row) (db : Trees) (columns : X → Row) (xs : List X)
+-- Each table's rows stand for values in any order. `sees` is what a row of the first table brings to the answer, written over its columns. Nothing is asked of
+-- the rowids.
+module _ {X : Type 0} (tree : ℕ) (more : Join) (tests shown : List Term)
+    (order : List (Term × Key)) (params : Row) (db : Trees) (columns : X → Row) (xs : List X)
     (narrow : Row → Row) (has : IsPermutation (map narrow (db tree)) (map columns xs)) (low : overlay db [] tree ≡ db tree)
-    (sees : Row → List Output) (only : (r : Row) → shown_of (joined_query (inner tree more) tests shown order) (overlay db []) more (params ∷ r ∷ []) ≡ sees (narrow r))
+    (sees : Row → List Output)
+    (only : (r : Row) → shown_of (joined_query (inner tree more) tests shown order) (overlay db []) more (params ∷ r ∷ []) ≡ sees (narrow r))
     (outs : X → List Output) (picks : (x : X) → IsPermutation (sees (columns x)) (outs x)) where
   abbrev joined : Query
   joined = joined_query (inner tree more) tests shown order
@@ -79,8 +91,10 @@ module _ {X : Type 0} (tree : ℕ) (more : Join) (tests shown : List Term) (orde
       ∙ flat_map_same_on _ (λ r. sees (narrow r)) only (db tree)
       ∙ sym (flat_map-map sees narrow (db tree)) in
       let each : IsPermutation (flat_map sees (map columns xs)) (flat_map outs xs) =
-      subst (λ l. IsPermutation l (flat_map outs xs)) (sym (flat_map-map sees columns xs)) (IsPermutation-flat_map_each (λ x. sees (columns x)) outs picks xs) in
-      let same : IsPermutation (flat_map sees (map narrow (db tree))) (flat_map outs xs) = IsPermutation-trans _ _ _ (IsPermutation-flat_map sees _ _ has) each in
+      subst (λ l. IsPermutation l (flat_map outs xs)) (sym (flat_map-map sees columns xs))
+      (IsPermutation-flat_map_each (λ x. sees (columns x)) outs picks xs) in
+      let same : IsPermutation (flat_map sees (map narrow (db tree))) (flat_map outs xs) =
+      IsPermutation-trans _ _ _ (IsPermutation-flat_map sees _ _ has) each in
       IsPermutation-trans _ _ _ (IsPermutation-sym _ _ same) (subst (λ k. IsPermutation k a.ordered) seen a.same)
 
 -- one table
@@ -92,11 +106,13 @@ module _ {X : Type 0} (tree : ℕ) (tests shown : List Term) (order : List (Term
   abbrev hands : Row → List Output
   hands r = cond (list_all (holds (params ∷ r ∷ [])) tests) (output asked (params ∷ r ∷ []) ∷ []) []
 
-  module _ (sees : Row → List Output) (only : (r : Row) → hands r ≡ sees (narrow r)) (p : X → Bool) (out : X → Output) (picks : (x : X) → sees (columns x) ≡ cond (p x) (out x ∷ []) []) where
+  module _ (sees : Row → List Output) (only : (r : Row) → hands r ≡ sees (narrow r)) (p : X → Bool)
+      (out : X → Output) (picks : (x : X) → sees (columns x) ≡ cond (p x) (out x ∷ []) []) where
     ordered_bag : (rows : List Row) (a : IsAnswer asked (overlay db []) params rows) → IsPermutation (map out (filter p xs)) a.ordered
     ordered_bag rows a =
         subst (λ l. IsPermutation l a.ordered) (kept_as_map p out xs)
-        (answer_bag tree end tests shown order params db columns xs narrow has low sees only (λ x. cond (p x) (out x ∷ []) []) (λ x. IsPermutation-same _ _ (picks x)) rows a)
+        (answer_bag tree end tests shown order params db columns xs narrow has low sees only
+        (λ x. cond (p x) (out x ∷ []) []) (λ x. IsPermutation-same _ _ (picks x)) rows a)
 
     -- with no order, the rows are the values that pass, in some order
     pub reads_bag : (rows : List Row) → IsAnswer asked (overlay db []) params rows → IsPermutation (map (λ x. (out x).1) (filter p xs)) rows
@@ -104,12 +120,16 @@ module _ {X : Type 0} (tree : ℕ) (tests shown : List Term) (order : List (Term
         subst₂ IsPermutation (map-map (λ (o : Output). o.1) out (filter p xs)) (sym a.shown) (IsPermutation-map (λ (o : Output). o.1) _ _ (ordered_bag rows a))
 
     -- with an order that has no ties, they are one list
-    pub reads_sorted : (rows : List Row) → IsAnswer asked (overlay db []) params rows → (cmp : X → X → Ordering) → ((x y : X) → output_cmp asked (out x) (out y) ≡ cmp x y) → IsAscending (λ x y. is_eq (cmp x y) ≡ false) (filter p xs)
+    pub reads_sorted : (rows : List Row) → IsAnswer asked (overlay db []) params rows → (cmp : X → X → Ordering)
+        → ((x y : X) → output_cmp asked (out x) (out y) ≡ cmp x y) → IsAscending (λ x y. is_eq (cmp x y) ≡ false) (filter p xs)
         → rows ≡ map (λ x. (out x).1) (sort_by cmp (filter p xs))
     reads_sorted rows a cmp cmps apart =
         let ys = filter p xs in
         let ties : IsAscending (λ a b. is_eq (output_cmp asked a b) ≡ false) (map out ys) =
-        ascending-map (λ a b. is_eq (output_cmp asked a b) ≡ false) out ys (ascending_weaker {A = X} (λ x y. is_eq (cmp x y) ≡ false) (λ x y. is_eq (output_cmp asked (out x) (out y)) ≡ false) (λ x y h. ap is_eq (cmps x y) ∙ h) ys apart) in
+        ascending-map (λ a b. is_eq (output_cmp asked a b) ≡ false) out ys
+        (ascending_weaker {A = X} (λ x y. is_eq (cmp x y) ≡ false)
+        (λ x y. is_eq (output_cmp asked (out x) (out y)) ≡ false) (λ x y h. ap is_eq (cmps x y) ∙ h) ys apart)
+        in
         let is = sorted_is-sort_by (output_cmp asked) (output_cmp_total asked) (map out ys) a.ordered ties (ordered_bag rows a) a.sorted in
         let same : sort_by (output_cmp asked) (map out ys) ≡ map out (sort_by cmp ys) =
         sort_by-map (output_cmp asked) out ys ∙ ap (λ (c : X → X → Ordering). map out (sort_by c ys)) (fun_ext (λ x. fun_ext (λ y. cmps x y))) in

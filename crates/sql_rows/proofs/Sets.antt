@@ -1,5 +1,7 @@
 -- A step that takes one row out, and may put another in at its rowid.
-use Rattle.sql_rows.proofs.Common.{cases_Bool, inl, inr, ◌≡◌, ◌<ℤ◌, ℤ, List, [], ◌∷◌, filter, true, false, Bool, refl, sym, ap, subst, ◌∙◌, arith, IsTrue, Greater, is_eq, int_cmp, AllByRecursion, ints, Int, Row, value_cmp, value_cmp-Int, rowid, has_rowid, put_row, without_rowid, IsShaped, is_int, IsKeyedBy, update_where, delete_where, all-filter, Less-from_lt}
+use Rattle.sql_rows.proofs.Common.{cases_Bool, inl, inr, ◌≡◌, ◌<ℤ◌, ℤ, List, [], ◌∷◌, filter, true, false, Bool, refl, sym, ap, subst, ◌∙◌, arith, IsTrue}
+use Rattle.sql_rows.proofs.Common.{Greater, is_eq, int_cmp, AllByRecursion, ints, Int, Row, value_cmp, value_cmp-Int, rowid, has_rowid, put_row, without_rowid}
+use Rattle.sql_rows.proofs.Common.{IsShaped, is_int, IsKeyedBy, update_where, delete_where, all-filter, Less-from_lt}
 use Rattle.sqlite_trees.specs.declared.store.Shape.TheVariants.{Table as TableShape}
 use Rattle.sql_rows.proofs.Appends.{int_is, id_of, ids_rise}
 
@@ -29,7 +31,8 @@ pub spared : (id : ℤ) (rows : List Row) → AreInts rows → AllByRecursion (�
 spared id [] all up = refl
 spared id (r ∷ rows) all up = rw (has_id id r all.0, apart_up id (id_of r) up.0, spared id rows all.1 up.1)
 
-goes_first : (new : Row) (rows : List Row) → IsTrue (is_int (rowid new)) → AreInts rows → AllByRecursion (λ r. id_of new <ℤ id_of r) rows → put_row new rows ≡ new ∷ rows
+goes_first : (new : Row) (rows : List Row) → IsTrue (is_int (rowid new)) → AreInts rows
+    → AllByRecursion (λ r. id_of new <ℤ id_of r) rows → put_row new rows ≡ new ∷ rows
 goes_first new [] is all up = refl
 goes_first new (r ∷ rows) is all up = rw (cmp_ids r new all.0 is, greater (id_of new) (id_of r) up.0)
 
@@ -41,7 +44,8 @@ module _ (p : Row → Bool) (f : Row → Row) (keeps : (r : Row) → id_of (f r)
     | inr miss ↦ rw miss (ap (λ l. r ∷ l) (unpicked rows (rw miss at none)))
   ]
 
-  set_one : (rows : List Row) (x : Row) → AreInts rows → IsKeyedBy id_of rows → filter p rows ≡ x ∷ [] → put_row (f x) (without_rowid (id_of x) rows) ≡ update_where p f rows
+  set_one : (rows : List Row) (x : Row) → AreInts rows → IsKeyedBy id_of rows
+      → filter p rows ≡ x ∷ [] → put_row (f x) (without_rowid (id_of x) rows) ≡ update_where p f rows
   set_one [] x all up one = cc
   set_one (r ∷ rows) x all up one = elim (cases_Bool (p r)) [
     | inl hit ↦
@@ -50,16 +54,21 @@ module _ (p : Row → Bool) (f : Row → Row) (keeps : (r : Row) → id_of (f r)
         let none : filter p rows ≡ [] = cc in
         let id = id_of r in
         let out : without_rowid id (r ∷ rows) ≡ rows = rw (has_id id r all.0, same_id id) (spared id rows all.1 up.0) in
-        let first : put_row (f r) rows ≡ f r ∷ rows = goes_first (f r) rows (ints_stay r) all.1 (subst (λ (n : ℤ). AllByRecursion (λ y. n <ℤ id_of y) rows) (sym (keeps r)) up.0) in
+        let first : put_row (f r) rows ≡ f r ∷ rows =
+        goes_first (f r) rows (ints_stay r) all.1 (subst (λ (n : ℤ). AllByRecursion (λ y. n <ℤ id_of y) rows) (sym (keeps r)) up.0) in
         rw hit (subst (λ y. put_row (f y) (without_rowid (id_of y) (r ∷ rows)) ≡ f r ∷ update_where p f rows) is (rw (out, first, unpicked rows none)))
     | inr miss ↦
         let h : filter p rows ≡ x ∷ [] = rw miss at one in
-        let lows : AllByRecursion (λ y. id_of r <ℤ id_of y) (x ∷ []) = subst (AllByRecursion (λ y. id_of r <ℤ id_of y)) h (all-filter (λ y. id_of r <ℤ id_of y) p rows up.0) in
+        let lows : AllByRecursion (λ y. id_of r <ℤ id_of y) (x ∷ []) =
+        subst (AllByRecursion (λ y. id_of r <ℤ id_of y)) h (all-filter (λ y. id_of r <ℤ id_of y) p rows up.0) in
         let low = lows.0 in
-        rw (miss, has_id (id_of x) r all.0, apart_down (id_of r) (id_of x) low, cmp_ids r (f x) all.0 (ints_stay x), keeps x, Less-from_lt (id_of r) (id_of x) low) (ap (λ l. r ∷ l) (set_one rows x all.1 up.1 h))
+        rw
+        (miss, has_id (id_of x) r all.0, apart_down (id_of r) (id_of x) low, cmp_ids r (f x) all.0 (ints_stay x), keeps x, Less-from_lt (id_of r) (id_of x) low)
+        (ap (λ l. r ∷ l) (set_one rows x all.1 up.1 h))
   ]
 
-  pub sets_one : (rows : List Row) (x : Row) → IsShaped TableShape rows → filter p rows ≡ x ∷ [] → put_row (f x) (without_rowid (id_of x) rows) ≡ update_where p f rows
+  pub sets_one : (rows : List Row) (x : Row) → IsShaped TableShape rows → filter p rows ≡ x ∷ []
+      → put_row (f x) (without_rowid (id_of x) rows) ≡ update_where p f rows
   sets_one rows x shaped one = set_one rows x shaped.1 (ids_rise rows shaped) one
 
 -- ---- the rows that are left
@@ -83,6 +92,7 @@ module _ (p : Row → Bool) where
         rw hit (subst (λ y. without_rowid (id_of y) (r ∷ rows) ≡ delete_where p rows) head (out ∙ sym (none_dropped rows tail)))
     | inr miss ↦
         let h : filter p rows ≡ x ∷ [] = rw miss at one in
-        let lows : AllByRecursion (λ y. id_of r <ℤ id_of y) (x ∷ []) = subst (AllByRecursion (λ y. id_of r <ℤ id_of y)) h (all-filter (λ y. id_of r <ℤ id_of y) p rows up.0) in
+        let lows : AllByRecursion (λ y. id_of r <ℤ id_of y) (x ∷ []) =
+        subst (AllByRecursion (λ y. id_of r <ℤ id_of y)) h (all-filter (λ y. id_of r <ℤ id_of y) p rows up.0) in
         rw (miss, has_id (id_of x) r all.0, apart_down (id_of r) (id_of x) lows.0) (ap (λ l. r ∷ l) (drop_one rows x all.1 up.1 h))
   ]

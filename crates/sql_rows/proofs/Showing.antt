@@ -1,5 +1,7 @@
 -- What a statement with RETURNING does and shows.
-use Rattle.sql_rows.proofs.Common.{◌≡◌, ◌/◌, ℕ, List, [], ◌∷◌, ◌++◌, if◌then◌else◌, length, append-nil, true, Some, None, Option, Ok, Err, Result, sym, ap, subst, ◌∙◌, Null, Row, Trees, Term, Query, Schema, Table, Returning, Values, Command, Compiled, CompileError, Mode, Database, value_rows, Task, Written, Updates, shown, Tally, Concludes, State, mode_of, Writes, command_of}
+use Rattle.sql_rows.proofs.Common.{◌≡◌, ◌/◌, ℕ, List, [], ◌∷◌, ◌++◌, if◌then◌else◌, length, append-nil, true, Some, None, Option, Ok, Err, Result, sym, ap}
+use Rattle.sql_rows.proofs.Common.{subst, ◌∙◌, Null, Row, Trees, Term, Query, Schema, Table, Returning, Values, Command, Compiled, CompileError, Mode, Database}
+use Rattle.sql_rows.proofs.Common.{value_rows, Task, Written, Updates, shown, Tally, Concludes, State, mode_of, Writes, command_of}
 use Rattle.sqlite.specs.Listing.{understood}
 use Rattle.sqlite.specs.Does.{Shows, WritesRows}
 use Rattle.sqlite.specs.State as state
@@ -22,11 +24,13 @@ pub record MeansShowing (schema : Schema) (sql : List ℕ) (command : Command) (
   pub shows : returning_of (understood schema sql) ≡ Some (record { names = names; row = Values terms (length terms) })
   pub untimed : formats_in (understood schema sql) ≡ []
 
-module _ (schema : Schema) (sql : List ℕ) (params : Row) (old new : State) (has : old.now.schema ≡ schema) (command : Command) (terms : List Term) (means : MeansShowing schema sql command terms) where
+module _ (schema : Schema) (sql : List ℕ) (params : Row) (old new : State) (has : old.now.schema ≡ schema)
+    (command : Command) (terms : List Term) (means : MeansShowing schema sql command terms) where
   abbrev what : Returning
   what = record { names = means.names; row = Values terms (length terms) }
 
-  pub shown_as : (rows : List Row) → Shown sql params old new rows → (text : List ℕ) × ((count : ℕ) × (w : Writes old new (Some what) command text params count) × (rows ≡ w.tally.shown))
+  pub shown_as : (rows : List Row) → Shown sql params old new rows
+      → (text : List ℕ) × ((count : ℕ) × (w : Writes old new (Some what) command text params count) × (rows ≡ w.tally.shown))
   unfolding Shown
   shown_as rows h =
       let known = sym h.1.is ∙ ap (λ s. understood s sql) has in
@@ -39,15 +43,18 @@ module _ (schema : Schema) (sql : List ℕ) (params : Row) (old new : State) (ha
 -- the rows that were written, and what is shown of them
 pub shows_written : (task : Task) (mode : Mode) (names : List (List ℕ)) (terms : List Term) (w : Written) (tally : Tally) (after : Database)
     → Concludes task mode (Some (record { names = names; row = Values terms (length terms) })) w (Ok (tally, after))
-    → (after ≡ record { schema = task.schema; trees = w.trees }) × Shows task (record { names = names; row = Values terms (length terms) }) w.trees w.rows (Ok tally.shown)
+    → (after ≡ record { schema = task.schema; trees = w.trees })
+    × Shows task (record { names = names; row = Values terms (length terms) }) w.trees w.rows (Ok tally.shown)
 shows_written task mode names terms w tally after h =
     let rest = went (went h).2 in
     let pair = same_value rest.2 in
     let returns = went rest.1 in
     let counted = went returns.2 in
     let is : rest.0 ≡ returns.0 = same_value counted.2 in
-    let shown : tally.shown ≡ returns.0 = ap (λ (p : Tally × Database). p.0.shown) pair ∙ is in
-    (ap (λ (p : Tally × Database). p.1) pair, subst (λ (rows : List Row). Shows task (record { names = names; row = Values terms (length terms) }) w.trees w.rows (Ok rows)) (sym shown) returns.1)
+    let shown : tally.shown ≡ returns.0 = ap (λ (p : Tally × Database). p.0.shown) pair ∙ is in (
+      ap (λ (p : Tally × Database). p.1) pair,
+      subst (λ (rows : List Row). Shows task (record { names = names; row = Values terms (length terms) }) w.trees w.rows (Ok rows)) (sym shown) returns.1,
+    )
 
 pub one_shown : (task : Task) (names : List (List ℕ)) (terms : List Term) (now : Trees) (row : Row) (rows : List Row)
     → Shows task (record { names = names; row = Values terms (length terms) }) now (row ∷ []) (Ok rows)
@@ -59,7 +66,8 @@ one_shown task names terms now row rows h =
     same_value others.2 ∙ ap (λ l. first.0 ++ l) none ∙ append-nil first.0 ∙ first.1.1
 
 -- what was written, and what is shown of it
-module _ (schema : Schema) (sql : List ℕ) (params : Row) (old new : State) (has : old.now.schema ≡ schema) (command : Command) (terms : List Term) (means : MeansShowing schema sql command terms) (table : Table) where
+module _ (schema : Schema) (sql : List ℕ) (params : Row) (old new : State) (has : old.now.schema ≡ schema)
+    (command : Command) (terms : List Term) (means : MeansShowing schema sql command terms) (table : Table) where
   abbrev returned : Returning
   returned = record { names = means.names; row = Values terms (length terms) }
 
@@ -68,7 +76,8 @@ module _ (schema : Schema) (sql : List ℕ) (params : Row) (old new : State) (ha
 
   pub acts_showing : IsOn schema params old table command (Some returned) → (rows : List Row) → Shown sql params old new rows
       → (made : Written) × WritesRows task old.now.trees command (Ok made) × (new.now ≡ record { schema = schema; trees = made.trees })
-      × state.Shows old new new.now (if old.in_transaction then old.committed else new.now) old.in_transaction × Shows task returned made.trees made.rows (Ok rows)
+      × state.Shows old new new.now (if old.in_transaction then old.committed else new.now) old.in_transaction
+      × Shows task returned made.trees made.rows (Ok rows)
   acts_showing on rows h =
       let it = shown_as schema sql params old new has command terms means rows h in
       let w = it.1.1 in
@@ -77,11 +86,14 @@ module _ (schema : Schema) (sql : List ℕ) (params : Row) (old new : State) (ha
       (done.0, done.1, end.0, w.shown, subst (λ (rs : List Row). Shows task returned done.0.trees done.0.rows (Ok rs)) (sym it.1.2) end.1)
 
 -- what an update wrote, and what is shown of that
-module _ (schema : Schema) (params : Row) (old new : State) (table : Table) (what : Returning) (q : Query) (given : Row) (made : Written) (idle : are_idle schema ≡ true) where
-  pub set_showing : Updates (task_of schema params old table) (record { lets = []; body = q }) given old.now.trees (Ok made) → new.now ≡ record { schema = schema; trees = made.trees }
+module _ (schema : Schema) (params : Row) (old new : State) (table : Table) (what : Returning)
+    (q : Query) (given : Row) (made : Written) (idle : are_idle schema ≡ true) where
+  pub set_showing : Updates (task_of schema params old table) (record { lets = []; body = q }) given old.now.trees (Ok made)
+      → new.now ≡ record { schema = schema; trees = made.trees }
       → state.Shows old new new.now (if old.in_transaction then old.committed else new.now) old.in_transaction
       → (rows : List Row) → Shows (task_of schema params old table) what made.trees made.rows (Ok rows)
-      → (m : Moves schema (sets_of old.now.trees table) q given old new) × Shows (task_of schema params old table) what new.now.trees (sets_of old.now.trees table m.rows).news (Ok rows)
+      → (m : Moves schema (sets_of old.now.trees table) q given old new)
+      × Shows (task_of schema params old table) what new.now.trees (sets_of old.now.trees table m.rows).news (Ok rows)
   set_showing h now stays rows shows =
       let edit = sets_of old.now.trees table in
       let task = task_of schema params old table in

@@ -1,5 +1,6 @@
 -- One call after another.
-use Rattle.sql_rows.proofs.Common.{arith, true, Ok, Err, Result, ◌∙◌, refl, MutBor, IsOk, IsErr, false≢true, Ghosts, Held, state, State, HasCleanDisk, Shows, Survives, survives_then, unchanged_then, keeps_then, StaysInside, StaysSame, StaysWithin}
+use Rattle.sql_rows.proofs.Common.{arith, true, Ok, Err, Result, ◌∙◌, refl, MutBor, IsOk, IsErr, false≢true, Ghosts, Held, state, State, HasCleanDisk, Shows}
+use Rattle.sql_rows.proofs.Common.{Survives, survives_then, unchanged_then, keeps_then, StaysInside, StaysSame, StaysWithin}
 use Rattle.std.specs.Prelude.{OnOk}
 use Rattle.sql_rows.proofs.Inside.{on_ok, on_ok_then, survives_nothing}
 
@@ -16,7 +17,13 @@ pub survives_more : (a b c : State) → Survives a b (λ _. ⊥) → Survives b 
 survives_more a b c one two = survives_then a b c _ _ (λ _. ⊥) (λ _ db none. none) (λ _ db none. none) one two
 
 shows_more : (a b c : State) → Shows a b b.now a.committed true → Shows b c c.now b.committed true → Shows a c c.now a.committed true
-shows_more a b c one two = record { was_open = one.was_open; is_open = two.is_open; now_is = refl; committed_is = two.committed_is ∙ one.committed_is; mode = two.mode }
+shows_more a b c one two = record {
+  was_open = one.was_open;
+  is_open = two.is_open;
+  now_is = refl;
+  committed_is = two.committed_is ∙ one.committed_is;
+  mode = two.mode;
+}
 
 module _ {S X E : Type 0} {g : Ghosts S} {a b : MutBor (Held S)} where
   -- a clean disk was clean before
@@ -47,7 +54,12 @@ module _ {S X E : Type 0} {g : Ghosts S} {a b : MutBor (Held S)} where
     }
 
     pub inside_when : {r : Result X E} → StaysInside g a b r → (IsOk s → IsOk r) → StaysInside g a b s
-    inside_when {r} h ok = record { same_reference = h.same_reference; survives = h.survives; kept = h.kept; lives = λ clean inside. ok_when r s _ ok (h.lives clean inside) }
+    inside_when {r} h ok = record {
+      same_reference = h.same_reference;
+      survives = h.survives;
+      kept = h.kept;
+      lives = λ clean inside. ok_when r s _ ok (h.lives clean inside);
+    }
 
     -- whatever comes of calls that were answered
     pub within_as : {x : X} → StaysWithin {E = E} g a b (Ok x) → StaysWithin g a b s

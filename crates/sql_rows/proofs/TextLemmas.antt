@@ -1,5 +1,7 @@
 -- A text that reads as a SELECT is a query under any schema.
-use Rattle.sql_rows.proofs.Common.{◌≡◌, ℕ, List, [], Bool, true, false, None, Ok, Err, inl, inr, refl, subst, if◌then◌else◌, Row, Trees, Ghosts, Compiled, CompileError, Schema, reads_listing, is_select, if_select, listing_schema, Held, state, HasGiven, HasBegun, Returns, State, IsUnchanged, Survives, survives_weaker, ShowsOnly, IsQuery}
+use Rattle.sql_rows.proofs.Common.{◌≡◌, ℕ, List, [], Bool, true, false, None, Ok, Err, inl, inr, refl, subst, if◌then◌else◌, Row, Trees, Ghosts, Compiled}
+use Rattle.sql_rows.proofs.Common.{CompileError, Schema, reads_listing, is_select, if_select, listing_schema, Held, state, HasGiven, HasBegun, Returns, State}
+use Rattle.sql_rows.proofs.Common.{IsUnchanged, Survives, survives_weaker, ShowsOnly, IsQuery}
 use Rattle.std.specs.Prelude.{Result}
 use Rattle.sqlite_ast.specs.declared.Statement.{Statement}
 use Rattle.sqlite_ast.specs.declared.Statement.TheVariants as written
@@ -22,11 +24,13 @@ pub record ReadsAsSelect (sql : List ℕ) : Type 0 where
   pub selects : is_written_select parsed.statement ≡ true
   pub untimed : parsed.formats ≡ []
 
-shows_found : (p : Parsed) (formats : List (List ℕ)) (c : Checked Command) → formats ≡ [] → ShowsOnly (and_then (and_then (and_then c (λ it. Ok (it, None))) (λ found. Ok (formats, found))) (λ plan. Ok (with_command p plan)))
+shows_found : (p : Parsed) (formats : List (List ℕ)) (c : Checked Command) → formats ≡ []
+    → ShowsOnly (and_then (and_then (and_then c (λ it. Ok (it, None))) (λ found. Ok (formats, found))) (λ plan. Ok (with_command p plan)))
 shows_found p formats (Ok it) none = (refl, none)
 shows_found p formats (Err e) none = tt
 
-shows_select : (schema : Schema) (p : Parsed) (s : Statement) → p.statement ≡ s → is_written_select s ≡ true → p.formats ≡ [] → ShowsOnly (and_then (planned schema p) (λ plan. Ok (with_command p plan)))
+shows_select : (schema : Schema) (p : Parsed) (s : Statement) → p.statement ≡ s → is_written_select s ≡ true
+    → p.formats ≡ [] → ShowsOnly (and_then (planned schema p) (λ plan. Ok (with_command p plan)))
 unfolding planned meaning returning timed
 shows_select schema p (written.Select s) is selects none = rw is (shows_found p p.formats _ none)
 shows_select schema p _ is selects none = absurd (cc)
@@ -66,5 +70,6 @@ query_commits : (sql : List ℕ) (params : Row) (s : State) (db : Trees) → IsQ
 unfolding CommitsShowing
 query_commits sql params s db query h = never_shows (Ok h.0) (subst ShowsOnly h.1.is (query s.now.schema)) h.2
 
-pub commits_nothing : (sql : List ℕ) (params : Row) (old new : State) → IsQuery sql → Survives old new (CommitsShowing sql params old) → Survives old new (λ _. ⊥)
+pub commits_nothing : (sql : List ℕ) (params : Row) (old new : State) → IsQuery sql
+    → Survives old new (CommitsShowing sql params old) → Survives old new (λ _. ⊥)
 commits_nothing sql params old new query = survives_weaker old new _ _ (λ _ db. query_commits sql params old db query)

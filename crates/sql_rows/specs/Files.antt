@@ -17,7 +17,8 @@ use Rattle.sql_rows.specs.Books.{no_schema}
 
 -- The files hold this database: recovery finds pages in them that are a whole and sound file, which reads as these trees; and no other is read there.
 pub record IsHeldIn (image : Image) (db : Trees) : Type 0 where
-  pub recovers : (size : ℕ) × (pages : PageMap) × (wanted : List Wanted) × Adopts size image pages × ∥ IsOurs size true wanted pages ∥₁ × (db ≡ file_trees size wanted pages)
+  pub recovers : (size : ℕ) × (pages : PageMap) × (wanted : List Wanted) × Adopts size image pages
+      × ∥ IsOurs size true wanted pages ∥₁ × (db ≡ file_trees size wanted pages)
   pub only : (other : Trees) → HoldsDatabase image other → db ≡ other
 
 -- the same, or they were no database yet, and it is the empty one

@@ -1,4 +1,5 @@
--- Words for tables as data: STRICT tables whose rows are in a tree of their own, and so are the entries of each key and of each index. Columns are counted from 1,
+-- Words for tables as data: STRICT tables whose rows are in a tree of their own, and so are the entries of each key and of each index. Columns are counted from
+-- 1,
 -- since the hidden rowid comes first.
 use Rattle.std.specs.Prelude.{Bool, true, false, [], ◌++◌, None, codes, List, ℕ, map}
 use Rattle.sqlite.specs.declared.types.Value.TheVariants.{Null}
@@ -28,12 +29,26 @@ bytes name = column_of name Blob true
 
 -- a foreign key, which forbids a row without its parent and does nothing else
 abbrev pub reference_of : List ℕ → List ℕ → List (List ℕ) → Reference
-reference_of columns parent parent_columns = record { columns = columns; parent = parent; parent_columns = parent_columns; on_delete = NoAction; on_update = NoAction; is_deferred = false }
+reference_of columns parent parent_columns = record {
+  columns = columns;
+  parent = parent;
+  parent_columns = parent_columns;
+  on_delete = NoAction;
+  on_update = NoAction;
+  is_deferred = false;
+}
 
 -- the index of a key
 abbrev pub automatic_of : List ℕ → List ℕ → ℕ → ℕ → List ℕ → Index
 automatic_of name digits tree table columns =
-    record { name = codes "sqlite_autoindex_" ++ (name ++ (codes "_" ++ digits)); tree = tree; table = table; columns = columns; order = plain; is_unique = true }
+    record {
+      name = codes "sqlite_autoindex_" ++ (name ++ (codes "_" ++ digits));
+      tree = tree;
+      table = table;
+      columns = columns;
+      order = plain;
+      is_unique = true;
+    }
 
 -- an index that no key asks for
 abbrev pub index_of : List ℕ → ℕ → ℕ → List ℕ → Index

@@ -1,5 +1,6 @@
 -- Numbers of copies have one digit or two.
-use Rattle.shop_types.proofs.Common.{◌≡◌, ◌==◌, ◌≤◌, ◌+◌, ◌*◌, sym, arith, ℕ, true, false, true≢false, [], ◌∷◌, length, None, nat_tests, digit_value, is_ascii_digit, digits_value, digits_value_after, is_plain_number}
+use Rattle.shop_types.proofs.Common.{◌≡◌, ◌==◌, ◌≤◌, ◌+◌, ◌*◌, sym, arith, ℕ, true, false, true≢false, [], ◌∷◌, length, None, nat_tests, digit_value}
+use Rattle.shop_types.proofs.Common.{is_ascii_digit, digits_value, digits_value_after, is_plain_number}
 use Rattle.stock_csv.specs.Rows.{Text, copies_of}
 
 -- further digits make no number less

@@ -1,6 +1,8 @@
 -- The rows of every file that is read are within the limits.
 use Rattle.std.proofs.Common.{IfOk, All}
-use Rattle.shop_types.proofs.Common.{nat_tests, ◌≡◌, ◌==◌, ◌<◌, ◌≤◌, ◌+◌, ◌^◌, refl, arith, ℕ, List, [], ◌∷◌, length, Option, Some, None, Ok, Err, nat_lt, IfSome, replicate, cond_both, eqb-false, ltb-false, or_parts, length-replicate, All-nil, All-cons, IfOk-at_ok, row_number_of}
+use Rattle.shop_types.proofs.Common.{nat_tests, ◌≡◌, ◌==◌, ◌<◌, ◌≤◌, ◌+◌, ◌^◌, refl, arith, ℕ, List, [], ◌∷◌, length, Option, Some, None, Ok, Err, nat_lt}
+use Rattle.shop_types.proofs.Common.{IfSome, replicate, cond_both, eqb-false, ltb-false, or_parts, length-replicate, All-nil, All-cons, IfOk-at_ok}
+use Rattle.shop_types.proofs.Common.{row_number_of}
 use Rattle.std.proofs.lemmas.List.{length-append}
 use Rattle.csv.specs.Reading.{default_config, records_from, strip_bom}
 use Rattle.csv.specs.declared.parser.State.TheVariants as st
@@ -17,7 +19,8 @@ film_good field = grind (arith, nat_tests)
 copies_good : (field : Text) → IfSome (copies_of field) (λ n. (1 ≤ n) × (n ≤ 99))
 copies_good field = grind (arith, nat_tests, plain_is_some)
 
-from_good : (film copies : Option ℕ) → IfSome film (λ n. (1 ≤ n) × (n < 2 ^ 32)) → IfSome copies (λ n. (1 ≤ n) × (n ≤ 99)) → IfSome (row_from film copies) IsStockRow
+from_good : (film copies : Option ℕ) → IfSome film (λ n. (1 ≤ n) × (n < 2 ^ 32))
+    → IfSome copies (λ n. (1 ≤ n) × (n ≤ 99)) → IfSome (row_from film copies) IsStockRow
 from_good None copies f c = tt
 from_good (Some film) None f c = tt
 from_good (Some film) (Some copies) f c = record { film_low = f.0; film_high = f.1; copies_low = c.0; copies_high = c.1 }
@@ -37,11 +40,13 @@ record AreWithin (line total : ℕ) (rows : List StockRow) : Type 0 where
 films_of_more : (row : StockRow) (rows : List StockRow) → length (films_of (row ∷ rows)) ≡ row.copies + length (films_of rows)
 films_of_more row rows = rw (length-append (replicate row.copies row.film) (films_of rows), length-replicate row.copies row.film) refl
 
-with_row_good : (P Q : List StockRow → Type 0) (row : StockRow) (said : StockRows) → IfOk said P → ((rows : List StockRow) → P rows → Q (row ∷ rows)) → IfOk (with_row row said) Q
+with_row_good : (P Q : List StockRow → Type 0) (row : StockRow) (said : StockRows) → IfOk said P
+    → ((rows : List StockRow) → P rows → Q (row ∷ rows)) → IfOk (with_row row said) Q
 with_row_good P Q row (Ok rows) p more = more rows p
 with_row_good P Q row (Err line) p more = tt
 
-more_within : (line total : ℕ) (row : StockRow) (rows : List StockRow) → IsStockRow row → AreWithin (line + 1) (total + row.copies) rows → AreWithin line total (row ∷ rows)
+more_within : (line total : ℕ) (row : StockRow) (rows : List StockRow) → IsStockRow row
+    → AreWithin (line + 1) (total + row.copies) rows → AreWithin line total (row ∷ rows)
 more_within line total row rows good below =
     let counted = films_of_more row rows in
     record {

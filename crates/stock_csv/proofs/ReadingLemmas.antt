@@ -1,5 +1,6 @@
 -- What any stock file says fits a shop's copies.
-use Rattle.shop_types.proofs.Common.{◌≡◌, ◌<◌, ◌≤◌, ◌^◌, ℕ, suc, zero, List, [], ◌∷◌, ◌++◌, true, refl, arith, replicate, Ok, Err, AllByRecursion, nat_tests, recursion_from_All, is_row_number}
+use Rattle.shop_types.proofs.Common.{◌≡◌, ◌<◌, ◌≤◌, ◌^◌, ℕ, suc, zero, List, [], ◌∷◌, ◌++◌, true, refl, arith, replicate, Ok, Err, AllByRecursion, nat_tests}
+use Rattle.shop_types.proofs.Common.{recursion_from_All, is_row_number}
 use Rattle.stock_csv.specs.declared.StockRow.{StockRow}
 use Rattle.stock_csv.specs.Rows.{StockRows, stock_rows_of}
 use Rattle.stock_csv.specs.Stock.{IsStockRow, IsStockReading, films_of, stock_from, stock_of}
@@ -17,7 +18,8 @@ copies_then (suc n) film films is are = (is, copies_then n film films is are)
 
 films_are_rows : (rows : List StockRow) → AllByRecursion IsStockRow rows → AreRows (films_of rows)
 films_are_rows [] each = tt
-films_are_rows (row ∷ rows) each = copies_then row.copies row.film (films_of rows) (is_row row.film each.0.film_low each.0.film_high) (films_are_rows rows each.1)
+films_are_rows (row ∷ rows) each =
+    copies_then row.copies row.film (films_of rows) (is_row row.film each.0.film_low each.0.film_high) (films_are_rows rows each.1)
 
 pub stock_fits : (file : List ℕ) → IsStockReading (stock_of file)
 stock_fits file = said (stock_rows_of file) refl

@@ -1,5 +1,6 @@
 -- What the proofs on stock files cite.
-use Rattle.shop_types.proofs.Common.{◌≡◌, ◌≢◌, ◌||◌, ◌∙◌, ◌<◌, ◌≤◌, ◌+◌, ◌-◌, ◌++◌, refl, sym, ap, arith, ℕ, zero, suc, true, false, List, [], ◌∷◌, length, Option, Some, None, Ok, Err, nat_lt, append_assoc, append-nil, ne_eqb, le-ltb, lt-ltb, or_left, nat_tests, Bor}
+use Rattle.shop_types.proofs.Common.{◌≡◌, ◌≢◌, ◌||◌, ◌∙◌, ◌<◌, ◌≤◌, ◌+◌, ◌-◌, ◌++◌, refl, sym, ap, arith, ℕ, zero, suc, true, false, List, [], ◌∷◌, length}
+use Rattle.shop_types.proofs.Common.{Option, Some, None, Ok, Err, nat_lt, append_assoc, append-nil, ne_eqb, le-ltb, lt-ltb, or_left, nat_tests, Bor}
 use Rattle.csv.specs.Machine.{Read, next_record}
 use Rattle.csv.specs.Reading.{default_config, records_from, strip_bom}
 use Rattle.csv.specs.declared.parser.State.TheVariants as st
@@ -58,8 +59,10 @@ pub record Going (whole : StockRows) (rows : List StockRow) (line total : ℕ) (
   pub at : IsAt r state rest
   pub is : whole ≡ after rows (rows_from line total (rest_of (503 - line) state rest))
 
-module _ (whole : StockRows) (rows : List StockRow) (line total : ℕ) (old new : Reader (Bor (List ℕ))) (fields : List Text) (g : Going whole rows line total old) where
-  pub ends_first : line ≡ 2 → ((s : State) (rest : Text) → IsAt old s rest → Found (next_record default_config s [] [] rest) new false fields) → whole ≡ Err line
+module _ (whole : StockRows) (rows : List StockRow) (line total : ℕ)
+    (old new : Reader (Bor (List ℕ))) (fields : List Text) (g : Going whole rows line total old) where
+  pub ends_first : line ≡ 2
+      → ((s : State) (rest : Text) → IsAt old s rest → Found (next_record default_config s [] [] rest) new false fields) → whole ≡ Err line
   ends_first two found =
       let none = found g.state g.rest g.at in
       g.is ∙ rw (records_none (503 - line) g.state g.rest none, two) refl
@@ -70,12 +73,16 @@ module _ (whole : StockRows) (rows : List StockRow) (line total : ℕ) (old new 
       g.is ∙ rw (records_none (503 - line) g.state g.rest none, ne_eqb line 2 more) (ap Ok (append-nil rows))
 
   module _ (lt : line < 503) (found : (s : State) (rest : Text) → IsAt old s rest → Found (next_record default_config s [] [] rest) new true fields) where
-    stands : whole ≡ after rows (row_then line total (row_of fields) (λ more. rows_from (line + 1) more (rest_of (503 - (line + 1)) (found g.state g.rest g.at).0.1 (found g.state g.rest g.at).0.2)))
+    stands : whole
+        ≡ after rows
+        (row_then line total (row_of fields)
+        (λ more. rows_from (line + 1) more (rest_of (503 - (line + 1)) (found g.state g.rest g.at).0.1 (found g.state g.rest g.at).0.2)))
     stands =
         let f = found g.state g.rest g.at in
         let k : 503 - line ≡ suc (503 - (line + 1)) = omega arith in
         g.is ∙ ap (λ rs. after rows (rows_from line total rs)) (records_more (503 - (line + 1)) (503 - line) g.state g.rest f.0 k f.1)
-        ∙ ap (λ (r : List Text). after rows (row_then line total (row_of r) (λ more. rows_from (line + 1) more (rest_of (503 - (line + 1)) f.0.1 f.0.2)))) (sym f.2)
+        ∙ ap (λ (r : List Text). after rows (row_then line total (row_of r) (λ more. rows_from (line + 1) more (rest_of (503 - (line + 1)) f.0.1 f.0.2))))
+        (sym f.2)
 
     pub is_bad : None ≡ row_of fields → whole ≡ Err line
     is_bad e = stands ∙ rw (← e) refl
@@ -127,6 +134,7 @@ under_header text p fields e f h said below =
 
 -- a fault below the header row is the fault of the whole text
 pub fault_under_header : (text : Text) (p : Read) (fields : List Text) → next_record default_config st.StartRecord [] [] (strip_bom text) ≡ Some p
-    → fields ≡ p.0 → true ≡ is_header fields → (fault : StockFault) → IsFaultOf fault (rows_from 2 0 (rest_of 501 p.1 p.2)) → IsFaultOf fault (stock_rows_of text)
+    → fields ≡ p.0 → true ≡ is_header fields → (fault : StockFault)
+    → IsFaultOf fault (rows_from 2 0 (rest_of 501 p.1 p.2)) → IsFaultOf fault (stock_rows_of text)
 fault_under_header text p fields e f h (Bad bad) below = under_header text p fields e f h (Err bad.line) below
 fault_under_header text p fields e f h Memory below = tt

@@ -1,5 +1,10 @@
 -- The commands under a mark that a branch served in a history, and their places in a life.
-use Rattle.shop_model.proofs.Common.{◌≡◌, ◌∙◌, ◌⊎◌, inl, inr, ℕ, zero, suc, List, [], ◌∷◌, ◌++◌, take, Bool, true, false, Some, refl, sym, ap, subst, eqb-true, ⊤, ◌==◌, slice_get, option_to_list, cases_Bool, Text, Command, Act, Dispatch, Rules, Verdict, Again, Refused, Accepted, verdict, office_verdict, Request, Do, Office, Input, FromOffice, Arrive, Own, State, reply_to, if_accepted, moved, Answer, Books, Event, Caller, Counter, HeadOffice, Nobody, shop_of, caller_in, after, last_books, parcel_seen, other_seen, office_seen, seen_of, view, is_decided, is_store_failure, counted_in, Asks, books_next, Life, failing, in_flight, acted_in, history_of, begun}
+use Rattle.shop_model.proofs.Common.{◌≡◌, ◌∙◌, ◌⊎◌, inl, inr, ℕ, zero, suc, List, [], ◌∷◌, ◌++◌, take, Bool, true, false, Some, refl, sym, ap, subst, eqb-true}
+use Rattle.shop_model.proofs.Common.{⊤, ◌==◌, slice_get, option_to_list, cases_Bool, Text, Command, Act, Dispatch, Rules, Verdict, Again, Refused, Accepted}
+use Rattle.shop_model.proofs.Common.{verdict, office_verdict, Request, Do, Office, Input, FromOffice, Arrive, Own, State, reply_to, if_accepted, moved, Answer}
+use Rattle.shop_model.proofs.Common.{Books, Event, Caller, Counter, HeadOffice, Nobody, shop_of, caller_in, after, last_books, parcel_seen, other_seen}
+use Rattle.shop_model.proofs.Common.{office_seen, seen_of, view, is_decided, is_store_failure, counted_in, Asks, books_next, Life, failing, in_flight, acted_in}
+use Rattle.shop_model.proofs.Common.{history_of, begun}
 use Rattle.shop_model.proofs.Histories.{last_append}
 use Rattle.shop_model.proofs.Resends.{same_some, same_none, failure_undecided}
 use Rattle.till_model.specs.Tills.{Served, served_in}
@@ -26,7 +31,9 @@ quiet_parcel b source act books = tt
 
 quiet_other : (rules : Rules) (b source : ℕ) (request : Request) (books : Books) → Quiet (other_seen rules b source request books)
 unfolding Quiet
-quiet_other rules b source (Do command) books = quiet_if (verdict rules source books.catalogue (shop_of source books) command) (parcel_seen b source command.act books) (quiet_parcel b source command.act books)
+quiet_other rules b source (Do command) books =
+    quiet_if (verdict rules source books.catalogue (shop_of source books) command)
+    (parcel_seen b source command.act books) (quiet_parcel b source command.act books)
 quiet_other rules b source request books = tt
 
 quiet_office : (rules : Rules) (request : Request) (books : Books) → Quiet (office_seen rules request books)
@@ -39,7 +46,8 @@ module _ (has_mark : Text → Bool) (rules : Rules) (b : ℕ) where
   abbrev StandsIn : List Input → Served → Type 0
   StandsIn inputs it = (s : State) × (n : ℕ) × (slice_get (served_in has_mark rules b inputs s) n ≡ Some it)
 
-  quiet_rest : (inputs rest : List Input) (s : State) (n : ℕ) (it : Served) → Quiet inputs → slice_get (served_in has_mark rules b (inputs ++ rest) s) n ≡ Some it → StandsIn rest it
+  quiet_rest : (inputs rest : List Input) (s : State) (n : ℕ) (it : Served) → Quiet inputs
+      → slice_get (served_in has_mark rules b (inputs ++ rest) s) n ≡ Some it → StandsIn rest it
   unfolding Quiet
   quiet_rest [] rest s n it q there = (s, n, there)
   quiet_rest (FromOffice command ∷ inputs) rest s n it q there = quiet_rest inputs rest (moved rules b (FromOffice command) s) n it q there
@@ -50,7 +58,8 @@ module _ (has_mark : Text → Bool) (rules : Rules) (b : ℕ) where
   abbrev IsOfOne : Request → List Input → Served → Type 0
   IsOfOne request rest it = ((request ≡ Do it.command) × (has_mark it.command.key ≡ true)) ⊎ StandsIn rest it
 
-  own_rest : (request : Request) (rest : List Input) (s : State) (n : ℕ) (it : Served) → slice_get (served_in has_mark rules b (Own request ∷ rest) s) n ≡ Some it → IsOfOne request rest it
+  own_rest : (request : Request) (rest : List Input) (s : State) (n : ℕ) (it : Served)
+      → slice_get (served_in has_mark rules b (Own request ∷ rest) s) n ≡ Some it → IsOfOne request rest it
   own_rest (Do command) rest s n it there = elim (cases_Bool (has_mark command.key)) [
     | inl is ↦ by_place n is (rw is at there)
     | inr isnt ↦ inr (moved rules b (Own (Do command)) s, n, rw isnt at there)
@@ -59,7 +68,8 @@ module _ (has_mark : Text → Bool) (rules : Rules) (b : ℕ) where
       first : Served
       first = record { command = command; reply = reply_to rules b s.catalogue s.shop (Do command) }
 
-      by_place : (n : ℕ) → has_mark command.key ≡ true → slice_get (first ∷ served_in has_mark rules b rest (moved rules b (Own (Do command)) s)) n ≡ Some it → IsOfOne (Do command) rest it
+      by_place : (n : ℕ) → has_mark command.key ≡ true
+          → slice_get (first ∷ served_in has_mark rules b rest (moved rules b (Own (Do command)) s)) n ≡ Some it → IsOfOne (Do command) rest it
       by_place zero is there =
           let same : command ≡ it.command = ap (λ (x : Served). x.command) (same_some first it there) in
           inl (ap (λ (x : Command). Do x) same, subst (λ (x : Command). has_mark x.key ≡ true) same is)
@@ -86,7 +96,8 @@ module _ (has_mark : Text → Bool) (rules : Rules) (b : ℕ) where
     pub AllCame : List Event → Books → Type 0
     AllCame [] books = ⊤
     AllCame (e ∷ events) books =
-        ((command : Command) → caller_in e books ≡ Counter b → e.request (Counter b) ≡ Do command → has_mark command.key ≡ true → P command) × AllCame events (after rules e books)
+        ((command : Command) → caller_in e books ≡ Counter b → e.request (Counter b) ≡ Do command → has_mark command.key ≡ true → P command)
+        × AllCame events (after rules e books)
 
     pub all_served : (events : List Event) (books : Books) (s : State) (n : ℕ) (it : Served) → AllCame events books
         → slice_get (served_in has_mark rules b (view rules b events books) s) n ≡ Some it → P it.command
@@ -105,7 +116,8 @@ module _ (has_mark : Text → Bool) (rules : Rules) (b : ℕ) where
 
     -- `P` holds for each command under the mark that the branch asks for in a life
     abbrev pub AllAsked : List Event → List Answer → Books → Type 0
-    AllAsked events answers books = (i : ℕ) (command : Command) → Asks rules events answers books i (Counter b) (Do command) → has_mark command.key ≡ true → P command
+    AllAsked events answers books =
+        (i : ℕ) (command : Command) → Asks rules events answers books i (Counter b) (Do command) → has_mark command.key ≡ true → P command
 
     asked_first : (e : Event) (events : List Event) (answers : List Answer) (books : Books) → AllAsked (e ∷ events) answers books
         → (command : Command) → caller_in e books ≡ Counter b → e.request (Counter b) ≡ Do command → has_mark command.key ≡ true → P command
@@ -113,7 +125,8 @@ module _ (has_mark : Text → Bool) (rules : Rules) (b : ℕ) where
 
     asked_next : (e : Event) (events : List Event) (a : Answer) (answers : List Answer) (books : Books) → AllAsked (e ∷ events) (a ∷ answers) books
         → AllAsked events answers (books_next rules e a books)
-    asked_next e events a answers books asked i command x marked = asked (suc i) command (record { event = x.event; stands = x.stands; who = x.who; what = x.what }) marked
+    asked_next e events a answers books asked i command x marked =
+        asked (suc i) command (record { event = x.event; stands = x.stands; who = x.who; what = x.what }) marked
 
     counted_came : (events : List Event) (answers : List Answer) (books : Books) → AllAsked events answers books → AllCame (counted_in events answers) books
     unfolding AllCame
@@ -149,7 +162,8 @@ module _ (has_mark : Text → Bool) (rules : Rules) (b : ℕ) where
           let ends : last_books rules (counted_in (e ∷ events) (a ∷ answers)) books ≡ books = rw (lacks, failed) refl in
           let flies : option_to_list (failing (e ∷ events) (a ∷ answers)) ≡ e ∷ [] = rw failed refl in
           let here : AllCame (e ∷ []) books = (asked_first e events (a ∷ answers) books asked, tt) in
-          subst (λ (es : List Event). AllCame es (last_books rules (counted_in (e ∷ events) (a ∷ answers)) books)) (sym flies) (subst (λ (bs : Books). AllCame (e ∷ []) bs) (sym ends) here)
+          subst (λ (es : List Event). AllCame es (last_books rules (counted_in (e ∷ events) (a ∷ answers)) books))
+          (sym flies) (subst (λ (bs : Books). AllCame (e ∷ []) bs) (sym ends) here)
       | inr sound ↦
           let next = books_next rules e a books in
           let rest = flight_came events answers next (asked_next e events a answers books asked) in
@@ -163,12 +177,14 @@ module _ (has_mark : Text → Bool) (rules : Rules) (b : ℕ) where
     life_came : (life : Life) (books : Books) → AllAsked life.events life.answers books → AllCame (acted_in life) books
     unfolding AllCame
     life_came life books asked =
-        came_append (counted_in life.events life.answers) (in_flight life) books (counted_came life.events life.answers books asked) (elim (cases_Bool life.acted) [
+        came_append (counted_in life.events life.answers) (in_flight life) books
+        (counted_came life.events life.answers books asked) (elim (cases_Bool life.acted) [
           | inl did ↦ rw did (flight_came life.events life.answers books asked)
           | inr not ↦ rw not tt
         ])
 
-    pub lives_came : (lives : List Life) (old : Books) → ((n : ℕ) (life : Life) → slice_get lives n ≡ Some life → AllAsked life.events life.answers (begun rules lives old n)) → AllCame (history_of lives) old
+    pub lives_came : (lives : List Life) (old : Books)
+        → ((n : ℕ) (life : Life) → slice_get lives n ≡ Some life → AllAsked life.events life.answers (begun rules lives old n)) → AllCame (history_of lives) old
     unfolding AllCame
     lives_came [] old asked = tt
     lives_came (l ∷ lives) old asked =

@@ -1,5 +1,6 @@
 -- A book that a till's words extended stays recorded.
-use Rattle.shop_model.proofs.Common.{◌≡◌, ◌∙◌, ℕ, zero, suc, ◌+◌, List, [], ◌∷◌, ◌++◌, length, Option, Some, sym, ap, subst, arith, slice_get, AllByRecursion, Text, Command, OfficeAsk, Rules, Answer, Books}
+use Rattle.shop_model.proofs.Common.{◌≡◌, ◌∙◌, ℕ, zero, suc, ◌+◌, List, [], ◌∷◌, ◌++◌, length, Option, Some, sym, ap, subst, arith, slice_get, AllByRecursion}
+use Rattle.shop_model.proofs.Common.{Text, Command, OfficeAsk, Rules, Answer, Books}
 use Rattle.shop_model.proofs.Resends.{same_some, same_none}
 use Rattle.till_model.proofs.Settled.{all_of}
 use Rattle.till_book.specs.Journal.{Journal}
@@ -27,7 +28,8 @@ all_join : {X : Type 0} (P : X → Type 0) (xs ys : List X) → AllByRecursion P
 all_join P [] ys one two = two
 all_join P (x ∷ xs) ys one two = (one.0, all_join P xs ys one.1 two)
 
-told_at : (Tells : List ℕ → Answer → Type 0) (entries : List (List ℕ)) (n : ℕ) (answers : List Answer) → AreTold Tells entries n answers → (i : ℕ) (answer : Answer)
+told_at : (Tells : List ℕ → Answer → Type 0) (entries : List (List ℕ)) (n : ℕ) (answers : List Answer)
+    → AreTold Tells entries n answers → (i : ℕ) (answer : Answer)
     → slice_get answers i ≡ Some answer → IsToldAt Tells entries (n + i) answer
 told_at Tells entries n [] told i answer there = absurd (same_none answer there)
 told_at Tells entries n (x ∷ answers) told zero answer there =
@@ -39,7 +41,8 @@ told_at Tells entries n (x ∷ answers) told (suc i) answer there =
 
 -- ---- a book
 
-module _ {R W : Type 0} (opens : R → W → Type 0) (remaining : R → Option (List ℕ)) (contents : W → Option (List ℕ)) (rules : Rules) (b : ℕ) (lives : List ServedLife) (old : Books) where
+module _ {R W : Type 0} (opens : R → W → Type 0) (remaining : R → Option (List ℕ))
+    (contents : W → Option (List ℕ)) (rules : Rules) (b : ℕ) (lives : List ServedLife) (old : Books) where
   -- an exchange that the chain answered was recorded
   was_answered : AreAnswered opens remaining contents rules b lives old → (request : List ℕ) (answer : Answer) → IsTold opens remaining contents request answer
       → WasRecorded rules b lives old request answer
@@ -47,7 +50,8 @@ module _ {R W : Type 0} (opens : R → W → Type 0) (remaining : R → Option (
       let till : Streams = record { input = remaining it.reader; left = remaining it.read; output = contents it.writer; written = contents it.written } in
       was_recorded rules b lives old request answer till it.writes it.reads it.decided (answered request answer it)
 
-  module _ (before after : Journal) (answered : AreAnswered opens remaining contents rules b lives old) (extends : Extends (IsTold opens remaining contents) before after) where
+  module _ (before after : Journal) (answered : AreAnswered opens remaining contents rules b lives old)
+      (extends : Extends (IsTold opens remaining contents) before after) where
     abbrev Was : ℕ → Answer → Type 0
     Was i answer = (request : List ℕ) × (slice_get after.entries i ≡ Some request) × WasRecorded rules b lives old request answer
 
@@ -61,7 +65,10 @@ module _ {R W : Type 0} (opens : R → W → Type 0) (remaining : R → Option (
     stay_recorded : WereRecorded rules b lives old before → WereRecorded rules b lives old after
     stay_recorded recorded i answer there =
         each_place Was before.replies extends.replies.0 (λ k a at. let it = recorded k a at in (it.0, there_still k it.0 it.1, it.2))
-        (λ k a at. from_told (length before.replies + k) a (told_at (IsTold opens remaining contents) after.entries (length before.replies) extends.replies.0 extends.replies.2 k a at)) i answer
+        (λ k a at.
+        from_told (length before.replies + k) a
+        (told_at (IsTold opens remaining contents) after.entries (length before.replies) extends.replies.0 extends.replies.2 k a at))
+        i answer
         (ap (λ (rs : List Answer). slice_get rs i) (sym extends.replies.1) ∙ there)
 
     abbrev Noted : Journal → ℕ × Answer → Type 0
@@ -82,13 +89,15 @@ module _ {R W : Type 0} (opens : R → W → Type 0) (remaining : R → Option (
         (all_join (Noted after) before.settled extends.settled.0 (all_of (Noted before) (Noted after) noted_still before.settled noted)
         (all_of (IsSettledAt (IsTold opens remaining contents) after.entries) (Noted after) settled_noted extends.settled.0 extends.settled.2))
 
-pub stays : {R W : Type 0} (opens : R → W → Type 0) (remaining : R → Option (List ℕ)) (contents : W → Option (List ℕ)) → ExtendedBooksStayRecorded opens remaining contents
+pub stays : {R W : Type 0} (opens : R → W → Type 0) (remaining : R → Option (List ℕ)) (contents : W → Option (List ℕ))
+    → ExtendedBooksStayRecorded opens remaining contents
 stays opens remaining contents rules b lives old before after answered extends = (
   stay_recorded opens remaining contents rules b lives old before after answered extends,
   stay_noted opens remaining contents rules b lives old before after answered extends,
 )
 
-pub words_reach : {R W : Type 0} (opens : R → W → Type 0) (remaining : R → Option (List ℕ)) (contents : W → Option (List ℕ)) → WordsReachTheDisk opens remaining contents
+pub words_reach : {R W : Type 0} (opens : R → W → Type 0) (remaining : R → Option (List ℕ)) (contents : W → Option (List ℕ))
+    → WordsReachTheDisk opens remaining contents
 words_reach opens remaining contents mark rules look b journal commands lives old new lived numbers unused book come answered extends =
     let empty : Journal = record { entries = []; replies = []; settled = [] } in
     settled_to_disk mark rules look b journal commands lives old new lived numbers unused book come

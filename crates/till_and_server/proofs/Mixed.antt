@@ -63,10 +63,12 @@ mixed_in lists whole e (goes front back es next all mixed) has = elim (has_besid
   | inr there ↦ in_more e all next (mixed_in (front ++ es ∷ back) all e mixed there)
 ]
 
-has_at : (tills : List Till) (j : ℕ) (till : Till) (x : List Exchange) → slice_get tills j ≡ Some till → till.exchanges ≡ x → Has x (map (λ till. till.exchanges) tills)
+has_at : (tills : List Till) (j : ℕ) (till : Till) (x : List Exchange)
+    → slice_get tills j ≡ Some till → till.exchanges ≡ x → Has x (map (λ till. till.exchanges) tills)
 has_at [] j till x there is = absurd (same_none till there)
 has_at (t ∷ tills) zero till x there is = inl (ap (λ (it : Till). it.exchanges) (same_some t till there) ∙ is)
 has_at (t ∷ tills) (suc j) till x there is = inr (has_at tills j till x there is)
 
 pub among_many : OneAmongMany
-among_many tills whole mixed j till exchange there is = mixed_in (map (λ till. till.exchanges) tills) whole exchange mixed (has_at tills j till (exchange ∷ []) there is)
+among_many tills whole mixed j till exchange there is =
+    mixed_in (map (λ till. till.exchanges) tills) whole exchange mixed (has_at tills j till (exchange ∷ []) there is)

@@ -1,5 +1,6 @@
 -- One message and its answer over one connection.
-use Rattle.shop_model.proofs.Common.{◌≡◌, ◌∙◌, ◌⊎◌, inl, inr, ℕ, suc, List, [], ◌∷◌, ◌++◌, length, Option, Some, None, refl, sym, ap, subst, append-nil, append_assoc, Appends, Consumes, append_cancel_left, Answer}
+use Rattle.shop_model.proofs.Common.{◌≡◌, ◌∙◌, ◌⊎◌, inl, inr, ℕ, suc, List, [], ◌∷◌, ◌++◌, length, Option, Some, None, refl, sym, ap, subst, append-nil}
+use Rattle.shop_model.proofs.Common.{append_assoc, Appends, Consumes, append_cancel_left, Answer}
 use Rattle.std.specs.List.{flat_map}
 use Rattle.http_messages.specs.Message.{Message}
 use Rattle.http_messages.specs.Input.{HasMessage}
@@ -12,7 +13,8 @@ use Rattle.till_and_server.specs.Laws.{one_exchange, OneMessageIsRead, OneAnswer
 use Rattle.till_and_server.proofs.Talks.{Reads, reads, talks, message_has_bytes, last_is_none, one_of, none_in}
 
 -- the bytes that came are a prefix of the request
-came_of : (request : List ℕ) (output written input : Option (List ℕ)) → IsWritten request output written → (c : Carries output written input) → (more : List ℕ) × (request ≡ c.came ++ more)
+came_of : (request : List ℕ) (output written input : Option (List ℕ)) → IsWritten request output written
+    → (c : Carries output written input) → (more : List ℕ) × (request ≡ c.came ++ more)
 came_of request output written input w c =
     let one : Appends (Some c.held) written w.front = subst (λ (it : Option (List ℕ)). Appends it written w.front) c.begins w.writes in
     let two : Appends (Some c.held) (Some (c.held ++ c.sent)) w.front = subst (λ (it : Option (List ℕ)). Appends (Some c.held) it w.front) c.ends one in
@@ -39,7 +41,8 @@ record IsFront (request : List ℕ) (m : Message) (came : List ℕ) (exchanges :
   which : (messages_of exchanges ≡ []) ⊎ ((messages_of exchanges ≡ m ∷ []) × (it.read ≡ request))
   all : it.read ≡ request → came ≡ request
 
-front_is : (request : List ℕ) (m : Message) (came more : List ℕ) (exchanges : List Exchange) → HasMessage request m [] → request ≡ came ++ more → (it : Reads came exchanges)
+front_is : (request : List ℕ) (m : Message) (came more : List ℕ) (exchanges : List Exchange)
+    → HasMessage request m [] → request ≡ came ++ more → (it : Reads came exchanges)
     → IsFront request m came exchanges it
 front_is request m came more exchanges has parts it =
     let all : request ≡ it.read ++ (it.left ++ more) = parts ∙ ap (λ (l : List ℕ). l ++ more) it.reads ∙ append_assoc it.read it.left more in
@@ -75,7 +78,8 @@ all_texts (e ∷ es) = ap (λ (l : List ℕ). text_of e.answer ++ l) (all_texts 
 regroup : (a b c d : List ℕ) → ((a ++ b) ++ c) ++ d ≡ a ++ (b ++ (c ++ d))
 regroup a b c d = append_assoc (a ++ b) c d ∙ append_assoc a b (c ++ d)
 
-was_read : (came bytes : List ℕ) (input left : Option (List ℕ)) → input ≡ Some came → Consumes input left bytes → (behind : List ℕ) × (came ≡ bytes ++ behind) × (left ≡ Some behind)
+was_read : (came bytes : List ℕ) (input left : Option (List ℕ)) → input ≡ Some came
+    → Consumes input left bytes → (behind : List ℕ) × (came ≡ bytes ++ behind) × (left ≡ Some behind)
 was_read came bytes input left is x = by left (subst (λ (it : Option (List ℕ)). Consumes it left bytes) is x)
   where
     by : (left : Option (List ℕ)) → Consumes (Some came) left bytes → (behind : List ℕ) × (came ≡ bytes ++ behind) × (left ≡ Some behind)
@@ -105,7 +109,9 @@ answer_read request token command says answer exchanges x =
     ∙ t.writes
     ∙ ap (λ (l : List ℕ). l ++ t.unsent) (back.parts ∙ ap (λ (l : List ℕ). l ++ back.lost) got.1)
     ∙ regroup (answer_bytes answer) got.0 back.lost t.unsent in
-    let one = carried.one_exchange request t.it.read f.more t.it.rest behind m (messages_of exchanges) (answers_of exchanges) answer (message_has_bytes request m has) has f.parts t.it.splits
+    let one =
+    carried.one_exchange request t.it.read f.more t.it.rest behind m (messages_of exchanges)
+    (answers_of exchanges) answer (message_has_bytes request m has) has f.parts t.it.splits
     (as_many exchanges) x.short x.fits (all_texts exchanges ∙ bytes) in
     let e = one_of m exchanges one.0 in
     let same : e.0 ≡ answer = same_answer e.0 answer (sym (ap answers_of e.1) ∙ one.1) in

@@ -1,5 +1,6 @@
 -- The replies of a book stay recorded from exchanges.
-use Rattle.shop_model.proofs.Common.{◌≡◌, ◌≢◌, ◌⊎◌, inl, inr, ℕ, zero, suc, List, [], ◌∷◌, ◌++◌, length, Some, refl, sym, ap, subst, append-nil, ◌∙◌, slice_get, Appends, Consumes, Rules, Answer, Books}
+use Rattle.shop_model.proofs.Common.{◌≡◌, ◌≢◌, ◌⊎◌, inl, inr, ℕ, zero, suc, List, [], ◌∷◌, ◌++◌, length, Some, refl, sym, ap, subst, append-nil, ◌∙◌, slice_get}
+use Rattle.shop_model.proofs.Common.{Appends, Consumes, Rules, Answer, Books}
 use Rattle.shop_model.proofs.Resends.{same_some, same_none}
 use Rattle.till_client.specs.Replies.{answer_bytes}
 use Rattle.till_book.specs.Journal.{Journal, waiting, with_reply}
@@ -41,7 +42,8 @@ was_recorded rules b lives old request answer till writes reads decided x = reco
   decided = decided;
 }
 
-one_more : (rules : Rules) (b : ℕ) (lives : List ServedLife) (old : Books) (journal : Journal) (request : List ℕ) (answer : Answer) → WereRecorded rules b lives old journal
+one_more : (rules : Rules) (b : ℕ) (lives : List ServedLife) (old : Books) (journal : Journal) (request : List ℕ) (answer : Answer)
+    → WereRecorded rules b lives old journal
     → waiting journal ≡ Some request → WasRecorded rules b lives old request answer → WereRecorded rules b lives old (with_reply answer journal)
 one_more rules b lives old journal request answer recorded oldest was i other there = elim (before_last journal.replies answer i other there) [
   | inl before ↦ recorded i other before

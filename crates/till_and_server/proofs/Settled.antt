@@ -1,5 +1,6 @@
 -- The settlements of a till's entries, and the outcome of settled entries.
-use Rattle.shop_model.proofs.Common.{◌≡◌, ◌≢◌, ◌∙◌, ℕ, List, [], ◌∷◌, ◌++◌, Ordering, is_gt, cond, true, false, sym, subst, AllByRecursion, Appends, Consumes, Command, Rules, Answer, Books}
+use Rattle.shop_model.proofs.Common.{◌≡◌, ◌≢◌, ◌∙◌, ℕ, List, [], ◌∷◌, ◌++◌, Ordering, is_gt, cond, true, false, sym, subst, AllByRecursion, Appends, Consumes}
+use Rattle.shop_model.proofs.Common.{Command, Rules, Answer, Books}
 use Rattle.sqlite_keyed.specs.Lists.{insert_sorted, sort_by}
 use Rattle.shop_model.proofs.Resends.{same_some}
 use Rattle.till_model.specs.Numbered.{has_mark}
@@ -23,10 +24,14 @@ all_push : {X : Type 0} (P : X → Type 0) (xs : List X) (x : X) → AllByRecurs
 all_push P [] x all is = (is, tt)
 all_push P (y ∷ ys) x all is = (all.0, all_push P ys x all.1 is)
 
-all_inserted : {X : Type 0} (order : X → X → Ordering) (P : X → Type 0) (new : X) (xs : List X) → P new → AllByRecursion P xs → AllByRecursion P (insert_sorted order new xs)
+all_inserted : {X : Type 0} (order : X → X → Ordering) (P : X → Type 0) (new : X) (xs : List X)
+    → P new → AllByRecursion P xs → AllByRecursion P (insert_sorted order new xs)
 all_inserted order P new [] is all = (is, tt)
 all_inserted order P new (x ∷ xs) is all =
-    elim (is_gt (order new x)) as (λ b. AllByRecursion P (cond b (x ∷ insert_sorted order new xs) (new ∷ x ∷ xs))) [ true ↦ (all.0, all_inserted order P new xs is all.1) | false ↦ (is, all) ]
+    elim (is_gt (order new x)) as (λ b. AllByRecursion P (cond b (x ∷ insert_sorted order new xs) (new ∷ x ∷ xs))) [
+      | true ↦ (all.0, all_inserted order P new xs is all.1)
+      | false ↦ (is, all)
+    ]
 
 all_sorted : {X : Type 0} (order : X → X → Ordering) (P : X → Type 0) (xs : List X) → AllByRecursion P xs → AllByRecursion P (sort_by order xs)
 all_sorted order P [] all = tt
@@ -52,7 +57,8 @@ pub are_noted : SettlementsAreNoted
 are_noted rules b lives old = record {
   none = tt;
   enters = λ journal request were.
-      all_of (WasNoted rules b lives old journal) (WasNoted rules b lives old (with_entry request journal)) (one_entry rules b lives old journal request) journal.settled were;
+      all_of (WasNoted rules b lives old journal) (WasNoted rules b lives old (with_entry request journal))
+      (one_entry rules b lives old journal request) journal.settled were;
   delivers = λ journal answer were. were;
   settles = settles rules b lives old;
   replies = λ journal n answer were. were;
@@ -73,5 +79,8 @@ settled_to_disk mark rules look b journal commands lives old new lived numbers u
     let each : WereToldLater rules b commands journal.settled (lives_of lives) old =
     all_of (WasNoted rules b lives old journal) (WasToldLater rules b commands (lives_of lives) old) was journal.settled were in
     settled_for_good.became (has_mark mark) rules look b commands journal.replies (in_order journal.settled) (lives_of lives) old new lived numbers unused
-    (record { own = numbered_own mark commands journal.replies book.numbered; witnessed = are_witnesses mark rules b journal commands lives old book come recorded })
+    (record {
+      own = numbered_own mark commands journal.replies book.numbered;
+      witnessed = are_witnesses mark rules b journal commands lives old book come recorded;
+    })
     (all_sorted _ (WasToldLater rules b commands (lives_of lives) old) journal.settled each)

@@ -9,6 +9,7 @@ use Rattle.till_and_server.specs.Laws.{ServedOverAStop}
 pub served_on : {S : Type 0} (g : Ghosts S) → ServedOverAStop g
 served_on {S} g start mid again last meaning later exchanges more fine before same live honest either behind clean books besides at =
     ∥∥₁_map
-    (resumes g start.limits start mid again last (events_of meaning exchanges) (events_of later more) (answers_of exchanges) (answers_of more) refl fine same live before.takes honest either
+    (resumes g start.limits start mid again last (events_of meaning exchanges) (events_of later more)
+    (answers_of exchanges) (answers_of more) refl fine same live before.takes honest either
     behind.takes clean books besides at)
     (λ it. record { acted = it.acted; new = it.new; besides = it.besides; at = it.at; lives = it.lives })

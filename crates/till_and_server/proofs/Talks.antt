@@ -1,5 +1,6 @@
 -- The bytes that came over a connection and the bytes that were sent, whatever its outcome was.
-use Rattle.shop_model.proofs.Common.{◌≡◌, ◌∙◌, ◌⊎◌, inl, inr, ℕ, ◌<◌, ◌-◌, List, [], ◌∷◌, ◌++◌, length, Option, Some, None, refl, sym, ap, subst, arith, append-nil, append_assoc, length-append, Appends, Consumes, append_cancel_left, Answer}
+use Rattle.shop_model.proofs.Common.{◌≡◌, ◌∙◌, ◌⊎◌, inl, inr, ℕ, ◌<◌, ◌-◌, List, [], ◌∷◌, ◌++◌, length, Option, Some, None, refl, sym, ap, subst, arith}
+use Rattle.shop_model.proofs.Common.{append-nil, append_assoc, length-append, Appends, Consumes, append_cancel_left, Answer}
 use Rattle.std.specs.Io.KnownBytes.{Keeps}
 use Rattle.std.proofs.lemmas.Grind.{flat_map-append}
 use Rattle.httparse.specs.Grammar.{print_blank, print_version, print_end, print_section}
@@ -45,7 +46,8 @@ grown held sent bytes x = append_cancel_left held sent bytes x
 
 -- ---- each outcome of the server's side
 
-end_last : (end : End) (most : ℕ) (es : List Exchange) (left : Option (List ℕ)) (rest last : List ℕ) → IsEnd end most es left rest last → (last ≡ []) ⊎ ((fault : Fault) × IsRefused fault rest)
+end_last : (end : End) (most : ℕ) (es : List Exchange) (left : Option (List ℕ)) (rest last : List ℕ)
+    → IsEnd end most es left rest last → (last ≡ []) ⊎ ((fault : Fault) × IsRefused fault rest)
 end_last Closed most es left rest last x = inl x.4
 end_last Cut most es left rest last x = inl x.5
 end_last Refused most es left rest last x = inr (x.2, x.3)
@@ -53,7 +55,8 @@ end_last Limit most es left rest last x = inl x.2
 end_last Asked most es left rest last x = inl x.2
 end_last StoreFailed most es left rest last x = inl x.2
 
-turn_last : (ending : Option End) (most : ℕ) (es : List Exchange) (left : Option (List ℕ)) (rest last : List ℕ) → GoesOrEnds ending most es left rest last → (last ≡ []) ⊎ ((fault : Fault) × IsRefused fault rest)
+turn_last : (ending : Option End) (most : ℕ) (es : List Exchange) (left : Option (List ℕ)) (rest last : List ℕ)
+    → GoesOrEnds ending most es left rest last → (last ≡ []) ⊎ ((fault : Fault) × IsRefused fault rest)
 turn_last None most es left rest last x = inl x.2
 turn_last (Some end) most es left rest last x = end_last end most es left rest last x
 
@@ -62,7 +65,8 @@ same_kept None written x = tt
 same_kept (Some xs) None x = absurd x
 same_kept (Some xs) (Some ys) x = x ∙ sym (append-nil xs)
 
-turn_refused : (most : ℕ) (line : Line) (server : Streams) (mine : List Exchange) (x : ServesThese (Turns line) most mine server) → (x.last ≡ []) ⊎ ((fault : Fault) × IsRefused fault line.inbox)
+turn_refused : (most : ℕ) (line : Line) (server : Streams) (mine : List Exchange) (x : ServesThese (Turns line) most mine server)
+    → (x.last ≡ []) ⊎ ((fault : Fault) × IsRefused fault line.inbox)
 turn_refused most line server mine x = by_ending (opened most).ending refl
   where
     by_ending : (ending : Option End) → (opened most).ending ≡ ending → (x.last ≡ []) ⊎ ((fault : Fault) × IsRefused fault line.inbox)
@@ -73,7 +77,8 @@ texts_append : (es more : List Exchange) → texts (es ++ more) ≡ texts es ++ 
 texts_append es more = flat_map-append (λ (x : Exchange). text_of x.answer) es more
 
 module _ (most : ℕ) (mine : List Exchange) (came : List ℕ) (server : Streams) (is_input : server.input ≡ Some came) where
-  reads_these : (read : List ℕ) (es : List Exchange) (rest : List ℕ) → Consumes server.input server.left read → HasRun (λ it. it ≡ mine) read es rest → Reads came mine
+  reads_these : (read : List ℕ) (es : List Exchange) (rest : List ℕ)
+      → Consumes server.input server.left read → HasRun (λ it. it ≡ mine) read es rest → Reads came mine
   reads_these read es rest x ran =
       let front = front_of came read server.left (subst (λ (it : Option (List ℕ)). Consumes it server.left read) is_input x) in
       record {
@@ -88,7 +93,13 @@ module _ (most : ℕ) (mine : List Exchange) (came : List ℕ) (server : Streams
   reads (Ends served) x = reads_these x.read x.exchanges x.rest x.consumed x.ran
   reads (Breaks (Read replies)) x = reads_these x.read x.exchanges x.rest x.consumed x.ran
   reads (Breaks (Write replies)) x = reads_these x.read (x.exchanges ++ x.failed) x.rest x.consumed x.ran
-  reads (Breaks Memory) x = record { read = []; left = came; rest = []; reads = refl; splits = subst (λ (es : List Exchange). HasMessages [] (messages_of es) []) x.0 refl }
+  reads (Breaks Memory) x = record {
+    read = [];
+    left = came;
+    rest = [];
+    reads = refl;
+    splits = subst (λ (es : List Exchange). HasMessages [] (messages_of es) []) x.0 refl;
+  }
   reads (Turns line) x = reads_these x.read x.exchanges line.inbox x.consumed (record { splits = x.ran.splits; ran = x.ran.ran })
 
   module _ (held sent : List ℕ) (is_output : server.output ≡ Some held) (is_written : server.written ≡ Some (held ++ sent)) where
@@ -116,7 +127,8 @@ module _ (most : ℕ) (mine : List Exchange) (came : List ℕ) (server : Streams
     talks (Breaks (Write replies)) x =
         let same : x.exchanges ++ x.failed ≡ mine = x.ran.ran in
         let wrote : sent ≡ texts x.exchanges ++ x.part = was_sent (texts x.exchanges ++ x.part) x.writes in
-        let behind : texts x.exchanges ++ (x.part ++ x.more) ≡ sent ++ x.more = sym (append_assoc (texts x.exchanges) x.part x.more) ∙ ap (λ (l : List ℕ). l ++ x.more) (sym wrote) in
+        let behind : texts x.exchanges ++ (x.part ++ x.more) ≡ sent ++ x.more =
+        sym (append_assoc (texts x.exchanges) x.part x.more) ∙ ap (λ (l : List ℕ). l ++ x.more) (sym wrote) in
         elim x.cut [
           | inl (e, is, text) ↦
               let all : texts mine ≡ texts x.exchanges ++ (x.part ++ x.more) =
@@ -153,7 +165,8 @@ module _ (most : ℕ) (mine : List Exchange) (came : List ℕ) (server : Streams
       it = reads (Turns line) x;
       last = x.last;
       unsent = line.unsent;
-      writes = ap (λ (es : List Exchange). texts es ++ x.last) (sym x.ran.ran) ∙ x.splits ∙ ap (λ (l : List ℕ). l ++ line.unsent) (sym (was_sent x.sent x.writes));
+      writes =
+          ap (λ (es : List Exchange). texts es ++ x.last) (sym x.ran.ran) ∙ x.splits ∙ ap (λ (l : List ℕ). l ++ line.unsent) (sym (was_sent x.sent x.writes));
       refused = turn_refused most line server mine x;
     }
 
@@ -165,7 +178,9 @@ some_before front more = omega (arith, length-append front (32 ∷ more))
 
 pub message_has_bytes : (request : List ℕ) (m : Message) → HasMessage request m [] → 0 < length request
 message_has_bytes request m (h, after, size, has, small, there, m_is, rest_is) =
-    let parts : request ≡ print_blank h.blank ++ (h.method ++ 32 ∷ (h.target ++ 32 ∷ (print_version h.minor ++ (print_end h.line_end ++ (print_section h.fields h.last ++ after))))) =
+    let parts : request
+    ≡ print_blank h.blank
+    ++ (h.method ++ 32 ∷ (h.target ++ 32 ∷ (print_version h.minor ++ (print_end h.line_end ++ (print_section h.fields h.last ++ after))))) =
     has.head.reads.1 ∙ print_request-append h after in
     let tail = h.target ++ 32 ∷ (print_version h.minor ++ (print_end h.line_end ++ (print_section h.fields h.last ++ after))) in
     let long : length request ≡ length (print_blank h.blank ++ (h.method ++ 32 ∷ tail)) = ap length parts in
@@ -181,11 +196,13 @@ never_refused BadHead input m rest has x = HasMessage-not-bad input m rest has x
 never_refused TooLong input m rest has x = HasMessage-not-long input m rest has x
 
 -- no rest of a prefix of one message is refused
-none_refused : (request read more rest : List ℕ) (m : Message) (ms : List Message) (fault : Fault) → HasMessage request m [] → request ≡ read ++ more → HasMessages read ms rest
+none_refused : (request read more rest : List ℕ) (m : Message) (ms : List Message) (fault : Fault)
+    → HasMessage request m [] → request ≡ read ++ more → HasMessages read ms rest
     → (ms ≡ []) ⊎ ((ms ≡ m ∷ []) × (read ≡ request)) → IsRefused fault rest → ⊥
 none_refused request read more rest m ms fault has parts reads (inl none) bad =
     let same : rest ≡ read = subst (λ (it : List Message). HasMessages read it rest) none reads in
-    let whole : IsRefused fault request = subst (λ (l : List ℕ). IsRefused fault l) (sym parts) (refused_more fault read more (subst (λ (l : List ℕ). IsRefused fault l) same bad)) in
+    let whole : IsRefused fault request =
+    subst (λ (l : List ℕ). IsRefused fault l) (sym parts) (refused_more fault read more (subst (λ (l : List ℕ). IsRefused fault l) same bad)) in
     never_refused fault request m [] has whole
 none_refused request read more rest m ms fault has parts reads (inr (one, all)) bad =
     let it : (after : List ℕ) × HasMessage read m after × (rest ≡ after) = subst (λ (it : List Message). HasMessages read it rest) one reads in
@@ -193,10 +210,12 @@ none_refused request read more rest m ms fault has parts reads (inr (one, all)) 
     let none : rest ≡ [] = it.2 ∙ sym (HasMessage-unique request m m [] it.0 has whole).1 in
     never_refused fault request m [] has (refused_more fault [] request (subst (λ (l : List ℕ). IsRefused fault l) none bad))
 
-pub last_is_none : (request read more rest last : List ℕ) (m : Message) (ms : List Message) → HasMessage request m [] → request ≡ read ++ more → HasMessages read ms rest
+pub last_is_none : (request read more rest last : List ℕ) (m : Message) (ms : List Message)
+    → HasMessage request m [] → request ≡ read ++ more → HasMessages read ms rest
     → (ms ≡ []) ⊎ ((ms ≡ m ∷ []) × (read ≡ request)) → (last ≡ []) ⊎ ((fault : Fault) × IsRefused fault rest) → last ≡ []
 last_is_none request read more rest last m ms has parts reads which (inl none) = none
-last_is_none request read more rest last m ms has parts reads which (inr (fault, bad)) = absurd (none_refused request read more rest m ms fault has parts reads which bad)
+last_is_none request read more rest last m ms has parts reads which (inr (fault, bad)) =
+    absurd (none_refused request read more rest m ms fault has parts reads which bad)
 
 pub one_of : (m : Message) (es : List Exchange) → messages_of es ≡ m ∷ [] → (answer : Answer) × (es ≡ one_exchange m answer)
 one_of m [] is = absurd (clash is)

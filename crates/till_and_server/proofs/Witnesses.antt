@@ -1,5 +1,6 @@
 -- The witnesses of a till's book, and the outcome of its entries.
-use Rattle.shop_model.proofs.Common.{◌≡◌, ◌≢◌, ◌∙◌, inl, inr, ℕ, zero, suc, List, [], ◌∷◌, ◌++◌, true, Some, None, refl, sym, subst, ap, slice_get, Text, Command, Rules, Do, Answer, Books, Event, Counter, state_of, is_decided, Asks, Life, history_of, begun}
+use Rattle.shop_model.proofs.Common.{◌≡◌, ◌≢◌, ◌∙◌, inl, inr, ℕ, zero, suc, List, [], ◌∷◌, ◌++◌, true, Some, None, refl, sym, subst, ap, slice_get, Text}
+use Rattle.shop_model.proofs.Common.{Command, Rules, Do, Answer, Books, Event, Counter, state_of, is_decided, Asks, Life, history_of, begun}
 use Rattle.sqlite_trees.specs.declared.store.Store.{Ghosts}
 use Rattle.http_messages.specs.Message.{Message}
 use Rattle.http_messages.specs.Input.{HasMessage}
@@ -24,7 +25,8 @@ use Rattle.till_and_server.proofs.OneConnection.{message_read, answer_read}
 use Rattle.till_and_server.proofs.InLives.{unmapped_at, are_answered}
 use Rattle.till_and_server.proofs.Came.{AllAsked, all_served, lives_came}
 
-over_one : {S : Type 0} (g : Ghosts S) (meaning : Meaning) (old new : Chained S) (m : Message) (answer : Answer) (exchanges : List Exchange) → exchanges ≡ one_exchange m answer
+over_one : {S : Type 0} (g : Ghosts S) (meaning : Meaning) (old new : Chained S) (m : Message) (answer : Answer) (exchanges : List Exchange)
+    → exchanges ≡ one_exchange m answer
     → RunsOver g meaning old new exchanges → RunsOne g meaning old new m answer
 over_one {S} g meaning old new m answer exchanges is ran =
     let over : RunsOver g meaning old new (one_exchange m answer) = subst (λ (es : List Exchange). RunsOver g meaning old new es) is ran in
@@ -48,7 +50,8 @@ pub record Said (commands : List Command) (k : ℕ) (request : List ℕ) : Type 
   pub there : slice_get commands k ≡ Some command
   pub says : Says request command
 
-pub said_at : (entries : List (List ℕ)) (commands : List Command) (k : ℕ) (request : List ℕ) → Say entries commands → slice_get entries k ≡ Some request → Said commands k request
+pub said_at : (entries : List (List ℕ)) (commands : List Command) (k : ℕ) (request : List ℕ)
+    → Say entries commands → slice_get entries k ≡ Some request → Said commands k request
 said_at [] [] k request say e = absurd (same_none request e)
 said_at [] (c ∷ cs) k request say e = absurd say
 said_at (x ∷ xs) [] k request say e = absurd say
@@ -59,7 +62,8 @@ said_at (x ∷ xs) (c ∷ cs) (suc k) request say e = let it = said_at xs cs k r
 abbrev IsEntrys : List Command → List Answer → Command → Type 0
 IsEntrys commands replies command = (i : ℕ) × (entry : Entry) × (slice_get (entries_of commands replies) i ≡ Some entry) × (entry.command ≡ command)
 
-entry_at : (commands : List Command) (replies : List Answer) (k : ℕ) (c command : Command) → slice_get commands k ≡ Some c → c ≡ command → IsEntrys commands replies command
+entry_at : (commands : List Command) (replies : List Answer) (k : ℕ) (c command : Command)
+    → slice_get commands k ≡ Some c → c ≡ command → IsEntrys commands replies command
 entry_at commands replies k c command there is = found commands replies k there
   where
     found : (commands : List Command) (replies : List Answer) (k : ℕ) → slice_get commands k ≡ Some c → IsEntrys commands replies command
@@ -73,7 +77,8 @@ same_command : (one two : Command) → Do one ≡ Do two → one ≡ two
 same_command one two e = cc
 
 -- a message with an entry's bytes asks for the command that the bytes say
-said_same : (meaning : Meaning) (b : ℕ) (request : List ℕ) (token : Text) (m : Message) (event : Event) (command other : Command) → HasMessage request m [] → SaysCommand request token other
+said_same : (meaning : Meaning) (b : ℕ) (request : List ℕ) (token : Text) (m : Message) (event : Event) (command other : Command)
+    → HasMessage request m [] → SaysCommand request token other
     → event_of meaning m ≡ event → event.request (Counter b) ≡ Do command → other ≡ command
 said_same meaning b request token m event command other has says is what =
     let same : m ≡ says.message = (HasMessage-unique request m says.message [] [] has says.sole.whole).0 in
@@ -81,7 +86,8 @@ said_same meaning b request token m event command other has says is what =
     let said : reading_of meaning m (Counter b) ≡ Do other = ap (λ (it : Message). reading_of meaning it (Counter b)) same ∙ says.asks meaning b in
     same_command other command (sym said ∙ asked)
 
-asked_of_entries : (mark : Text) (rules : Rules) (b : ℕ) (entries : List (List ℕ)) (commands : List Command) (replies : List Answer) (lives : List ServedLife) (old : Books)
+asked_of_entries :
+    (mark : Text) (rules : Rules) (b : ℕ) (entries : List (List ℕ)) (commands : List Command) (replies : List Answer) (lives : List ServedLife) (old : Books)
     → Say entries commands → ComeFromEntries mark rules b entries lives old → (n : ℕ) (life : Life) → slice_get (lives_of lives) n ≡ Some life
     → AllAsked (has_mark mark) rules b (IsEntrys commands replies) life.events life.answers (begun rules (lives_of lives) old n)
 asked_of_entries mark rules b entries commands replies lives old say come n life there i command asks marked =
@@ -100,7 +106,8 @@ asked_of_entries mark rules b entries commands replies lives old say come n life
 pub decision : (answer : Answer) → answer.status ≢ 503 → is_decided answer ≡ true
 decision answer isnt = rw (differ_test answer.status 503 isnt) refl
 
-pub was_answered : (rules : Rules) (b : ℕ) (lives : List ServedLife) (old : Books) (request : List ℕ) (command : Command) (answer : Answer) → Says request command
+pub was_answered : (rules : Rules) (b : ℕ) (lives : List ServedLife) (old : Books) (request : List ℕ) (command : Command) (answer : Answer)
+    → Says request command
     → WasRecorded rules b lives old request answer → WasAnswered rules b (lives_of lives) old command answer
 was_answered rules b lives old request command answer (token, says) it =
     let one = answer_read request token command says answer it.exchanges it.exchanged in
@@ -131,4 +138,7 @@ are_witnesses mark rules b journal commands lives old book come recorded = recor
 pub till_and_server : TillAndServer
 till_and_server mark rules look b journal commands lives old new lived numbers unused book come recorded =
     press_to_disk (has_mark mark) rules look b commands journal.replies (lives_of lives) old new lived numbers unused
-    (record { own = numbered_own mark commands journal.replies book.numbered; witnessed = are_witnesses mark rules b journal commands lives old book come recorded })
+    (record {
+      own = numbered_own mark commands journal.replies book.numbered;
+      witnessed = are_witnesses mark rules b journal commands lives old book come recorded;
+    })

@@ -29,7 +29,8 @@ use Rattle.till_work.specs.Entering.{IsTillsBook}
 use Rattle.till_work.specs.Told.{IsTold}
 use Rattle.till_work.specs.Desk.{Extends}
 use Rattle.till_and_server.specs.Streams.{Streams, Carries, IsWritten, Serving, Serves, ServesThese, WasExchanged}
-use Rattle.till_and_server.specs.Lives.{ServedLife, life_of, lives_of, books_then, StandIn, IsTokenOf, IsAnsweredBy, WereRecorded, StaysRecorded, WereNoted, StaysNoted, ComeFromEntries}
+use Rattle.till_and_server.specs.Lives.{ServedLife, life_of, lives_of, books_then, StandIn, IsTokenOf, IsAnsweredBy, WereRecorded, StaysRecorded, WereNoted}
+use Rattle.till_and_server.specs.Lives.{StaysNoted, ComeFromEntries}
 
 -- ---- one connection
 
@@ -47,7 +48,8 @@ one_exchange message answer = record { message = message; answer = answer } ∷ 
 -- Then the server served no message, or that one message. If it served the message, all bytes of the message came.
 abbrev pub OneMessageIsRead : Type 0
 OneMessageIsRead =
-    (request : List ℕ) (token : Text) (command : Command) (says : SaysCommand request token command) (till server : Streams) (serving : Serving) (most : ℕ) (exchanges : List Exchange)
+    (request : List ℕ) (token : Text) (command : Command) (says : SaysCommand request token command)
+    (till server : Streams) (serving : Serving) (most : ℕ) (exchanges : List Exchange)
     → IsWritten request till.output till.written → Carries till.output till.written server.input → ServesThese serving most exchanges server
     → (exchanges ≡ []) ⊎ ((answer : Answer) × (exchanges ≡ one_exchange says.message answer) × (server.input ≡ Some request))
 
@@ -55,7 +57,8 @@ OneMessageIsRead =
 -- The server's answer is the one that the till read, and no bytes follow it.
 abbrev pub OneAnswerIsRead : Type 0
 OneAnswerIsRead =
-    (request : List ℕ) (token : Text) (command : Command) (says : SaysCommand request token command) (answer : Answer) (exchanges : List Exchange) (it : WasExchanged request answer exchanges)
+    (request : List ℕ) (token : Text) (command : Command) (says : SaysCommand request token command)
+    (answer : Answer) (exchanges : List Exchange) (it : WasExchanged request answer exchanges)
     → (exchanges ≡ one_exchange says.message answer) × (it.server.input ≡ Some request) × (it.till.left ≡ Some [])
 
 -- the chain ran over that message's event alone, with that answer
@@ -65,11 +68,15 @@ RunsOne g meaning old new message answer = Takes g old new (Runs (event_of meani
 -- After the exchanges of such a connection, the chain is as it was, or it ran over that one event (`wherever`).
 -- If the till read a whole reply, the chain ran over that event with that answer (`answered`).
 pub record OneEventIsRun {S : Type 0} (g : Ghosts S) : Type 0 where
-  pub wherever : (meaning : Meaning) (old new : Chained S) (request : List ℕ) (token : Text) (command : Command) (says : SaysCommand request token command) (till server : Streams)
+  pub wherever :
+      (meaning : Meaning) (old new : Chained S) (request : List ℕ) (token : Text)
+      (command : Command) (says : SaysCommand request token command) (till server : Streams)
       (serving : Serving) (most : ℕ) (exchanges : List Exchange) → IsWritten request till.output till.written → Carries till.output till.written server.input
       → ServesThese serving most exchanges server → RunsOver g meaning old new exchanges
       → (new ≡ old) ⊎ ((answer : Answer) × RunsOne g meaning old new says.message answer × (server.input ≡ Some request))
-  pub answered : (meaning : Meaning) (old new : Chained S) (request : List ℕ) (token : Text) (command : Command) (says : SaysCommand request token command) (answer : Answer)
+  pub answered :
+      (meaning : Meaning) (old new : Chained S) (request : List ℕ) (token : Text)
+      (command : Command) (says : SaysCommand request token command) (answer : Answer)
       (exchanges : List Exchange) → WasExchanged request answer exchanges → RunsOver g meaning old new exchanges → RunsOne g meaning old new says.message answer
 
 -- ---- a chain's lives
@@ -82,18 +89,22 @@ RunsAreLives =
 
 -- A chain ran over `exchanges`, was stopped, and ran over `more`. Its books after that are the books of two lives.
 -- `acted` says whether the request at which the store failed before the stop had acted.
-pub record IsServedOn {S : Type 0} (g : Ghosts S) (rules : Rules) (meaning later : Meaning) (exchanges more : List Exchange) (old : Books) (chain : Chained S) : Type 0 where
+pub record IsServedOn {S : Type 0} (g : Ghosts S) (rules : Rules) (meaning later : Meaning) (exchanges more : List Exchange) (old : Books) (chain : Chained S) :
+    Type 0 where
   pub acted : Bool
   pub new : Books
   pub besides : Books
   pub at : IsAt g chain new besides
-  pub lives : Lives rules office_look (lives_of (record { meaning = meaning; exchanges = exchanges; acted = acted } ∷ record { meaning = later; exchanges = more; acted = false } ∷ [])) old new
+  pub lives :
+      Lives rules office_look
+      (lives_of (record { meaning = meaning; exchanges = exchanges; acted = acted } ∷ record { meaning = later; exchanges = more; acted = false } ∷ [])) old new
 
 -- The law `over_a_stop`, for exchanges instead of requests.
 -- A chain ran over some exchanges, was stopped and opened again as `restart` says, and ran over more.
 abbrev pub ServedOverAStop : {S : Type 0} → Ghosts S → Type 0
 ServedOverAStop {S} g =
-    (start mid again last : Chained S) (meaning later : Meaning) (exchanges more : List Exchange) → start.is_failed ≡ false → RunsOver g meaning start mid exchanges
+    (start mid again last : Chained S) (meaning later : Meaning) (exchanges more : List Exchange)
+    → start.is_failed ≡ false → RunsOver g meaning start mid exchanges
     → again.limits ≡ start.limits → again.is_failed ≡ false → (HasCleanDisk (state g again.conn) → HasCleanDisk (state g mid.conn))
     → (HasCleanDisk (state g again.conn) → (books besides : Books) → IsAt g mid books besides → ∥ IsAt g again books books ⊎ IsAt g again besides besides ∥₁)
     → RunsOver g later again last more → HasCleanDisk (state g last.conn) → (books besides : Books) → IsAt g start books besides
@@ -102,14 +113,16 @@ ServedOverAStop {S} g =
 -- Connections are served together. If a connection has one exchange, that exchange is among all exchanges, with others before and after.
 abbrev pub OneAmongMany : Type 0
 OneAmongMany =
-    (tills : List Till) (whole : List Exchange) → Mixes (map (λ till. till.exchanges) tills) whole → (j : ℕ) (till : Till) (exchange : Exchange) → slice_get tills j ≡ Some till
+    (tills : List Till) (whole : List Exchange) → Mixes (map (λ till. till.exchanges) tills) whole
+    → (j : ℕ) (till : Till) (exchange : Exchange) → slice_get tills j ≡ Some till
     → till.exchanges ≡ exchange ∷ [] → (front : List Exchange) × (back : List Exchange) × (whole ≡ front ++ exchange ∷ back)
 
 -- Suppose that a message and its answer are in a life of a chain, and that the message's token was the branch's then.
 -- Then the chain gave that answer to the branch's command.
 abbrev pub ExchangesAreAnswered : Type 0
 ExchangesAreAnswered =
-    (rules : Rules) (b : ℕ) (lives : List ServedLife) (old : Books) (request : List ℕ) (token : Text) (command : Command) (says : SaysCommand request token command) (answer : Answer)
+    (rules : Rules) (b : ℕ) (lives : List ServedLife) (old : Books) (request : List ℕ)
+    (token : Text) (command : Command) (says : SaysCommand request token command) (answer : Answer)
     (stand : StandIn lives (one_exchange says.message answer)) → IsTokenOf b token (books_then rules lives old stand.at_life stand.life (length stand.front))
     → WasAnswered rules b (lives_of lives) old command answer
 
@@ -120,7 +133,8 @@ DeliveriesAreRecorded = (rules : Rules) (b : ℕ) (lives : List ServedLife) (old
 -- If a till's replies were recorded from exchanges with the chain, and nobody else uses the mark, the book has its witnesses.
 abbrev pub ExchangesAreWitnesses : Type 0
 ExchangesAreWitnesses =
-    (mark : Text) (rules : Rules) (b : ℕ) (journal : Journal) (commands : List Command) (lives : List ServedLife) (old : Books) → IsTillsBook mark journal commands
+    (mark : Text) (rules : Rules) (b : ℕ) (journal : Journal) (commands : List Command) (lives : List ServedLife) (old : Books)
+    → IsTillsBook mark journal commands
     → ComeFromEntries mark rules b journal.entries lives old → WereRecorded rules b lives old journal
     → IsWitnessed (has_mark mark) rules b commands journal.replies (lives_of lives) old
 
@@ -129,7 +143,8 @@ ExchangesAreWitnesses =
 -- An entry that the book shows as accepted acted once, with that reply.
 abbrev pub TillAndServer : Type 0
 TillAndServer =
-    (mark : Text) (rules : Rules) (look : OfficeAsk → Books → Reply) (b : ℕ) (journal : Journal) (commands : List Command) (lives : List ServedLife) (old new : Books)
+    (mark : Text) (rules : Rules) (look : OfficeAsk → Books → Reply) (b : ℕ)
+    (journal : Journal) (commands : List Command) (lives : List ServedLife) (old new : Books)
     → Lives rules look (lives_of lives) old new → HasNumbers old → IsUnused (has_mark mark) (shop_of b old) → IsTillsBook mark journal commands
     → ComeFromEntries mark rules b journal.entries lives old → WereRecorded rules b lives old journal
     → Became (has_mark mark) (entries_of commands journal.replies) (served_over (has_mark mark) rules b (lives_of lives) old) (shop_of b new)
@@ -143,14 +158,16 @@ SettlementsAreNoted = (rules : Rules) (b : ℕ) (lives : List ServedLife) (old :
 -- An entry that is settled with `moment_back` has not acted, whatever the branch got after that.
 abbrev pub SettledTillAndServer : Type 0
 SettledTillAndServer =
-    (mark : Text) (rules : Rules) (look : OfficeAsk → Books → Reply) (b : ℕ) (journal : Journal) (commands : List Command) (lives : List ServedLife) (old new : Books)
+    (mark : Text) (rules : Rules) (look : OfficeAsk → Books → Reply) (b : ℕ)
+    (journal : Journal) (commands : List Command) (lives : List ServedLife) (old new : Books)
     → Lives rules look (lives_of lives) old new → HasNumbers old → IsUnused (has_mark mark) (shop_of b old) → IsTillsBook mark journal commands
     → ComeFromEntries mark rules b journal.entries lives old → WereRecorded rules b lives old journal → WereNoted rules b lives old journal
-    → BecameSettled (has_mark mark) commands journal.replies (in_order journal.settled) (served_over (has_mark mark) rules b (lives_of lives) old) (shop_of b new)
+    → BecameSettled (has_mark mark) commands journal.replies (in_order journal.settled)
+    (served_over (has_mark mark) rules b (lives_of lives) old) (shop_of b new)
 
 -- ---- what the till keeps
 
--- each exchange over streams that a till's server opened is answered by a chain in one of these lives
+-- a chain in one of these lives answers each exchange over streams that a till's server opened
 abbrev pub AreAnswered : {R W : Type 0} → (R → W → Type 0) → (R → Option (List ℕ)) → (W → Option (List ℕ)) → Rules → ℕ → List ServedLife → Books → Type 0
 AreAnswered opens remaining contents rules b lives old =
     (request : List ℕ) (answer : Answer) (it : IsTold opens remaining contents request answer)
@@ -167,8 +184,10 @@ ExtendedBooksStayRecorded opens remaining contents =
 -- So it is from an empty book on, over any words: what the book says of its entries is what they did in the chain's books.
 abbrev pub WordsReachTheDisk : {R W : Type 0} → (R → W → Type 0) → (R → Option (List ℕ)) → (W → Option (List ℕ)) → Type 0
 WordsReachTheDisk opens remaining contents =
-    (mark : Text) (rules : Rules) (look : OfficeAsk → Books → Reply) (b : ℕ) (journal : Journal) (commands : List Command) (lives : List ServedLife) (old new : Books)
+    (mark : Text) (rules : Rules) (look : OfficeAsk → Books → Reply) (b : ℕ)
+    (journal : Journal) (commands : List Command) (lives : List ServedLife) (old new : Books)
     → Lives rules look (lives_of lives) old new → HasNumbers old → IsUnused (has_mark mark) (shop_of b old) → IsTillsBook mark journal commands
     → ComeFromEntries mark rules b journal.entries lives old → AreAnswered opens remaining contents rules b lives old
     → Extends (IsTold opens remaining contents) (record { entries = []; replies = []; settled = [] }) journal
-    → BecameSettled (has_mark mark) commands journal.replies (in_order journal.settled) (served_over (has_mark mark) rules b (lives_of lives) old) (shop_of b new)
+    → BecameSettled (has_mark mark) commands journal.replies (in_order journal.settled)
+    (served_over (has_mark mark) rules b (lives_of lives) old) (shop_of b new)

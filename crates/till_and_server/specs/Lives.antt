@@ -35,7 +35,8 @@ lives_of lives = map life_of lives
 
 -- the books before the exchange at that place of that life
 abbrev pub books_then : Rules → List ServedLife → Books → ℕ → ServedLife → ℕ → Books
-books_then rules lives old n life place = books_at rules (events_of life.meaning life.exchanges) (answers_of life.exchanges) (begun rules (lives_of lives) old n) place
+books_then rules lives old n life place =
+    books_at rules (events_of life.meaning life.exchanges) (answers_of life.exchanges) (begun rules (lives_of lives) old n) place
 
 -- A connection's exchanges are in a life, in a row. Exchanges of other connections are before them (`front`) and after them (`back`).
 pub record StandIn (lives : List ServedLife) (exchanges : List Exchange) : Type 0 where
@@ -56,7 +57,8 @@ pub record WasRecorded (rules : Rules) (b : ℕ) (lives : List ServedLife) (old 
   pub exchanges : List Exchange
   pub exchanged : WasExchanged request answer exchanges
   pub stand : StandIn lives exchanges
-  pub own : (token : Text) (command : Command) → SaysCommand request token command → IsTokenOf b token (books_then rules lives old stand.at_life stand.life (length stand.front))
+  pub own : (token : Text) (command : Command) → SaysCommand request token command
+      → IsTokenOf b token (books_then rules lives old stand.at_life stand.life (length stand.front))
   pub decided : answer.status ≢ 503
 
 -- each reply of the book was recorded from an exchange of the entry at the same place
@@ -76,20 +78,23 @@ pub record IsAnsweredBy (rules : Rules) (b : ℕ) (lives : List ServedLife) (old
   pub short : AllByRecursion IsShort (answers_of exchanges)
   pub fits : IsShort answer
   pub stand : StandIn lives exchanges
-  pub own : (token : Text) (command : Command) → SaysCommand request token command → IsTokenOf b token (books_then rules lives old stand.at_life stand.life (length stand.front))
+  pub own : (token : Text) (command : Command) → SaysCommand request token command
+      → IsTokenOf b token (books_then rules lives old stand.at_life stand.life (length stand.front))
 
 -- The replies of a book stay recorded from exchanges. An empty book has no replies (`none`), and a new entry changes none (`enters`).
 -- A delivery keeps this (`delivers`): the till wrote the oldest entry without a reply, read a whole reply other than 503, and recorded the reply.
 pub record StaysRecorded (rules : Rules) (b : ℕ) (lives : List ServedLife) (old : Books) : Type 0 where
   pub none : WereRecorded rules b lives old (record { entries = []; replies = []; settled = [] })
   pub enters : (journal : Journal) (request : List ℕ) → WereRecorded rules b lives old journal → WereRecorded rules b lives old (with_entry request journal)
-  pub delivers : (journal : Journal) (request : List ℕ) (answer : Answer) (till : Streams) → WereRecorded rules b lives old journal → waiting journal ≡ Some request
+  pub delivers : (journal : Journal) (request : List ℕ) (answer : Answer) (till : Streams)
+      → WereRecorded rules b lives old journal → waiting journal ≡ Some request
       → Appends till.output till.written request → Consumes till.input till.left (answer_bytes answer) → answer.status ≢ 503
       → IsAnsweredBy rules b lives old request answer till → WereRecorded rules b lives old (with_reply answer journal)
 
 -- each settlement of the book was recorded from an exchange of its entry
 abbrev pub WereNoted : Rules → ℕ → List ServedLife → Books → Journal → Type 0
-WereNoted rules b lives old journal = AllByRecursion (λ (it : ℕ × Answer). OfEntry it.0 journal (λ request. WasRecorded rules b lives old request it.1)) journal.settled
+WereNoted rules b lives old journal =
+    AllByRecursion (λ (it : ℕ × Answer). OfEntry it.0 journal (λ request. WasRecorded rules b lives old request it.1)) journal.settled
 
 -- The settlements of a book stay recorded from exchanges. An empty book has none (`none`); an entry or a reply more changes none (`enters`, `delivers`).
 -- Settling keeps this (`settles`): the till wrote the whole entry once more, read a whole reply other than 503, and recorded the reply as the settlement.
@@ -101,12 +106,14 @@ pub record StaysNoted (rules : Rules) (b : ℕ) (lives : List ServedLife) (old :
   pub settles : (journal : Journal) (n : ℕ) (answer : Answer) (till : Streams) → WereNoted rules b lives old journal
       → OfEntry n journal (λ request. Appends till.output till.written request × IsAnsweredBy rules b lives old request answer till)
       → Consumes till.input till.left (answer_bytes answer) → answer.status ≢ 503 → WereNoted rules b lives old (with_settled n answer journal)
-  pub replies : (journal : Journal) (n : ℕ) (answer : Answer) → WereRecorded rules b lives old journal → WereRecorded rules b lives old (with_settled n answer journal)
+  pub replies : (journal : Journal) (n : ℕ) (answer : Answer) → WereRecorded rules b lives old journal
+      → WereRecorded rules b lives old (with_settled n answer journal)
 
 -- Nobody else uses the mark. Each message that came with the branch's token, and said a command under the mark,
 -- has the bytes of one of the entries.
 abbrev pub ComeFromEntries : Text → Rules → ℕ → List (List ℕ) → List ServedLife → Books → Type 0
 ComeFromEntries mark rules b entries lives old =
     (n i : ℕ) (life : ServedLife) (exchange : Exchange) (command : Command) → slice_get lives n ≡ Some life → slice_get life.exchanges i ≡ Some exchange
-    → Asks rules (events_of life.meaning life.exchanges) (answers_of life.exchanges) (begun rules (lives_of lives) old n) i (Counter b) (Do command) → has_mark mark command.key ≡ true
+    → Asks rules (events_of life.meaning life.exchanges) (answers_of life.exchanges) (begun rules (lives_of lives) old n) i (Counter b) (Do command)
+    → has_mark mark command.key ≡ true
     → (k : ℕ) × (request : List ℕ) × (slice_get entries k ≡ Some request) × HasMessage request exchange.message []

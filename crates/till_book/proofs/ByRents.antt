@@ -1,5 +1,7 @@
 -- The register is the last accepted rent of a copy, unless a later entry is an accepted return of its rental.
-use Rattle.sql_rows.proofs.Common.{◌≡◌, ◌≢◌, ◌∙◌, ◌+◌, ◌<◌, ◌≤◌, ◌==◌, ◌&&◌, ◌||◌, ℕ, zero, suc, Bool, true, false, List, [], ◌∷◌, ◌++◌, map, filter, length, Option, Some, None, option_map, refl, sym, ap, subst, arith, inl, inr, cases_Bool, cond, ⊤, AllByRecursion, all-append, all-filter, flat_map, option_to_list, nat_tests, if◌then◌else◌}
+use Rattle.sql_rows.proofs.Common.{◌≡◌, ◌≢◌, ◌∙◌, ◌+◌, ◌<◌, ◌≤◌, ◌==◌, ◌&&◌, ◌||◌, ℕ, zero, suc, Bool, true, false, List, [], ◌∷◌, ◌++◌, map, filter, length}
+use Rattle.sql_rows.proofs.Common.{Option, Some, None, option_map, refl, sym, ap, subst, arith, inl, inr, cases_Bool, cond, ⊤, AllByRecursion, all-append}
+use Rattle.sql_rows.proofs.Common.{all-filter, flat_map, option_to_list, nat_tests, if◌then◌else◌}
 use Rattle.std.specs.Prelude.{nat_lt}
 use Rattle.std.specs.List.{fold}
 use Rattle.shop_model.specs.Rows.{numbered_from}
@@ -26,7 +28,9 @@ told_from : (n k : ℕ) (act : Act) (reply : Option Answer) → k ≤ n → AllB
 told_from n k (Rent customer copy) None low = tt
 told_from n k (Rent customer copy) (Some answer) low = go (rental_told answer)
   where
-    go : (told : Option ℕ) → AllByRecursion (IsFrom k) (map (λ (rental : ℕ). let it : Rented = record { copy = copy; number = n; rental = rental; customer = customer } in it) (option_to_list told))
+    go : (told : Option ℕ)
+        → AllByRecursion (IsFrom k)
+        (map (λ (rental : ℕ). let it : Rented = record { copy = copy; number = n; rental = rental; customer = customer } in it) (option_to_list told))
     go None = tt
     go (Some rental) = (low, tt)
 told_from n k act None low = tt
@@ -35,7 +39,8 @@ told_from n k act (Some answer) low = tt
 pub rents_rise : (j k : ℕ) (entries : List Entry) → j ≤ k → AllByRecursion (IsFrom j) (rents_from k entries)
 rents_rise j k [] low = tt
 rents_rise j k (entry ∷ entries) low =
-    all-append (IsFrom j) (rents_told k entry.command.act entry.reply) (rents_from (k + 1) entries) (told_from k j entry.command.act entry.reply low) (rents_rise j (k + 1) entries (omega (arith, low)))
+    all-append (IsFrom j) (rents_told k entry.command.act entry.reply) (rents_from (k + 1) entries)
+    (told_from k j entry.command.act entry.reply low) (rents_rise j (k + 1) entries (omega (arith, low)))
 
 -- ---- a return more
 
@@ -71,7 +76,8 @@ spares_other : (it : Returned) (rent : Rented) → (it.rental == rent.rental) �
 unfolding Spares
 spares_other it rent differ = ap (λ (b : Bool). b && nat_lt rent.number it.number) differ
 
-takes : (it : Returned) (returns : List Returned) (rent : Rented) → (it.rental == rent.rental) ≡ true → rent.number < it.number → unless_returned (it ∷ returns) (Some rent) ≡ None
+takes : (it : Returned) (returns : List Returned) (rent : Rented) → (it.rental == rent.rental) ≡ true
+    → rent.number < it.number → unless_returned (it ∷ returns) (Some rent) ≡ None
 takes it returns rent same before =
     ap (λ (b : Bool). if (b && nat_lt rent.number it.number) || is_returned returns rent then None else Some rent) same
     ∙ ap (λ (b : Bool). if b || is_returned returns rent then None else Some rent) (less rent.number it.number before)
@@ -97,7 +103,8 @@ module _ (copy : ℕ) where
 
   -- from the number k on, with the rent `held` before it, the register and the rents with their returns agree
   abbrev Stands : ℕ → Option Rented → List Entry → Type 0
-  Stands k held entries = fold (after_entry copy) (the_rental held) entries ≡ the_rental (unless_returned (returns_from k entries) (last_or held (mine (rents_from k entries))))
+  Stands k held entries =
+      fold (after_entry copy) (the_rental held) entries ≡ the_rental (unless_returned (returns_from k entries) (last_or held (mine (rents_from k entries))))
 
   module _ (k : ℕ) (entries : List Entry) (more : (held : Option Rented) → IsBefore (k + 1) held → Stands (k + 1) held entries) where
     abbrev rents : List Rented
@@ -112,13 +119,16 @@ module _ (copy : ℕ) where
       row rental = record { copy = rented; number = k; rental = rental; customer = customer }
 
       rent_step : (told : Option ℕ) (is : Bool) → (rented == copy) ≡ is
-          → fold (after_entry copy) (if is then or_held told (the_rental held) else the_rental held) entries ≡ the_rental (unless_returned returns (last_or held (mine (map row (option_to_list told) ++ rents))))
+          → fold (after_entry copy) (if is then or_held told (the_rental held) else the_rental held) entries
+          ≡ the_rental (unless_returned returns (last_or held (mine (map row (option_to_list told) ++ rents))))
       rent_step None true e = more held (later k held before)
       rent_step None false e = more held (later k held before)
       rent_step (Some rental) true e =
-          more (Some (row rental)) (omega arith) ∙ ap (λ (b : Bool). the_rental (unless_returned returns (last_or held (cond b (row rental ∷ mine rents) (mine rents))))) (sym e)
+          more (Some (row rental)) (omega arith)
+          ∙ ap (λ (b : Bool). the_rental (unless_returned returns (last_or held (cond b (row rental ∷ mine rents) (mine rents))))) (sym e)
       rent_step (Some rental) false e =
-          more held (later k held before) ∙ ap (λ (b : Bool). the_rental (unless_returned returns (last_or held (cond b (row rental ∷ mine rents) (mine rents))))) (sym e)
+          more held (later k held before)
+          ∙ ap (λ (b : Bool). the_rental (unless_returned returns (last_or held (cond b (row rental ∷ mine rents) (mine rents))))) (sym e)
 
     -- a return, accepted
     module _ (rental : ℕ) where
@@ -126,7 +136,8 @@ module _ (copy : ℕ) where
       back = record { rental = rental; number = k }
 
       -- the later rents aren't its own
-      spared : (other : Option Rented) → IfSo (Spares back) other → (rows : List Rented) → AllByRecursion (IsFrom (k + 1)) rows → unless_returned (back ∷ returns) (last_or other rows) ≡ unless_returned returns (last_or other rows)
+      spared : (other : Option Rented) → IfSo (Spares back) other → (rows : List Rented) → AllByRecursion (IsFrom (k + 1)) rows
+          → unless_returned (back ∷ returns) (last_or other rows) ≡ unless_returned returns (last_or other rows)
       spared other first rows all =
           one_more back returns (last_or other rows) (last_is (Spares back) other rows first (weaker rows all))
         where
@@ -151,10 +162,12 @@ module _ (copy : ℕ) where
       return_step (Some rent) before true = go (rent.rental == rental) refl
         where
           go : (same : Bool) → (rent.rental == rental) ≡ same
-              → fold (after_entry copy) (if same then None else Some rent.rental) entries ≡ the_rental (unless_returned (back ∷ returns) (last_or (Some rent) (mine rents)))
+              → fold (after_entry copy) (if same then None else Some rent.rental) entries
+              ≡ the_rental (unless_returned (back ∷ returns) (last_or (Some rent) (mine rents)))
           go true is = more None tt ∙ ap the_rental (taken rent before (turned rental rent.rental ∙ is) (mine rents) all_later)
           go false isnt =
-              more (Some rent) (later k (Some rent) before) ∙ ap the_rental (sym (spared (Some rent) (spares_other back rent (turned rental rent.rental ∙ isnt)) (mine rents) all_later))
+              more (Some rent) (later k (Some rent) before)
+              ∙ ap the_rental (sym (spared (Some rent) (spares_other back rent (turned rental rent.rental ∙ isnt)) (mine rents) all_later))
 
     step : (held : Option Rented) → IsBefore k held → (act : Act) (reply : Option Answer)
         → fold (after_entry copy) (after_told copy act reply (the_rental held)) entries

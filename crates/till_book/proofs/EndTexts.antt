@@ -1,6 +1,9 @@
 -- The rows that the texts about the end of the book show.
 use Rattle.std.specs.Prelude.{nat_lt}
-use Rattle.sql_rows.proofs.Common.{◌≡◌, ◌≢◌, ◌∙◌, ◌+◌, ◌<◌, ◌≤◌, ◌==◌, ◌&&◌, ℕ, zero, suc, pos, List, [], ◌∷◌, ◌++◌, map, filter, length, take, Bool, true, false, Option, Some, None, option_map, option_to_list, refl, sym, ap, subst, arith, Blob, Int, column, ascending, Binary, Term, lit, col, op2, Compare, Eq, State, IsAscending, map-map, number_value, sort_by, by, Differ, ascending-map, ascending_weaker, cond, columns_of, overlay, then-Equal, Trees, Query, IsAnswer, Output}
+use Rattle.sql_rows.proofs.Common.{◌≡◌, ◌≢◌, ◌∙◌, ◌+◌, ◌<◌, ◌≤◌, ◌==◌, ◌&&◌, ℕ, zero, suc, pos, List, [], ◌∷◌, ◌++◌, map, filter, length, take, Bool, true}
+use Rattle.sql_rows.proofs.Common.{false, Option, Some, None, option_map, option_to_list, refl, sym, ap, subst, arith, Blob, Int, column, ascending, Binary}
+use Rattle.sql_rows.proofs.Common.{Term, lit, col, op2, Compare, Eq, State, IsAscending, map-map, number_value, sort_by, by, Differ, ascending-map}
+use Rattle.sql_rows.proofs.Common.{ascending_weaker, cond, columns_of, overlay, then-Equal, Trees, Query, IsAnswer, Output}
 use Rattle.sqlite_keyed.proofs.ListLemmas.{ascending-filter}
 use Rattle.sqlite_value.specs.Order as sql
 use Rattle.sqlite_tied.specs.Compute.{everything}
@@ -27,14 +30,17 @@ use Rattle.sql_rows.proofs.LastRow.{ending, first_query, descending, projects_la
 use Rattle.till_book.proofs.RentTexts.{ending_is, take_one, list_of, same_option}
 
 -- the row that was read, if any, is the last of the list
-one_row : {X Y : Type 0} (show : X → sql.Row) (read_as : Y → sql.Row) (view : X → Y) → ((x : X) → show x ≡ read_as (view x)) → ((a b : Y) → read_as a ≡ read_as b → a ≡ b)
-    → (xs : List X) (rows : List sql.Row) (found : Option Y) → rows ≡ map show (ending xs) → map read_as (option_to_list found) ≡ take 1 rows → found ≡ option_map view (last_or None xs)
+one_row : {X Y : Type 0} (show : X → sql.Row) (read_as : Y → sql.Row) (view : X → Y)
+    → ((x : X) → show x ≡ read_as (view x)) → ((a b : Y) → read_as a ≡ read_as b → a ≡ b)
+    → (xs : List X) (rows : List sql.Row) (found : Option Y) → rows ≡ map show (ending xs)
+    → map read_as (option_to_list found) ≡ take 1 rows → found ≡ option_map view (last_or None xs)
 one_row {X = X} {Y = Y} show read_as view shows apart xs rows found shown read =
     let last = last_or None xs in
     let one : rows ≡ option_to_list (option_map show last) = shown ∙ ap (map show) (ending_is xs) ∙ list_of show last in
     let short : take 1 rows ≡ map show (option_to_list last) = ap (take 1) one ∙ take_one (option_map show last) ∙ sym (list_of show last) in
     same_option found (option_map view last)
-    (unmapped read_as apart _ _ (read ∙ short ∙ alike (option_to_list last) ∙ sym (map-map read_as view (option_to_list last)) ∙ ap (map read_as) (list_of view last)))
+    (unmapped read_as apart _ _
+    (read ∙ short ∙ alike (option_to_list last) ∙ sym (map-map read_as view (option_to_list last)) ∙ ap (map read_as) (list_of view last)))
   where
     alike : (l : List X) → map show l ≡ map (λ x. read_as (view x)) l
     alike [] = refl
@@ -57,18 +63,23 @@ same_entry a b e =
     let request : a.1 ≡ b.1 = cc in
     λ i. (number i, request i)
 
-pub reads_last_entry : (old new : State) (rows : List sql.Row) (found : Option LastEntry) → Shown SELECT_LAST_ENTRY.now [] old new rows → map last_columns (option_to_list found) ≡ take 1 rows
+pub reads_last_entry : (old new : State) (rows : List sql.Row) (found : Option LastEntry)
+    → Shown SELECT_LAST_ENTRY.now [] old new rows → map last_columns (option_to_list found) ≡ take 1 rows
     → Finds (λ journal. option_map seen_last found ≡ last_entry journal) old new
 reads_last_entry old new rows found h read journal holds =
     let its : List (ℕ × List ℕ) = numbered journal.entries in
     let all : filter (λ (it : ℕ × List ℕ). true) its ≡ its = kept_all its in
     let shown : rows ≡ map entry_columns (ending (filter (λ (it : ℕ × List ℕ). true) its)) =
-    projects_last book_schema SELECT_LAST_ENTRY.now 0 2 [] (col 1 1 ∷ col 1 2 ∷ []) 0 select_last_entry_means [] old new rows holds.schema_is h entry_columns its holds.stands.entries refl
+    projects_last book_schema SELECT_LAST_ENTRY.now 0 2 [] (col 1 1 ∷ col 1 2 ∷ []) 0 select_last_entry_means
+    [] old new rows holds.schema_is h entry_columns its holds.stands.entries refl
     (λ vs. true) (λ vs. column vs 0 ∷ column vs 1 ∷ []) (λ it. true) (λ it. refl) (λ r. refl) number (λ it. refl)
     (subst (IsAscending (λ (a b : ℕ × List ℕ). a.0 < b.0)) (sym all) (numbered_rise 1 journal.entries)) in
-    let whole : map entry_columns (option_to_list (option_map seen_last found)) ≡ take 1 rows = ap (map entry_columns) (sym (list_of seen_last found)) ∙ map-map entry_columns seen_last (option_to_list found) ∙ read in (
+    let whole : map entry_columns (option_to_list (option_map seen_last found)) ≡ take 1 rows =
+    ap (map entry_columns) (sym (list_of seen_last found)) ∙ map-map entry_columns seen_last (option_to_list found) ∙ read in (
       still_holds book_schema StandsFor SELECT_LAST_ENTRY.now [] old new select_last_entry_means.plain rows h journal holds,
-      one_row entry_columns entry_columns (λ it. it) (λ it. refl) same_entry its rows (option_map seen_last found) (shown ∙ ap (λ l. map entry_columns (ending l)) all) whole ∙ itself (last_or None its),
+      one_row entry_columns entry_columns (λ it. it) (λ it. refl) same_entry its rows
+          (option_map seen_last found) (shown ∙ ap (λ l. map entry_columns (ending l)) all) whole
+          ∙ itself (last_or None its),
     )
   where
     itself : {X : Type 0} (o : Option X) → option_map (λ x. x) o ≡ o
@@ -83,7 +94,8 @@ number_columns row = number_value row.number ∷ []
 same_columns : (a b : ℕ) → unsure_columns a ≡ unsure_columns b → a ≡ b
 same_columns a b e = let n : number_value a ≡ number_value b = cc in same_number a b n
 
-as_numbers : (found : Option EntryNumber) → map number_columns (option_to_list found) ≡ map unsure_columns (option_to_list (option_map (λ (row : EntryNumber). row.number) found))
+as_numbers : (found : Option EntryNumber)
+    → map number_columns (option_to_list found) ≡ map unsure_columns (option_to_list (option_map (λ (row : EntryNumber). row.number) found))
 as_numbers None = refl
 as_numbers (Some row) = refl
 
@@ -91,17 +103,20 @@ select_last_reply_means : Selects book_schema SELECT_LAST_REPLY.now (first_query
 unfolding understood everything
 select_last_reply_means = record { names = _; is = refl; plain = (refl, refl); unlisted = refl }
 
-pub reads_last_reply : (old new : State) (rows : List sql.Row) (found : Option EntryNumber) → Shown SELECT_LAST_REPLY.now [] old new rows → map number_columns (option_to_list found) ≡ take 1 rows
+pub reads_last_reply : (old new : State) (rows : List sql.Row) (found : Option EntryNumber)
+    → Shown SELECT_LAST_REPLY.now [] old new rows → map number_columns (option_to_list found) ≡ take 1 rows
     → Finds (λ journal. option_map (λ (row : EntryNumber). row.number) found ≡ last_reply journal) old new
 reads_last_reply old new rows found h read journal holds =
     let its : List (ℕ × Answer) = numbered journal.replies in
     let all : filter (λ (it : ℕ × Answer). true) its ≡ its = kept_all its in
     let shown : rows ≡ map (λ (it : ℕ × Answer). unsure_columns it.0) (ending (filter (λ (it : ℕ × Answer). true) its)) =
-    projects_last book_schema SELECT_LAST_REPLY.now 2 3 [] (col 1 1 ∷ []) 0 select_last_reply_means [] old new rows holds.schema_is h reply_columns its holds.stands.replies refl
+    projects_last book_schema SELECT_LAST_REPLY.now 2 3 [] (col 1 1 ∷ []) 0 select_last_reply_means
+    [] old new rows holds.schema_is h reply_columns its holds.stands.replies refl
     (λ vs. true) (λ vs. column vs 0 ∷ []) (λ it. true) (λ it. refl) (λ r. refl) number (λ it. refl)
     (subst (IsAscending (λ (a b : ℕ × Answer). a.0 < b.0)) (sym all) (numbered_rise 1 journal.replies)) in (
       still_holds book_schema StandsFor SELECT_LAST_REPLY.now [] old new select_last_reply_means.plain rows h journal holds,
-      one_row (λ (it : ℕ × Answer). unsure_columns it.0) unsure_columns number (λ it. refl) same_columns its rows (option_map (λ (row : EntryNumber). row.number) found)
+      one_row (λ (it : ℕ × Answer). unsure_columns it.0) unsure_columns number
+          (λ it. refl) same_columns its rows (option_map (λ (row : EntryNumber). row.number) found)
           (shown ∙ ap (λ l. map (λ (it : ℕ × Answer). unsure_columns it.0) (ending l)) all) (sym (as_numbers found) ∙ read),
     )
 
@@ -114,17 +129,20 @@ select_last_accepted_means : Selects book_schema SELECT_LAST_ACCEPTED.now (first
 unfolding understood everything
 select_last_accepted_means = record { names = _; is = refl; plain = (refl, refl); unlisted = refl }
 
-pub reads_last_accepted : (old new : State) (rows : List sql.Row) (found : Option EntryNumber) → Shown SELECT_LAST_ACCEPTED.now [] old new rows → map number_columns (option_to_list found) ≡ take 1 rows
+pub reads_last_accepted : (old new : State) (rows : List sql.Row) (found : Option EntryNumber)
+    → Shown SELECT_LAST_ACCEPTED.now [] old new rows → map number_columns (option_to_list found) ≡ take 1 rows
     → Finds (λ journal. option_map (λ (row : EntryNumber). row.number) found ≡ last_accepted journal) old new
 reads_last_accepted old new rows found h read journal holds =
     let its : List (ℕ × Answer) = numbered journal.replies in
     let p : ℕ × Answer → Bool = λ it. it.1.status == 200 in
     let shown : rows ≡ map (λ (it : ℕ × Answer). unsure_columns it.0) (ending (filter p its)) =
-    projects_last book_schema SELECT_LAST_ACCEPTED.now 2 3 accepted_test (col 1 1 ∷ []) 0 select_last_accepted_means [] old new rows holds.schema_is h reply_columns its holds.stands.replies refl
+    projects_last book_schema SELECT_LAST_ACCEPTED.now 2 3 accepted_test (col 1 1 ∷ []) 0 select_last_accepted_means
+    [] old new rows holds.schema_is h reply_columns its holds.stands.replies refl
     (λ vs. number_test 1 200 vs && true) (λ vs. column vs 0 ∷ []) p (λ it. one_tested _ (number_tested it.1.status 200)) (λ r. refl) number (λ it. refl)
     (ascending-filter _ p its (numbered_rise 1 journal.replies)) in (
       still_holds book_schema StandsFor SELECT_LAST_ACCEPTED.now [] old new select_last_accepted_means.plain rows h journal holds,
-      one_row (λ (it : ℕ × Answer). unsure_columns it.0) unsure_columns number (λ it. refl) same_columns (filter p its) rows (option_map (λ (row : EntryNumber). row.number) found) shown (sym (as_numbers found) ∙ read),
+      one_row (λ (it : ℕ × Answer). unsure_columns it.0) unsure_columns number (λ it. refl) same_columns
+          (filter p its) rows (option_map (λ (row : EntryNumber). row.number) found) shown (sym (as_numbers found) ∙ read),
     )
 
 -- ---- unsure entries
@@ -157,22 +175,28 @@ itself m = m
 unsure_differ : (journal : Journal) → Differ itself (unsure_of journal)
 unsure_differ journal =
     ascending-map (λ (a b : ℕ). a ≢ b) (λ (it : ℕ × Answer). it.0) _
-    (ascending-filter _ (λ (it : ℕ × Answer). is_unsure it.1 && is_unsettled journal.settled it.0) (numbered journal.replies) (numbered_differ 1 journal.replies))
+    (ascending-filter _ (λ (it : ℕ × Answer). is_unsure it.1 && is_unsettled journal.settled it.0)
+    (numbered journal.replies) (numbered_differ 1 journal.replies))
 
-pub reads_unsure : (n : ℕ) (old new : State) (rows : List sql.Row) (all : List EntryNumber) → Shown SELECT_UNSURE.now (number_value n ∷ []) old new rows → map number_columns all ≡ rows
+pub reads_unsure : (n : ℕ) (old new : State) (rows : List sql.Row) (all : List EntryNumber)
+    → Shown SELECT_UNSURE.now (number_value n ∷ []) old new rows → map number_columns all ≡ rows
     → Finds (λ journal. map (λ (row : EntryNumber). row.number) all ≡ take 10 (unsure_before n journal)) old new
 reads_unsure n old new rows all h read journal holds =
     let xs : List ℕ = unsure_of journal in
     let low : ℕ → Bool = λ m. nat_lt m n in
     let params : sql.Row = number_value n ∷ [] in
     let seen : sql.Row → Bool = λ vs. less_test 0 n vs && true in
-    let a = ten_of (overlay old.now.trees []) params rows (answers book_schema SELECT_UNSURE.now ten_query params old new holds.schema_is select_unsure_means rows h) in
+    let a =
+    ten_of (overlay old.now.trees []) params rows
+    (answers book_schema SELECT_UNSURE.now ten_query params old new holds.schema_is select_unsure_means rows h) in
     let all_shown : a.0 ≡ map unsure_columns (sort_by (by itself) (filter low xs)) =
     reads_sorted 6 less_than (col 1 1 ∷ []) ((col 1 1, ascending Binary) ∷ []) params old.now.trees unsure_columns xs (columns_of 1) holds.stands.unsure refl
     (λ vs. cond (seen vs) ((column vs 0 ∷ [], column vs 0 ∷ []) ∷ []) []) (λ r. refl) low
-    (λ m. (number_value m ∷ [], unsure_columns m)) (λ m. (λ i. cond (one_tested _ (less_tested m n) i) ((number_value m ∷ [], unsure_columns m) ∷ []) [])) a.0 a.1
+    (λ m. (number_value m ∷ [], unsure_columns m))
+    (λ m. (λ i. cond (one_tested _ (less_tested m n) i) ((number_value m ∷ [], unsure_columns m) ∷ []) [])) a.0 a.1
     (by itself) (λ x y. then-Equal _ ∙ number_cmp x y) (no_ties itself (filter low xs) (ascending-filter _ low xs (unsure_differ journal))) in
-    let shown : rows ≡ map unsure_columns (take 10 (unsure_before n journal)) = a.2 ∙ ap (take 10) all_shown ∙ first_map 10 unsure_columns (unsure_before n journal) in (
+    let shown : rows ≡ map unsure_columns (take 10 (unsure_before n journal)) =
+    a.2 ∙ ap (take 10) all_shown ∙ first_map 10 unsure_columns (unsure_before n journal) in (
       still_holds book_schema StandsFor SELECT_UNSURE.now (number_value n ∷ []) old new select_unsure_means.plain rows h journal holds,
       unmapped unsure_columns same_columns _ _ (map-map unsure_columns (λ (row : EntryNumber). row.number) all ∙ read ∙ shown),
     )
@@ -180,7 +204,8 @@ reads_unsure n old new rows all h read journal holds =
 -- ---- the end of a book
 
 module _ {A : Type 0} where
-  last_numbered : (k : ℕ) (x : A) (xs : List A) (o : Option A) → last_or (Some (k, x)) (numbered_from (k + 1) xs) ≡ option_map (λ (y : A). (k + length xs, y)) (last_or (Some x) xs)
+  last_numbered : (k : ℕ) (x : A) (xs : List A) (o : Option A)
+      → last_or (Some (k, x)) (numbered_from (k + 1) xs) ≡ option_map (λ (y : A). (k + length xs, y)) (last_or (Some x) xs)
   last_numbered k x [] o = let same : k ≡ k + 0 = omega arith in ap (λ (m : ℕ). Some (m, x)) same
   last_numbered k x (y ∷ xs) o =
       let same : k + 1 + length xs ≡ k + suc (length xs) = omega arith in
@@ -211,14 +236,16 @@ end_some journal n replies request is many = go (last_or None journal.entries) r
         clash : ◌≡◌ {A = Option (ℕ × List ℕ)} (Some (n, request)) None → ⊥
         clash e = cc
     go (Some y) some =
-        let both : Some (n, request) ≡ Some (length journal.entries, y) = is ∙ last_of_numbered journal.entries ∙ ap (option_map (λ (z : List ℕ). (length journal.entries, z))) some in
+        let both : Some (n, request) ≡ Some (length journal.entries, y) =
+        is ∙ last_of_numbered journal.entries ∙ ap (option_map (λ (z : List ℕ). (length journal.entries, z))) some in
         let pair : (n, request) ≡ (length journal.entries, y) = unwrapped both in
         record { entries = ap (λ (p : ℕ × List ℕ). p.0) pair; replies = many; last = ap (λ (p : ℕ × List ℕ). Some p.1) pair ∙ sym some }
       where
         unwrapped : {a b : ℕ × List ℕ} → Some a ≡ Some b → a ≡ b
         unwrapped e = cc
 
-pub end_none : (journal : Journal) (replies : ℕ) → None ≡ last_entry journal → replies ≡ length journal.replies → IsEndOf (record { entries = 0; replies = replies; last = None }) journal
+pub end_none : (journal : Journal) (replies : ℕ) → None ≡ last_entry journal → replies ≡ length journal.replies
+    → IsEndOf (record { entries = 0; replies = replies; last = None }) journal
 end_none journal replies is many = go (last_or None journal.entries) refl
   where
     go : (last : Option (List ℕ)) → last_or None journal.entries ≡ last → IsEndOf (record { entries = 0; replies = replies; last = None }) journal
@@ -233,11 +260,13 @@ pub count_some : (journal : Journal) (n : ℕ) → Some n ≡ last_reply journal
 count_some journal n is = go (last_or None journal.replies) refl
   where
     go : (last : Option Answer) → last_or None journal.replies ≡ last → n ≡ length journal.replies
-    go None none = absurd (clash (is ∙ ap (option_map number) (last_of_numbered journal.replies ∙ ap (option_map (λ (y : Answer). (length journal.replies, y))) none)))
+    go None none =
+        absurd (clash (is ∙ ap (option_map number) (last_of_numbered journal.replies ∙ ap (option_map (λ (y : Answer). (length journal.replies, y))) none)))
       where
         clash : ◌≡◌ {A = Option ℕ} (Some n) None → ⊥
         clash e = cc
-    go (Some y) some = unwrapped (is ∙ ap (option_map number) (last_of_numbered journal.replies ∙ ap (option_map (λ (z : Answer). (length journal.replies, z))) some))
+    go (Some y) some =
+        unwrapped (is ∙ ap (option_map number) (last_of_numbered journal.replies ∙ ap (option_map (λ (z : Answer). (length journal.replies, z))) some))
       where
         unwrapped : {a b : ℕ} → Some a ≡ Some b → a ≡ b
         unwrapped e = cc
@@ -247,7 +276,8 @@ count_none journal is = go (last_or None journal.replies) refl
   where
     go : (last : Option Answer) → last_or None journal.replies ≡ last → 0 ≡ length journal.replies
     go None none = sym (ap length (none_last journal.replies none))
-    go (Some y) some = absurd (clash (is ∙ ap (option_map number) (last_of_numbered journal.replies ∙ ap (option_map (λ (z : Answer). (length journal.replies, z))) some)))
+    go (Some y) some =
+        absurd (clash (is ∙ ap (option_map number) (last_of_numbered journal.replies ∙ ap (option_map (λ (z : Answer). (length journal.replies, z))) some)))
       where
         clash : {m : ℕ} → ◌≡◌ {A = Option ℕ} None (Some m) → ⊥
         clash e = cc

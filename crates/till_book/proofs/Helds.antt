@@ -10,7 +10,8 @@ use Rattle.till_book.specs.declared.rents.HeldRental.{HeldRental}
 use Rattle.till_book.specs.declared.rents.RentRow.{RentRow}
 use Rattle.till_book.proofs.InOrder.{register_is_held}
 
-by_rent : (rent : RentRow) (returns : List Returned) (o : Option Rented) → Some rent ≡ option_map seen_rent o → held_if rent (is_returned_after rent.rental rent.number returns) ≡ option_map seen_held (unless_returned returns o)
+by_rent : (rent : RentRow) (returns : List Returned) (o : Option Rented) → Some rent ≡ option_map seen_rent o
+    → held_if rent (is_returned_after rent.rental rent.number returns) ≡ option_map seen_held (unless_returned returns o)
 by_rent rent returns None e = absurd (clash e)
   where
     clash : ◌≡◌ {A = Option RentRow} (Some rent) None → ⊥
@@ -32,8 +33,14 @@ by_none returns (Some r) e = absurd (clash e)
     clash e = cc
 
 pub held_some : (copy : ℕ) (rent : RentRow) (it : Option HeldRental) (old one new : State)
-    → Finds (λ journal. (commands : List Command) → Say journal.entries commands → Some rent ≡ option_map seen_rent (last_rent copy (rented_in (entries_in commands journal)))) old one
-    → Finds (λ journal. (commands : List Command) → Say journal.entries commands → it ≡ held_if rent (is_returned_after rent.rental rent.number (returned_in (entries_in commands journal)))) one new
+    → Finds (λ journal.
+    (commands : List Command) → Say journal.entries commands
+    → Some rent ≡ option_map seen_rent (last_rent copy (rented_in (entries_in commands journal))))
+    old one
+    → Finds (λ journal.
+    (commands : List Command) → Say journal.entries commands
+    → it ≡ held_if rent (is_returned_after rent.rental rent.number (returned_in (entries_in commands journal))))
+    one new
     → Finds (IsHeld copy it) old new
 held_some copy rent it old one new first second journal holds =
     let last = first journal holds in
@@ -41,12 +48,16 @@ held_some copy rent it old one new first second journal holds =
       told.0,
       λ commands say.
           let is : it ≡ option_map seen_held (held_in copy (entries_in commands journal)) =
-          told.1 commands say ∙ by_rent rent (returned_in (entries_in commands journal)) (last_rent copy (rented_in (entries_in commands journal))) (last.1 commands say) in
+          told.1 commands say
+          ∙ by_rent rent (returned_in (entries_in commands journal)) (last_rent copy (rented_in (entries_in commands journal))) (last.1 commands say) in
           (register_is_held copy it journal commands holds.stands.is.once is, is),
     )
 
 pub held_none : (copy : ℕ) (old new : State)
-    → Finds (λ journal. (commands : List Command) → Say journal.entries commands → None ≡ option_map seen_rent (last_rent copy (rented_in (entries_in commands journal)))) old new → Finds (IsHeld copy None) old new
+    → Finds (λ journal.
+    (commands : List Command) → Say journal.entries commands → None ≡ option_map seen_rent (last_rent copy (rented_in (entries_in commands journal))))
+    old new
+    → Finds (IsHeld copy None) old new
 held_none copy old new first journal holds =
     let last = first journal holds in (
       last.0,
@@ -56,6 +67,7 @@ held_none copy old new first journal holds =
           (register_is_held copy None journal commands holds.stands.is.once is, is),
     )
 
-pub renter_is : (rent : Option RentRow) (it : Option ℕ) (o : Option Rented) → it ≡ option_map (λ (row : RentRow). row.customer) rent → rent ≡ option_map seen_rent o → it ≡ option_map (λ (r : Rented). r.customer) o
+pub renter_is : (rent : Option RentRow) (it : Option ℕ) (o : Option Rented) → it ≡ option_map (λ (row : RentRow). row.customer) rent
+    → rent ≡ option_map seen_rent o → it ≡ option_map (λ (r : Rented). r.customer) o
 renter_is rent it None is same = is ∙ ap (option_map (λ (row : RentRow). row.customer)) same
 renter_is rent it (Some r) is same = is ∙ ap (option_map (λ (row : RentRow). row.customer)) same

@@ -1,5 +1,6 @@
 -- Settlements in the order of their entries settle the same entries in the same way.
-use Rattle.sql_rows.proofs.Common.{◌≡◌, ◌∙◌, ◌≤◌, ◌==◌, ◌&&◌, ℕ, Bool, true, false, List, [], ◌∷◌, filter, length, Option, Some, None, option_map, refl, sym, ap, subst, arith, inl, inr, cases_Bool, IsPermutation, IsPermutation-filter, sort_by, by, Differ}
+use Rattle.sql_rows.proofs.Common.{◌≡◌, ◌∙◌, ◌≤◌, ◌==◌, ◌&&◌, ℕ, Bool, true, false, List, [], ◌∷◌, filter, length, Option, Some, None, option_map, refl, sym}
+use Rattle.sql_rows.proofs.Common.{ap, subst, arith, inl, inr, cases_Bool, IsPermutation, IsPermutation-filter, sort_by, by, Differ}
 use Rattle.sqlite_keyed.proofs.ListLemmas.{ascending-filter}
 use Rattle.sqlite_keyed.proofs.SortLemmas.{IsPermutation-sort_by}
 use Rattle.sql_rows.proofs.Bags.{short_bag, number_total}
@@ -50,7 +51,8 @@ first_accepted n (x ∷ xs) = elim (cases_Bool (x.0 == n && x.1.status == 200)) 
 pub accepted_in_order : (n : ℕ) (settled : List (ℕ × Answer)) → Differ number settled → accepted_of n (in_order settled) ≡ accepted_of n settled
 accepted_in_order n settled once =
     let few : length (filter (accepts n) settled) ≤ 1 =
-    subst (λ (l : List (ℕ × Answer)). length l ≤ 1) (sym (twice n settled)) (picks_one n (filter is_accepted settled) (ascending-filter _ is_accepted settled once)) in
+    subst (λ (l : List (ℕ × Answer)). length l ≤ 1) (sym (twice n settled))
+    (picks_one n (filter is_accepted settled) (ascending-filter _ is_accepted settled once)) in
     let same : filter (accepts n) (in_order settled) ≡ filter (accepts n) settled =
     short_bag _ _ (IsPermutation-filter (accepts n) _ _ (IsPermutation-sort_by (by number) (number_total number) settled)) few in
     first_accepted n (in_order settled) ∙ ap first_of_all same ∙ sym (first_accepted n settled)
@@ -65,13 +67,15 @@ same_held copy commands journal once =
     let returns = alike_settled returns_told returns_silent commands journal.replies (in_order journal.settled) journal.settled alike in
     λ i. unless_returned (returns i) (last_rent copy (rents i))
 
-pub register_is_held : (copy : ℕ) (it : Option HeldRental) (journal : Journal) (commands : List Command) → Differ number journal.settled → it ≡ option_map seen_held (held_in copy (entries_in commands journal))
+pub register_is_held : (copy : ℕ) (it : Option HeldRental) (journal : Journal) (commands : List Command)
+    → Differ number journal.settled → it ≡ option_map seen_held (held_in copy (entries_in commands journal))
     → option_map (λ (held : HeldRental). held.rental) it ≡ rental_of copy (book_entries commands journal.replies (in_order journal.settled))
 register_is_held copy it journal commands once is =
     ap (option_map (λ (held : HeldRental). held.rental)) is ∙ twice_mapped (held_in copy (entries_in commands journal))
     ∙ ap (option_map (λ (rent : Rented). rent.rental)) (sym (same_held copy commands journal once))
     ∙ sym (register_by_rents copy (book_entries commands journal.replies (in_order journal.settled)))
   where
-    twice_mapped : (o : Option Rented) → option_map (λ (held : HeldRental). held.rental) (option_map seen_held o) ≡ option_map (λ (rent : Rented). rent.rental) o
+    twice_mapped : (o : Option Rented)
+        → option_map (λ (held : HeldRental). held.rental) (option_map seen_held o) ≡ option_map (λ (rent : Rented). rent.rental) o
     twice_mapped None = refl
     twice_mapped (Some rent) = refl

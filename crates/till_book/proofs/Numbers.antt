@@ -1,5 +1,7 @@
 -- Rows with numbers: no number comes twice, and rows in order of number.
-use Rattle.sql_rows.proofs.Common.{zero, suc, IsAscending, filter_same, ◌≡◌, ◌≢◌, ◌<◌, ◌≤◌, ◌+◌, ◌∙◌, ℕ, List, [], ◌∷◌, ◌++◌, map, filter, length, true, false, cond, inl, inr, refl, sym, ap, subst, arith, is_gt, AllByRecursion, cases_Bool, nat_tests, sort_by, insert_sorted, IsAscending, ascending_weaker, by, Differ}
+use Rattle.sql_rows.proofs.Common.{zero, suc, IsAscending, filter_same, ◌≡◌, ◌≢◌, ◌<◌, ◌≤◌, ◌+◌, ◌∙◌, ℕ, List, [], ◌∷◌, ◌++◌, map, filter, length, true, false}
+use Rattle.sql_rows.proofs.Common.{cond, inl, inr, refl, sym, ap, subst, arith, is_gt, AllByRecursion, cases_Bool, nat_tests, sort_by, insert_sorted}
+use Rattle.sql_rows.proofs.Common.{IsAscending, ascending_weaker, by, Differ}
 use Rattle.std.specs.Prelude.{◌==◌, nat_lt, drop}
 use Rattle.shop_model.specs.Rows.{numbered_from}
 use Rattle.shop_model.proofs.RowLemmas.{equal_test, differ_test}
@@ -95,7 +97,8 @@ module _ {A : Type 0} where
       drop_none (suc i) = refl
   dropped_from zero k (x ∷ xs) =
       let here : k + 0 ≡ k = omega arith in
-      ap (λ (m : ℕ). filter (λ (it : ℕ × A). nat_lt m (it.0 + 1)) (numbered_from k (x ∷ xs))) here ∙ all_from k (x ∷ xs) (omega arith) ∙ ap (λ (m : ℕ). numbered_from m (x ∷ xs)) (sym here)
+      ap (λ (m : ℕ). filter (λ (it : ℕ × A). nat_lt m (it.0 + 1)) (numbered_from k (x ∷ xs))) here
+      ∙ all_from k (x ∷ xs) (omega arith) ∙ ap (λ (m : ℕ). numbered_from m (x ∷ xs)) (sym here)
     where
       less : (m n : ℕ) → m ≤ n → nat_lt m (n + 1) ≡ true
       less m n h = grind (arith, nat_tests)
@@ -106,7 +109,9 @@ module _ {A : Type 0} where
   dropped_from (suc i) k (x ∷ xs) =
       let isnt : nat_lt (k + suc i) (k + 1) ≡ false = not_less (k + suc i) (k + 1) (omega arith) in
       let same : k + suc i ≡ k + 1 + i = omega arith in
-      rw isnt (ap (λ (m : ℕ). filter (λ (it : ℕ × A). nat_lt m (it.0 + 1)) (numbered_from (k + 1) xs)) same ∙ dropped_from i (k + 1) xs ∙ ap (λ (m : ℕ). numbered_from m (drop i xs)) (sym same))
+      rw isnt
+      (ap (λ (m : ℕ). filter (λ (it : ℕ × A). nat_lt m (it.0 + 1)) (numbered_from (k + 1) xs)) same
+      ∙ dropped_from i (k + 1) xs ∙ ap (λ (m : ℕ). numbered_from m (drop i xs)) (sym same))
     where
       not_less : (m n : ℕ) → n ≤ m → nat_lt m n ≡ false
       not_less m n h = grind (arith, nat_tests)
@@ -114,7 +119,8 @@ module _ {A : Type 0} where
   pub dropped_numbers : (n : ℕ) (xs : List A) → filter (λ (it : ℕ × A). nat_lt n it.0) (numbered_from 1 xs) ≡ numbered_from (n + 1) (drop n xs)
   dropped_numbers n xs =
       let place : 1 + n ≡ n + 1 = omega arith in
-      filter_same (λ (it : ℕ × A). nat_lt n it.0) (λ (it : ℕ × A). nat_lt (1 + n) (it.0 + 1)) (λ it. shifted n it.0) (numbered_from 1 xs) ∙ dropped_from n 1 xs ∙ ap (λ (m : ℕ). numbered_from m (drop n xs)) place
+      filter_same (λ (it : ℕ × A). nat_lt n it.0) (λ (it : ℕ × A). nat_lt (1 + n) (it.0 + 1)) (λ it. shifted n it.0) (numbered_from 1 xs)
+      ∙ dropped_from n 1 xs ∙ ap (λ (m : ℕ). numbered_from m (drop n xs)) place
     where
       shifted : (m n : ℕ) → nat_lt m n ≡ nat_lt (1 + m) (n + 1)
       shifted m n = grind (arith, nat_tests)

@@ -1,5 +1,7 @@
 -- Refused entries, and the unsure ones among them.
-use Rattle.sql_rows.proofs.Common.{◌≡◌, ◌≢◌, ◌∙◌, ◌+◌, ◌<◌, ◌≤◌, ◌==◌, ◌&&◌, ◌||◌, ℕ, zero, suc, Bool, not, true, false, true≢false, List, [], ◌∷◌, ◌++◌, map, filter, length, slice_get, Option, Some, None, refl, sym, ap, subst, arith, inl, inr, cases_Bool, cond, AllByRecursion, append-nil, map_push, filter-map, delete_where, Differ, list_all, nat_tests, PicksOne, filter_same}
+use Rattle.sql_rows.proofs.Common.{◌≡◌, ◌≢◌, ◌∙◌, ◌+◌, ◌<◌, ◌≤◌, ◌==◌, ◌&&◌, ◌||◌, ℕ, zero, suc, Bool, not, true, false, true≢false, List, [], ◌∷◌, ◌++◌, map}
+use Rattle.sql_rows.proofs.Common.{filter, length, slice_get, Option, Some, None, refl, sym, ap, subst, arith, inl, inr, cases_Bool, cond, AllByRecursion}
+use Rattle.sql_rows.proofs.Common.{append-nil, map_push, filter-map, delete_where, Differ, list_all, nat_tests, PicksOne, filter_same}
 use Rattle.sqlite_keyed.proofs.ListLemmas.{ascending-filter}
 use Rattle.std.specs.List.{list_any}
 use Rattle.std.proofs.lemmas.Bool.{and_parts}
@@ -38,7 +40,8 @@ module _ {A : Type 0} where
       rw differ (none_low n (k + 1) xs (omega (arith, low)))
 
 -- a refused entry's reply is at the place of its number, and isn't 200
-reply_there : (n k : ℕ) (replies : List Answer) → list_any bad (settled_of n (numbered_from k replies)) ≡ true → (i : ℕ) × (r : Answer) × (n ≡ k + i) × (slice_get replies i ≡ Some r) × (r.status ≢ 200)
+reply_there : (n k : ℕ) (replies : List Answer) → list_any bad (settled_of n (numbered_from k replies)) ≡ true
+    → (i : ℕ) × (r : Answer) × (n ≡ k + i) × (slice_get replies i ≡ Some r) × (r.status ≢ 200)
 reply_there n k [] some = absurd (true≢false (sym some))
 reply_there n k (r ∷ replies) some = elim (cases_Bool (k == n)) [
   | inl is ↦
@@ -52,7 +55,8 @@ reply_there n k (r ∷ replies) some = elim (cases_Bool (k == n)) [
       (suc more.0, more.1, omega (arith, more.2), more.3, more.4)
 ]
 
-pub refused_at : (n : ℕ) (replies : List Answer) → is_refused replies n ≡ true → (i : ℕ) × (r : Answer) × (n ≡ i + 1) × (slice_get replies i ≡ Some r) × (r.status ≢ 200)
+pub refused_at : (n : ℕ) (replies : List Answer) → is_refused replies n ≡ true
+    → (i : ℕ) × (r : Answer) × (n ≡ i + 1) × (slice_get replies i ≡ Some r) × (r.status ≢ 200)
 refused_at n replies some =
     let it = reply_there n 1 replies some in
     (it.0, it.1, omega (arith, it.2), it.3, it.4)
@@ -70,7 +74,10 @@ still_refused n replies a some =
     let split : is_refused (replies ++ a ∷ []) n ≡ of (cond (1 + length replies == n) (old ++ last ∷ []) old) =
     ap (λ (l : List (ℕ × Answer)). of (filter (numbers n) l)) (numbered_push 1 replies a) ∙ ap of (one_more (numbers n) (numbered replies) last) in
     split ∙ elim (cases_Bool (1 + length replies == n)) [
-      | inl is ↦ rw is (ap (list_any bad) (map_push (λ (it : ℕ × Answer). it.1) old last) ∙ list_any-append bad (map (λ (it : ℕ × Answer). it.1) old) (a ∷ []) ∙ rw some refl)
+      | inl is ↦
+          rw is
+          (ap (list_any bad) (map_push (λ (it : ℕ × Answer). it.1) old last)
+          ∙ list_any-append bad (map (λ (it : ℕ × Answer). it.1) old) (a ∷ []) ∙ rw some refl)
       | inr isnt ↦ rw isnt some
     ]
 
@@ -82,15 +89,18 @@ AreRefused replies settled = list_all (λ (it : ℕ × Answer). is_refused repli
 pub stay_refused : (replies : List Answer) (settled : List (ℕ × Answer)) (a : Answer) → AreRefused replies settled → AreRefused (replies ++ a ∷ []) settled
 stay_refused replies settled a all =
     test_from_all (λ (it : ℕ × Answer). is_refused (replies ++ a ∷ []) it.0) settled
-    (all_weaker (λ (it : ℕ × Answer). is_refused replies it.0 ≡ true) (λ (it : ℕ × Answer). is_refused (replies ++ a ∷ []) it.0 ≡ true) (λ it. still_refused it.0 replies a) settled
+    (all_weaker (λ (it : ℕ × Answer). is_refused replies it.0 ≡ true)
+    (λ (it : ℕ × Answer). is_refused (replies ++ a ∷ []) it.0 ≡ true) (λ it. still_refused it.0 replies a) settled
     (all_from_test (λ (it : ℕ × Answer). is_refused replies it.0) settled all))
 
-pub one_refused : (replies : List Answer) (settled : List (ℕ × Answer)) (n : ℕ) (a : Answer) → AreRefused replies settled → is_refused replies n ≡ true → AreRefused replies (settled ++ (n, a) ∷ [])
+pub one_refused : (replies : List Answer) (settled : List (ℕ × Answer)) (n : ℕ) (a : Answer)
+    → AreRefused replies settled → is_refused replies n ≡ true → AreRefused replies (settled ++ (n, a) ∷ [])
 one_refused replies settled n a all is = list_all_push (λ (it : ℕ × Answer). is_refused replies it.0) settled (n, a) all is
 
 -- an entry without a reply has no settlement
 pub none_settled : (replies : List Answer) (settled : List (ℕ × Answer)) (n : ℕ) → AreRefused replies settled → length replies < n → settled_of n settled ≡ []
-none_settled replies settled n all high = ap (map (λ (it : ℕ × Answer). it.1)) (go settled (all_from_test (λ (it : ℕ × Answer). is_refused replies it.0) settled all))
+none_settled replies settled n all high =
+    ap (map (λ (it : ℕ × Answer). it.1)) (go settled (all_from_test (λ (it : ℕ × Answer). is_refused replies it.0) settled all))
   where
     go : (settled : List (ℕ × Answer)) → AllByRecursion (λ (it : ℕ × Answer). is_refused replies it.0 ≡ true) settled → filter (numbers n) settled ≡ []
     go [] all = refl
@@ -140,14 +150,16 @@ unsure_more journal n a is none =
     let last : ℕ × Answer = (1 + length journal.replies, a) in
     let old : List (ℕ × Answer) = filter (unsure_in journal.settled) (numbered journal.replies) in
     let place : 1 + length journal.replies ≡ n = omega (arith, is) in
-    let free : is_unsettled journal.settled (1 + length journal.replies) ≡ true = subst (λ (m : ℕ). is_unsettled journal.settled m ≡ true) (sym place) (unsettled_of n journal.settled none) in
+    let free : is_unsettled journal.settled (1 + length journal.replies) ≡ true =
+    subst (λ (m : ℕ). is_unsettled journal.settled m ≡ true) (sym place) (unsettled_of n journal.settled none) in
     let test : unsure_in journal.settled last ≡ is_unsure a = ap (λ (b : Bool). is_unsure a && b) free ∙ and-true (is_unsure a) in
     ap (λ (l : List (ℕ × Answer)). map (λ (it : ℕ × Answer). it.0) (filter (unsure_in journal.settled) l)) (numbered_push 1 journal.replies a)
     ∙ ap (map (λ (it : ℕ × Answer). it.0)) (one_more (unsure_in journal.settled) (numbered journal.replies) last)
     ∙ ap (λ (b : Bool). map (λ (it : ℕ × Answer). it.0) (cond b (old ++ last ∷ []) old)) test
     ∙ go (is_unsure a) old last place
   where
-    go : (b : Bool) (old : List (ℕ × Answer)) (last : ℕ × Answer) → last.0 ≡ n → map (λ (it : ℕ × Answer). it.0) (cond b (old ++ last ∷ []) old) ≡ map (λ (it : ℕ × Answer). it.0) old ++ one_if b n
+    go : (b : Bool) (old : List (ℕ × Answer)) (last : ℕ × Answer) → last.0 ≡ n
+        → map (λ (it : ℕ × Answer). it.0) (cond b (old ++ last ∷ []) old) ≡ map (λ (it : ℕ × Answer). it.0) old ++ one_if b n
     go true old last same = map_push (λ (it : ℕ × Answer). it.0) old last ∙ ap (λ (m : ℕ). map (λ (it : ℕ × Answer). it.0) old ++ m ∷ []) same
     go false old last same = sym (append-nil _)
 
@@ -157,7 +169,8 @@ one_settled [] n m a = elim (cases_Bool (n == m)) [ inl is ↦ rw is refl | inr 
 one_settled (it ∷ settled) n m a = elim (cases_Bool (it.0 == m)) [ inl is ↦ rw is refl | inr isnt ↦ rw isnt (one_settled settled n m a) ]
 
 -- after a settlement
-pub unsure_less : (journal : Journal) (n : ℕ) (a : Answer) → unsure_of (record journal { settled = journal.settled ++ (n, a) ∷ [] }) ≡ delete_where (λ (m : ℕ). m == n) (unsure_of journal)
+pub unsure_less : (journal : Journal) (n : ℕ) (a : Answer)
+    → unsure_of (record journal { settled = journal.settled ++ (n, a) ∷ [] }) ≡ delete_where (λ (m : ℕ). m == n) (unsure_of journal)
 unsure_less journal n a = go (numbered journal.replies)
   where
     grouped : (x y z : Bool) → (x && (y && z)) ≡ (x && y && z)
@@ -166,7 +179,8 @@ unsure_less journal n a = go (numbered journal.replies)
 
     test : (x : ℕ × Answer) → unsure_in (journal.settled ++ (n, a) ∷ []) x ≡ (unsure_in journal.settled x && not (x.0 == n))
     test x =
-        ap (λ (b : Bool). is_unsure x.1 && b) (one_settled journal.settled n x.0 a ∙ ap (λ (b : Bool). is_unsettled journal.settled x.0 && not b) (turned n x.0))
+        ap (λ (b : Bool). is_unsure x.1 && b)
+        (one_settled journal.settled n x.0 a ∙ ap (λ (b : Bool). is_unsettled journal.settled x.0 && not b) (turned n x.0))
         ∙ grouped (is_unsure x.1) (is_unsettled journal.settled x.0) (not (x.0 == n))
 
     step : (x : ℕ × Answer) (now old same : Bool) → now ≡ (old && not same) → (x.0 == n) ≡ same → (ls rs : List (ℕ × Answer))
@@ -174,10 +188,16 @@ unsure_less journal n a = go (numbered journal.replies)
         → map (λ (it : ℕ × Answer). it.0) (cond now (x ∷ ls) ls) ≡ delete_where (λ (m : ℕ). m == n) (map (λ (it : ℕ × Answer). it.0) (cond old (x ∷ rs) rs))
     step x now true true is here ls rs more =
         ap (λ (b : Bool). map (λ (it : ℕ × Answer). it.0) (cond b (x ∷ ls) ls)) is ∙ more
-        ∙ ap (λ (b : Bool). cond (not b) (x.0 ∷ delete_where (λ (m : ℕ). m == n) (map (λ (it : ℕ × Answer). it.0) rs)) (delete_where (λ (m : ℕ). m == n) (map (λ (it : ℕ × Answer). it.0) rs))) (sym here)
+        ∙ ap (λ (b : Bool).
+        cond (not b) (x.0 ∷ delete_where (λ (m : ℕ). m == n) (map (λ (it : ℕ × Answer). it.0) rs))
+        (delete_where (λ (m : ℕ). m == n) (map (λ (it : ℕ × Answer). it.0) rs)))
+        (sym here)
     step x now true false is here ls rs more =
         ap (λ (b : Bool). map (λ (it : ℕ × Answer). it.0) (cond b (x ∷ ls) ls)) is ∙ ap (λ (l : List ℕ). x.0 ∷ l) more
-        ∙ ap (λ (b : Bool). cond (not b) (x.0 ∷ delete_where (λ (m : ℕ). m == n) (map (λ (it : ℕ × Answer). it.0) rs)) (delete_where (λ (m : ℕ). m == n) (map (λ (it : ℕ × Answer). it.0) rs))) (sym here)
+        ∙ ap (λ (b : Bool).
+        cond (not b) (x.0 ∷ delete_where (λ (m : ℕ). m == n) (map (λ (it : ℕ × Answer). it.0) rs))
+        (delete_where (λ (m : ℕ). m == n) (map (λ (it : ℕ × Answer). it.0) rs)))
+        (sym here)
     step x now false same is here ls rs more = ap (λ (b : Bool). map (λ (it : ℕ × Answer). it.0) (cond b (x ∷ ls) ls)) is ∙ more
 
     go : (xs : List (ℕ × Answer)) → map (λ (it : ℕ × Answer). it.0) (filter (unsure_in (journal.settled ++ (n, a) ∷ [])) xs)
@@ -189,5 +209,6 @@ unsure_less journal n a = go (numbered journal.replies)
 pub unsure_once : (journal : Journal) (n : ℕ) → PicksOne (λ (m : ℕ). m == n) (unsure_of journal)
 unsure_once journal n =
     let mine : List (ℕ × Answer) = filter (unsure_in journal.settled) (numbered journal.replies) in
-    subst (λ (k : ℕ). k ≤ 1) (sym (ap length (filter-map (λ (m : ℕ). m == n) (λ (it : ℕ × Answer). it.0) mine) ∙ length-map (λ (it : ℕ × Answer). it.0) (filter (numbers n) mine)))
+    subst (λ (k : ℕ). k ≤ 1)
+    (sym (ap length (filter-map (λ (m : ℕ). m == n) (λ (it : ℕ × Answer). it.0) mine) ∙ length-map (λ (it : ℕ × Answer). it.0) (filter (numbers n) mine)))
     (picks_one n mine (ascending-filter _ (unsure_in journal.settled) (numbered journal.replies) (numbered_differ 1 journal.replies)))

@@ -1,5 +1,7 @@
--- The journal that the tables hold. It has the requests in the order in which they were entered. The n-th reply is that of the n-th request. A settlement is the
--- reply to an entry that was sent once more, with the entry's number. Settlements are in the order in which they came. Nothing in a journal changes, and nothing goes.
+-- The journal that the tables hold. It has the requests in the order in which they were entered. The n-th reply is that of the n-th request. A settlement is
+-- the
+-- reply to an entry that was sent once more, with the entry's number. Settlements are in the order in which they came. Nothing in a journal changes, and
+-- nothing goes.
 use Rattle.std.specs.Prelude.{◌≡◌, ◌+◌, ◌≤◌, ◌==◌, ◌&&◌, Bool, true, not, ℕ, List, [], ◌∷◌, ◌++◌, length, map, filter, slice_get, Option, Some, None}
 use Rattle.std.specs.List.{list_all, list_any}
 use Rattle.sqlite.specs.declared.types.Value.TheVariants.{Blob}
@@ -61,7 +63,8 @@ is_unsettled settled n = not (list_any (λ (it : ℕ × Answer). it.0 == n) sett
 
 -- the numbers of the refused entries that may have acted or may act late, as far as the journal says
 abbrev pub unsure_of : Journal → List ℕ
-unsure_of journal = map (λ (it : ℕ × Answer). it.0) (filter (λ (it : ℕ × Answer). is_unsure it.1 && is_unsettled journal.settled it.0) (numbered journal.replies))
+unsure_of journal =
+    map (λ (it : ℕ × Answer). it.0) (filter (λ (it : ℕ × Answer). is_unsure it.1 && is_unsettled journal.settled it.0) (numbered journal.replies))
 
 -- the entries of a journal that says these commands
 abbrev pub entries_in : List Command → Journal → List Entry
@@ -83,7 +86,8 @@ pub record StandsFor (trees : Trees) (journal : Journal) : Type 0 where
   pub is : IsJournal journal
   pub unsure : HasRows 1 (trees 6) (map unsure_columns (unsure_of journal))
   pub rented : (commands : List Command) → Say journal.entries commands → HasRows 4 (trees 8) (map rented_columns (rented_in (entries_in commands journal)))
-  pub returned : (commands : List Command) → Say journal.entries commands → HasRows 2 (trees 10) (map returned_columns (returned_in (entries_in commands journal)))
+  pub returned : (commands : List Command) → Say journal.entries commands
+      → HasRows 2 (trees 10) (map returned_columns (returned_in (entries_in commands journal)))
 
 abbrev pub Holds : State → Journal → Type 0
 Holds = calls.Holds book_schema StandsFor
@@ -100,7 +104,8 @@ pub record AreMarked (trees : Trees) (journal : Journal) : Type 0 where
   pub is : IsJournal journal
   pub unsure : HasRows 1 (trees 6) (map unsure_columns (unsure_of journal))
   pub rented : (commands : List Command) → Say journal.entries commands → HasRows 4 (trees 8) (map rented_columns (rented_in (entries_in commands journal)))
-  pub returned : (commands : List Command) → Say journal.entries commands → HasRows 2 (trees 10) (map returned_columns (returned_in (entries_in commands journal)))
+  pub returned : (commands : List Command) → Say journal.entries commands
+      → HasRows 2 (trees 10) (map returned_columns (returned_in (entries_in commands journal)))
 
 -- the journal's three tables, and the tables beside it without a row
 pub record IsBare (trees : Trees) (journal : Journal) : Type 0 where

@@ -49,7 +49,8 @@ returned_in = all_told returns_told
 abbrev pub is_reply_to : Problem → Answer → Bool
 is_reply_to problem answer = answer.status == problem_status problem && bytes_eq answer.body (problem_text problem)
 
--- The server looks for these before it looks at the moment, so an entry gets the same refusal each time it is sent. After `MomentBack` itself an entry never acts.
+-- The server looks for these before it looks at the moment, so an entry gets the same refusal each time it is sent. After `MomentBack` itself an entry never
+-- acts.
 abbrev pub final_problems : List Problem
 final_problems = BadHead ∷ Decision TooLong ∷ Decision NoRoute ∷ Decision BadBody ∷ Decision KeyUsed ∷ Decision Full ∷ Decision MomentBack ∷ []
 

@@ -70,7 +70,8 @@ FindsWaiting n it old new = (journal : Journal) → Rests old journal → IsNext
 
 -- the reply that settled the entry of that number, if one is recorded; the book stays
 abbrev pub FindsSettled : ℕ → Option BookReply → State → State → Type 0
-FindsSettled n it old new = (journal : Journal) → Rests old journal → Rests new journal × (option_to_list (option_map seen_reply it) ≡ settled_of n journal.settled)
+FindsSettled n it old new =
+    (journal : Journal) → Rests old journal → Rests new journal × (option_to_list (option_map seen_reply it) ≡ settled_of n journal.settled)
 
 -- these rows are the whole book; the book stays
 abbrev pub ReadsBook : BookRows → State → State → Type 0

@@ -18,7 +18,8 @@ unsure_table = table_of (codes "unsure") 6 (1 ∷ []) ((1 ∷ []) ∷ []) (numbe
 
 abbrev pub rented_table : Table
 rented_table =
-    table_of (codes "rented") 8 (1 ∷ 2 ∷ []) ((1 ∷ 2 ∷ []) ∷ []) (number (codes "copy") ∷ number (codes "number") ∷ number (codes "rental") ∷ number (codes "customer") ∷ []) []
+    table_of (codes "rented") 8 (1 ∷ 2 ∷ []) ((1 ∷ 2 ∷ []) ∷ [])
+    (number (codes "copy") ∷ number (codes "number") ∷ number (codes "rental") ∷ number (codes "customer") ∷ []) []
 
 abbrev pub returned_table : Table
 returned_table = table_of (codes "returned") 10 (1 ∷ 2 ∷ []) ((1 ∷ 2 ∷ []) ∷ []) (number (codes "rental") ∷ number (codes "number") ∷ []) []

@@ -14,6 +14,7 @@ joined token target body digits b0 b1 b2 b3 b4 b5 b6 b7 e0 e1 e2 e3 e4 e5 e6 e7 
     let f2 : b2 ≡ codes "POST " ++ target ++ before_token = e2 ∙ behind _ _ before_token f1 in
     let f3 : b3 ≡ codes "POST " ++ target ++ before_token ++ token = e3 ∙ behind _ _ token f2 in
     let f4 : b4 ≡ codes "POST " ++ target ++ before_token ++ token ++ before_length = e4 ∙ behind _ _ before_length f3 in
-    let f5 : b5 ≡ codes "POST " ++ target ++ before_token ++ token ++ before_length ++ decimal (length body) = e5 ∙ behind _ _ digits f4 ∙ ap (λ (l : List ℕ). codes "POST " ++ target ++ before_token ++ token ++ before_length ++ l) e8 in
+    let f5 : b5 ≡ codes "POST " ++ target ++ before_token ++ token ++ before_length ++ decimal (length body) =
+    e5 ∙ behind _ _ digits f4 ∙ ap (λ (l : List ℕ). codes "POST " ++ target ++ before_token ++ token ++ before_length ++ l) e8 in
     let f6 : b6 ≡ codes "POST " ++ target ++ before_token ++ token ++ before_length ++ decimal (length body) ++ before_body = e6 ∙ behind _ _ before_body f5 in
     e7 ∙ behind _ _ body f6

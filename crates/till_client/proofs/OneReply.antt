@@ -1,5 +1,6 @@
 -- The bytes of a reply determine which reply it is.
-use Rattle.shop_types.proofs.Common.{◌≡◌, ◌∙◌, ◌<◌, ◌≤◌, ◌+◌, ◌%◌, ◌^◌, ℕ, List, [], ◌∷◌, ◌++◌, length, Bool, true, false, not, refl, sym, ap, arith, append_assoc, list_all, and_parts, false≢true, decimal_injective, decimal_by_steps, differ_test, equal_test, Answer}
+use Rattle.shop_types.proofs.Common.{◌≡◌, ◌∙◌, ◌<◌, ◌≤◌, ◌+◌, ◌%◌, ◌^◌, ℕ, List, [], ◌∷◌, ◌++◌, length, Bool, true, false, not, refl, sym, ap, arith}
+use Rattle.shop_types.proofs.Common.{append_assoc, list_all, and_parts, false≢true, decimal_injective, decimal_by_steps, differ_test, equal_test, Answer}
 use Rattle.std.specs.Prelude.{codes, decimal, ◌==◌}
 use Rattle.shop_model.proofs.GoodShops.{all_more}
 use Rattle.http_messages.specs.Text.{phrase, crlf, head_text}
@@ -37,7 +38,9 @@ cut c [] [] p q all alls e = (refl, tails c c p q e)
 cut c [] (y ∷ ys) p q all alls e = absurd (not_first c y ys alls (heads c y p (ys ++ c ∷ q) e))
 cut c (x ∷ xs) [] p q all alls e = absurd (not_first c x xs all (sym (heads x c (xs ++ c ∷ p) q e)))
 cut c (x ∷ xs) (y ∷ ys) p q all alls e =
-    let rest = cut c xs ys p q (and_parts (lacks c x) (list_all (lacks c) xs) all).1 (and_parts (lacks c y) (list_all (lacks c) ys) alls).1 (tails x y (xs ++ c ∷ p) (ys ++ c ∷ q) e) in
+    let rest =
+    cut c xs ys p q (and_parts (lacks c x) (list_all (lacks c) xs) all).1
+    (and_parts (lacks c y) (list_all (lacks c) ys) alls).1 (tails x y (xs ++ c ∷ p) (ys ++ c ∷ q) e) in
     let first : x ≡ y = heads x y (xs ++ c ∷ p) (ys ++ c ∷ q) e in
     (λ i. first i ∷ rest.0 i, rest.1)
 
@@ -54,7 +57,8 @@ of_length (b ∷ bs) (c ∷ cs) x y same e =
     let first : b ≡ c = heads b c (bs ++ x) (cs ++ y) e in
     (λ i. first i ∷ rest.0 i, rest.1)
 
-regroup : (h d s p c t k l b x : List ℕ) → (h ++ d ++ s ++ p ++ c ++ t ++ c ++ k ++ l ++ c ++ c ++ b) ++ x ≡ h ++ (d ++ (s ++ (p ++ (c ++ (t ++ (c ++ (k ++ (l ++ (c ++ (c ++ (b ++ x)))))))))))
+regroup : (h d s p c t k l b x : List ℕ)
+    → (h ++ d ++ s ++ p ++ c ++ t ++ c ++ k ++ l ++ c ++ c ++ b) ++ x ≡ h ++ (d ++ (s ++ (p ++ (c ++ (t ++ (c ++ (k ++ (l ++ (c ++ (c ++ (b ++ x)))))))))))
 regroup h d s p c t k l b x = simp append_assoc
 
 abbrev pub kind : List ℕ
@@ -74,8 +78,11 @@ shape a x = regroup (codes "HTTP/1.1 ") (decimal a.status) (codes " ") (phrase a
 pub one_answer : OneAnswer
 one_answer a b x y small_a small_b short_a short_b e =
     let whole = sym (shape a x) ∙ e ∙ shape b y in
-    let rest = behind (codes "HTTP/1.1 ") (decimal a.status ++ (codes " " ++ tail_of a a.status x)) (decimal b.status ++ (codes " " ++ tail_of b b.status y)) whole in
-    let first = cut 32 (decimal a.status) (decimal b.status) (tail_of a a.status x) (tail_of b b.status y) (digits_lack 32 a.status (omega arith) small_a) (digits_lack 32 b.status (omega arith) small_b) rest in
+    let rest =
+    behind (codes "HTTP/1.1 ") (decimal a.status ++ (codes " " ++ tail_of a a.status x)) (decimal b.status ++ (codes " " ++ tail_of b b.status y)) whole in
+    let first =
+    cut 32 (decimal a.status) (decimal b.status) (tail_of a a.status x) (tail_of b b.status y)
+    (digits_lack 32 a.status (omega arith) small_a) (digits_lack 32 b.status (omega arith) small_b) rest in
     let status : a.status ≡ b.status = decimal_injective a.status b.status small_a small_b first.0 in
     let aligned : tail_of a b.status x ≡ tail_of b b.status y = ap (λ n. tail_of a n x) (sym status) ∙ first.1 in
     let one = behind (phrase b.status) _ _ aligned in
@@ -83,7 +90,9 @@ one_answer a b x y small_a small_b short_a short_b e =
     let three = behind kind _ _ two in
     let four = behind crlf _ _ three in
     let five = behind size _ _ four in
-    let sized = cut 13 (decimal (length a.body)) (decimal (length b.body)) _ _ (digits_lack 13 (length a.body) (omega arith) short_a) (digits_lack 13 (length b.body) (omega arith) short_b) five in
+    let sized =
+    cut 13 (decimal (length a.body)) (decimal (length b.body)) _ _
+    (digits_lack 13 (length a.body) (omega arith) short_a) (digits_lack 13 (length b.body) (omega arith) short_b) five in
     let long : length a.body ≡ length b.body = decimal_injective (length a.body) (length b.body) short_a short_b sized.0 in
     let six = behind (10 ∷ 13 ∷ 10 ∷ []) (a.body ++ x) (b.body ++ y) sized.1 in
     let bodies = of_length a.body b.body x y long six in

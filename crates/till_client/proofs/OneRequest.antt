@@ -15,12 +15,14 @@ both_none (x ∷ xs) ys e = absurd (clash e)
 pub one_message : OneMessage
 one_message request front more rest m [] some has parts reads = inl refl
 one_message request front more rest m (n ∷ []) some has parts (after, first, later) =
-    let whole : HasMessage request n (after ++ more) = subst (λ (l : List ℕ). HasMessage l n (after ++ more)) (sym parts) (HasMessage-append front more n after first) in
+    let whole : HasMessage request n (after ++ more) =
+    subst (λ (l : List ℕ). HasMessage l n (after ++ more)) (sym parts) (HasMessage-append front more n after first) in
     let same = HasMessage-unique request m n [] (after ++ more) has whole in
     let none = both_none after more (sym same.1) in
     inr (ap (λ (it : Message). it ∷ []) (sym same.0), sym (parts ∙ ap (λ (l : List ℕ). front ++ l) none.1 ∙ append-nil front))
 one_message request front more rest m (n ∷ (l ∷ ls)) some has parts (after, first, (behind, second, others)) =
-    let whole : HasMessage request n (after ++ more) = subst (λ (it : List ℕ). HasMessage it n (after ++ more)) (sym parts) (HasMessage-append front more n after first) in
+    let whole : HasMessage request n (after ++ more) =
+    subst (λ (it : List ℕ). HasMessage it n (after ++ more)) (sym parts) (HasMessage-append front more n after first) in
     let same = HasMessage-unique request m n [] (after ++ more) has whole in
     let none = both_none after more (sym same.1) in
     let empty : HasMessage [] l behind = subst (λ (it : List ℕ). HasMessage it l behind) none.0 second in

@@ -13,7 +13,8 @@ some_bytes a x e = clash (decimal a.status ++ (codes " " ++ tail_of a a.status x
     clash : (l : List ℕ) → [] ≡ codes "HTTP/1.1 " ++ l → ⊥
     clash l e = let n : 0 ≡ length (codes "HTTP/1.1 " ++ l) = ap length e in omega (arith, n)
 
-one_of : (answers : List Answer) (answer : Answer) (x : List ℕ) → length answers ≡ 1 → AllByRecursion IsShort answers → IsShort answer → flat_map answer_bytes answers ≡ answer_bytes answer ++ x
+one_of : (answers : List Answer) (answer : Answer) (x : List ℕ) → length answers ≡ 1
+    → AllByRecursion IsShort answers → IsShort answer → flat_map answer_bytes answers ≡ answer_bytes answer ++ x
     → (answers ≡ answer ∷ []) × (x ≡ [])
 one_of [] answer x one short fits e = absurd (omega arith)
 one_of (a ∷ []) answer x one short fits e =
@@ -26,9 +27,10 @@ none_of [] answer x none e = some_bytes answer x e
 none_of (a ∷ answers) answer x none e = absurd (omega arith)
 
 pub one_exchange : OneExchange
-one_exchange request front more rest x m ms answers answer some has parts reads each short fits e = elim (one_message request front more rest m ms some has parts reads) [
-  | inl none ↦ absurd (none_of answers answer x (each ∙ ap length none) e)
-  | inr (is, whole) ↦
-      let it = one_of answers answer x (each ∙ ap length is) short fits e in
-      (is, it.0, whole, it.1)
-]
+one_exchange request front more rest x m ms answers answer some has parts reads each short fits e =
+    elim (one_message request front more rest m ms some has parts reads) [
+      | inl none ↦ absurd (none_of answers answer x (each ∙ ap length none) e)
+      | inr (is, whole) ↦
+          let it = one_of answers answer x (each ∙ ap length is) short fits e in
+          (is, it.0, whole, it.1)
+    ]

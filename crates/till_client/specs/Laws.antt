@@ -22,7 +22,8 @@ OneAnswer =
 -- A connection was to carry one message. Wherever it breaks, the server reads no message of it, or this message, whole.
 abbrev pub OneMessage : Type 0
 OneMessage =
-    (request front more rest : List ℕ) (m : Message) (ms : List Message) → 0 < length request → HasMessage request m [] → request ≡ front ++ more → HasMessages front ms rest
+    (request front more rest : List ℕ) (m : Message) (ms : List Message) → 0 < length request
+    → HasMessage request m [] → request ≡ front ++ more → HasMessages front ms rest
     → (ms ≡ []) ⊎ ((ms ≡ m ∷ []) × (front ≡ request))
 
 -- an answer whose numbers fit
@@ -33,6 +34,8 @@ IsShort answer = (answer.status < 2 ^ 64) × (length answer.body < 2 ^ 64)
 -- order. The till read a whole answer from the server's bytes. Then the server read this message and no other, the till read its answer, and nothing follows.
 abbrev pub OneExchange : Type 0
 OneExchange =
-    (request front more rest x : List ℕ) (m : Message) (ms : List Message) (answers : List Answer) (answer : Answer) → 0 < length request → HasMessage request m [] → request ≡ front ++ more
-    → HasMessages front ms rest → length answers ≡ length ms → AllByRecursion IsShort answers → IsShort answer → flat_map answer_bytes answers ≡ answer_bytes answer ++ x
+    (request front more rest x : List ℕ) (m : Message) (ms : List Message) (answers : List Answer) (answer : Answer)
+    → 0 < length request → HasMessage request m [] → request ≡ front ++ more
+    → HasMessages front ms rest → length answers ≡ length ms → AllByRecursion IsShort answers
+    → IsShort answer → flat_map answer_bytes answers ≡ answer_bytes answer ++ x
     → (ms ≡ m ∷ []) × (answers ≡ answer ∷ []) × (front ≡ request) × (x ≡ [])

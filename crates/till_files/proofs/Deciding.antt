@@ -1,6 +1,7 @@
 -- Whether tables hold a journal can be decided. So tables that hold a journal up to truncation hold it.
 use Rattle.std.specs.Prelude.{nat_le}
-use Rattle.shop_schema.proofs.Common.{◌≡◌, ◌≢◌, ◌∙◌, ◌≤◌, ℕ, Bool, true, false, true≢false, cases_Bool, arith, nat_tests, sym, List, [], ◌∷◌, inl, inr, ∥∥₁_map, cases_eq, AllByRecursion, Trees, Differ, Decided, decided, in_any, Answer}
+use Rattle.shop_schema.proofs.Common.{◌≡◌, ◌≢◌, ◌∙◌, ◌≤◌, ℕ, Bool, true, false, true≢false, cases_Bool, arith, nat_tests, sym, List, [], ◌∷◌, inl, inr, ∥∥₁_map}
+use Rattle.shop_schema.proofs.Common.{cases_eq, AllByRecursion, Trees, Differ, Decided, decided, in_any, Answer}
 use Rattle.till_book.specs.Journal.{Journal, StandsFor, IsWritten}
 
 -- decides whether no number comes twice
@@ -17,7 +18,8 @@ none_twice : (xs : List (ℕ × Answer)) → Decided (Differ (λ (it : ℕ × An
 none_twice [] = inl tt
 none_twice (x ∷ xs) = both (not_among x.0 xs) (none_twice xs)
   where
-    both : Decided (AllByRecursion (λ (y : ℕ × Answer). x.0 ≢ y.0) xs) → Decided (Differ (λ (it : ℕ × Answer). it.0) xs) → Decided (Differ (λ (it : ℕ × Answer). it.0) (x ∷ xs))
+    both : Decided (AllByRecursion (λ (y : ℕ × Answer). x.0 ≢ y.0) xs)
+        → Decided (Differ (λ (it : ℕ × Answer). it.0) xs) → Decided (Differ (λ (it : ℕ × Answer). it.0) (x ∷ xs))
     both (inl first) (inl rest) = inl (first, rest)
     both (inl first) (inr some) = inr (λ all. some all.1)
     both (inr twice) rest = inr (λ all. twice all.0)

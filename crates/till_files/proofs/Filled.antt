@@ -1,5 +1,9 @@
 -- How a book that was made before it had tables beside the journal gets them.
-use Rattle.sql_rows.proofs.Common.{◌≡◌, ◌≢◌, ◌∙◌, ◌≤◌, ◌==◌, ◌&&◌, ℕ, Bool, not, true, false, cond, is_gt, cases_Bool, inl, inr, None, List, [], ◌∷◌, map, filter, length, Ok, refl, sym, ap, subst, arith, AllByRecursion, IsPermutation, IsPermutation-refl, IsPermutation-sym, IsPermutation-trans, IsPermutation-map, all-permutation, State, Trees, Schema, Table, IsShaped, Index, Tally, Database, CreateIndex, Writes, Executes, ExecutesInside, Defines, mode_of, runs_as, created, next_tree, MakesIndex, MakeAll, no_schema, Differ, by, sort_by, insert_sorted, HasRows, filter_same}
+use Rattle.sql_rows.proofs.Common.{◌≡◌, ◌≢◌, ◌∙◌, ◌≤◌, ◌==◌, ◌&&◌, ℕ, Bool, not, true, false, cond, is_gt, cases_Bool, inl, inr, None, List, [], ◌∷◌, map}
+use Rattle.sql_rows.proofs.Common.{filter, length, Ok, refl, sym, ap, subst, arith, AllByRecursion, IsPermutation, IsPermutation-refl, IsPermutation-sym}
+use Rattle.sql_rows.proofs.Common.{IsPermutation-trans, IsPermutation-map, all-permutation, State, Trees, Schema, Table, IsShaped, Index, Tally, Database}
+use Rattle.sql_rows.proofs.Common.{CreateIndex, Writes, Executes, ExecutesInside, Defines, mode_of, runs_as, created, next_tree, MakesIndex, MakeAll, no_schema}
+use Rattle.sql_rows.proofs.Common.{Differ, by, sort_by, insert_sorted, HasRows, filter_same}
 use Rattle.std.specs.List.{list_any, list_all}
 use Rattle.std.proofs.lemmas.List.Sorted.{list_any-IsPermutation}
 use Rattle.sqlite_trees.specs.declared.store.Shape.TheVariants.{Table as TableShape}
@@ -19,13 +23,16 @@ use Rattle.shop_model.specs.Answers.{Answer}
 use Rattle.till_book.specs.Tables.{book_schema, entry_table, reply_table, settled_table, unsure_table, rented_table, returned_table}
 use Rattle.till_book.specs.Saying.{Say}
 use Rattle.till_book.specs.Marks.{Rented, Returned, rents_told, returns_told, rented_in, returned_in, is_unsure}
-use Rattle.till_book.specs.Journal.{Journal, IsJournal, StandsFor, IsWritten, IsBare, AreMarked, HoldsBare, FindsBare, Holds, is_refused, is_unsettled, unsure_of, unsure_columns, rented_columns, returned_columns, entries_in}
+use Rattle.till_book.specs.Journal.{Journal, IsJournal, StandsFor, IsWritten, IsBare, AreMarked, HoldsBare, FindsBare, Holds, is_refused, is_unsettled}
+use Rattle.till_book.specs.Journal.{unsure_of, unsure_columns, rented_columns, returned_columns, entries_in}
 use Rattle.till_book.specs.Read.{IsReadOf, in_order}
 use Rattle.till_book.specs.declared.lists.BookRows.{BookRows}
 use Rattle.till_book.proofs.Numbers.{number}
 use Rattle.till_book.proofs.Told.{none_told, alike_settled, rents_silent, returns_silent}
 use Rattle.till_book.proofs.InOrder.{accepted_in_order}
-use Rattle.till_book.proofs.JournalTexts.{entry_text, reply_text, settled_text, makes_entry, makes_reply, makes_settled, unsure_text, rented_text, returned_text, rented_as_text, stage, placeless, rented_as, makes_unsure, makes_rented, makes_returned, makes_rented_as}
+use Rattle.till_book.proofs.JournalTexts.{entry_text, reply_text, settled_text, makes_entry, makes_reply, makes_settled, unsure_text, rented_text}
+use Rattle.till_book.proofs.JournalTexts.{returned_text, rented_as_text, stage, placeless, rented_as, makes_unsure, makes_rented, makes_returned}
+use Rattle.till_book.proofs.JournalTexts.{makes_rented_as}
 use Rattle.till_files.specs.Migrations.{first_schema, HoldsFirst, HasTables, AddsTables, Fills}
 use Rattle.till_files.specs.Playing.{journal_of, HasMarkedTo, MarksReplies, MarksSettlements}
 
@@ -36,11 +43,14 @@ record AddsIndex (schema : Schema) (table : Table) (index : Index) (old new : St
   schema_is : new.now.schema ≡ indexed schema table index
   others : AllByRecursion (λ t. new.now.trees t.tree ≡ old.now.trees t.tree) schema.tables
 
-adds_index : (schema : Schema) (sql : List ℕ) (old new : State) (count at : ℕ) (table : Table) (index : Index) → old.now.schema ≡ schema → MakesIndex schema sql at table index → Executes sql [] old new (Ok count)
+adds_index : (schema : Schema) (sql : List ℕ) (old new : State) (count at : ℕ) (table : Table) (index : Index)
+    → old.now.schema ≡ schema → MakesIndex schema sql at table index → Executes sql [] old new (Ok count)
     → AddsIndex schema table index old new
 adds_index schema sql old new count at table index has given h =
     let makes = subst (λ (s : Schema). MakesIndex s sql at table index) (sym has) given in
-    let w = subst (λ t. Writes old new None (CreateIndex at) t [] count) makes.whole (runs_as sql [] old new old.now.schema refl (CreateIndex at) makes.means.is makes.means.plain count h) in
+    let w =
+    subst (λ t. Writes old new None (CreateIndex at) t [] count) makes.whole
+    (runs_as sql [] old new old.now.schema refl (CreateIndex at) makes.means.is makes.means.plain count h) in
     let placed : Defines (mode_of old) (IndexMade sql old.now table) (Ok (w.tally, new.now)) = rw makes.place at w.changed in
     let all = went placed in
     let made = all.1 in
@@ -81,7 +91,8 @@ returned_tree : next_tree (stage 5 5) ≡ 10
 unfolding everything
 returned_tree = refl
 
-pub tables_added : (old one two three new : State) (k l m n : ℕ) → ExecutesInside 0 unsure_text [] old one (Ok k) → ExecutesInside 0 rented_text [] one two (Ok l)
+pub tables_added : (old one two three new : State) (k l m n : ℕ)
+    → ExecutesInside 0 unsure_text [] old one (Ok k) → ExecutesInside 0 rented_text [] one two (Ok l)
     → ExecutesInside 0 returned_text [] two three (Ok m) → ExecutesInside 0 rented_as_text [] three new (Ok n) → AddsTables old new
 tables_added old one two three new k l m n first second third fourth has =
     let a = adds first_schema unsure_text old one k (placeless unsure_table) has makes_unsure first.0 in
@@ -91,7 +102,8 @@ tables_added old one two three new k l m n first second third fourth has =
     let entries : new.now.trees 0 ≡ old.now.trees 0 = d.others.0 ∙ c.others.0 ∙ b.others.0 ∙ a.others.0 in
     let replies : new.now.trees 2 ≡ old.now.trees 2 = d.others.1.0 ∙ c.others.1.0 ∙ b.others.1.0 ∙ a.others.1.0 in
     let settled : new.now.trees 4 ≡ old.now.trees 4 = d.others.1.1.0 ∙ c.others.1.1.0 ∙ b.others.1.1.0 ∙ a.others.1.1.0 in
-    let unsure : new.now.trees 6 ≡ [] = d.others.1.1.1.0 ∙ c.others.1.1.1.0 ∙ b.others.1.1.1.0 ∙ subst (λ (tree : ℕ). one.now.trees tree ≡ []) unsure_tree a.empty in
+    let unsure : new.now.trees 6 ≡ [] =
+    d.others.1.1.1.0 ∙ c.others.1.1.1.0 ∙ b.others.1.1.1.0 ∙ subst (λ (tree : ℕ). one.now.trees tree ≡ []) unsure_tree a.empty in
     let rented : new.now.trees 8 ≡ [] = d.others.1.1.1.1.0 ∙ c.others.1.1.1.1.0 ∙ subst (λ (tree : ℕ). two.now.trees tree ≡ []) rented_tree b.empty in
     let returned : new.now.trees 10 ≡ [] = d.others.1.1.1.1.1.0 ∙ subst (λ (tree : ℕ). three.now.trees tree ≡ []) returned_tree c.empty in
     record {
@@ -134,7 +146,8 @@ all_inserted P x (y ∷ xs) here all = go (is_gt (by number x y)) (all_inserted 
     go true rest = (all.0, rest)
     go false rest = (here, all)
 
-differ_inserted : {A : Type 0} (x : ℕ × A) (xs : List (ℕ × A)) → AllByRecursion (λ (y : ℕ × A). x.0 ≢ y.0) xs → Differ number xs → Differ number (insert_sorted (by number) x xs)
+differ_inserted : {A : Type 0} (x : ℕ × A) (xs : List (ℕ × A)) → AllByRecursion (λ (y : ℕ × A). x.0 ≢ y.0) xs
+    → Differ number xs → Differ number (insert_sorted (by number) x xs)
 differ_inserted x [] none apart = (tt, tt)
 differ_inserted {A = A} x (y ∷ xs) none apart = go (is_gt (by number x y)) (differ_inserted x xs none.1 apart.1)
   where
@@ -151,7 +164,8 @@ differ_in_order (x ∷ xs) apart =
     differ_inserted x (in_order xs) (all-permutation (λ (y : ℕ × Answer). x.0 ≢ y.0) xs (in_order xs) (same_items xs) apart.0) (differ_in_order xs apart.1)
 
 -- the tables beside the journal don't tell in which order the settlements came
-as_it_came : (trees : Trees) (it : Journal) → Differ number it.settled → AreMarked trees (journal_of it.entries it.replies (in_order it.settled)) → AreMarked trees it
+as_it_came : (trees : Trees) (it : Journal) → Differ number it.settled
+    → AreMarked trees (journal_of it.entries it.replies (in_order it.settled)) → AreMarked trees it
 as_it_came trees it once s = record {
   is = record {
     once = once;
@@ -162,9 +176,14 @@ as_it_came trees it once s = record {
     answered = s.is.answered;
   };
   unsure = subst (λ (l : List ℕ). HasRows 1 (trees 6) (map unsure_columns l)) same_unsure s.unsure;
-  rented = λ commands say. subst (λ (l : List Rented). HasRows 4 (trees 8) (map rented_columns l)) (alike_settled rents_told rents_silent commands it.replies (in_order it.settled) it.settled (λ n. accepted_in_order n it.settled once)) (s.rented commands say);
+  rented = λ commands say.
+      subst (λ (l : List Rented). HasRows 4 (trees 8) (map rented_columns l))
+      (alike_settled rents_told rents_silent commands it.replies (in_order it.settled) it.settled (λ n. accepted_in_order n it.settled once))
+      (s.rented commands say);
   returned = λ commands say.
-      subst (λ (l : List Returned). HasRows 2 (trees 10) (map returned_columns l)) (alike_settled returns_told returns_silent commands it.replies (in_order it.settled) it.settled (λ n. accepted_in_order n it.settled once)) (s.returned commands say);
+      subst (λ (l : List Returned). HasRows 2 (trees 10) (map returned_columns l))
+      (alike_settled returns_told returns_silent commands it.replies (in_order it.settled) it.settled (λ n. accepted_in_order n it.settled once))
+      (s.returned commands say);
 }
   where
     free : (n : ℕ) → is_unsettled (in_order it.settled) n ≡ is_unsettled it.settled n
@@ -173,7 +192,8 @@ as_it_came trees it once s = record {
     same_unsure : unsure_of (journal_of it.entries it.replies (in_order it.settled)) ≡ unsure_of it
     same_unsure =
         ap (map (λ (x : ℕ × Answer). x.0))
-        (filter_same (λ (x : ℕ × Answer). is_unsure x.1 && is_unsettled (in_order it.settled) x.0) (λ (x : ℕ × Answer). is_unsure x.1 && is_unsettled it.settled x.0)
+        (filter_same (λ (x : ℕ × Answer). is_unsure x.1 && is_unsettled (in_order it.settled) x.0)
+        (λ (x : ℕ × Answer). is_unsure x.1 && is_unsettled it.settled x.0)
         (λ x. ap (λ (b : Bool). is_unsure x.1 && b) (free x.0)) (numbered it.replies))
 
 -- ---- all of it
@@ -185,8 +205,11 @@ nothing_marked : (trees : Trees) (it : Journal) (entries : List (List ℕ)) → 
 nothing_marked trees it entries bare = record {
   is = record { once = tt; refused = refl; answered = omega arith };
   unsure = none_in 1 bare.unsure;
-  rented = λ commands say. subst (λ (l : List Rented). HasRows 4 (trees 8) (map rented_columns l)) (sym (none_told rents_told rents_silent commands)) (none_in 4 bare.rented);
-  returned = λ commands say. subst (λ (l : List Returned). HasRows 2 (trees 10) (map returned_columns l)) (sym (none_told returns_told returns_silent commands)) (none_in 2 bare.returned);
+  rented = λ commands say.
+      subst (λ (l : List Rented). HasRows 4 (trees 8) (map rented_columns l)) (sym (none_told rents_told rents_silent commands)) (none_in 4 bare.rented);
+  returned = λ commands say.
+      subst (λ (l : List Returned). HasRows 2 (trees 10) (map returned_columns l))
+      (sym (none_told returns_told returns_silent commands)) (none_in 2 bare.returned);
 }
 
 moved : (width : ℕ) {old new : List sql.Row} (rows : List sql.Row) → new ≡ old → HasRows width old rows → HasRows width new rows
@@ -202,7 +225,12 @@ fills rows entries replies settled old one two three new es rs ss adds finds pla
       schema_is = tables.schema_is;
       keyed = tables.keyed holds.keyed;
       stands = record {
-        written = record { entries = moved 2 _ tables.entries w.entries; replies = moved 3 _ tables.replies w.replies; settled = moved 3 _ tables.settled w.settled; once = w.once };
+        written = record {
+          entries = moved 2 _ tables.entries w.entries;
+          replies = moved 3 _ tables.replies w.replies;
+          settled = moved 3 _ tables.settled w.settled;
+          once = w.once;
+        };
         unsure = tables.unsure;
         rented = tables.rented;
         returned = tables.returned;

@@ -1,6 +1,9 @@
 -- The database that opening finds in files.
 use Rattle.std.proofs.Common.{◌⊎◌}
-use Rattle.shop_schema.proofs.Common.{◌≡◌, ◌≢◌, ◌∙◌, inl, inr, refl, sym, ap, subst, List, [], ◌∷◌, AllZip, ∥∥₁_elim, ∥∥₁_map, Trees, Trees-set, AreListed, IsTableRow, IsIndexRow, IsViewRow, Database, Schema, State, HasCleanDisk, Survives, Held, HoldsDatabase, Finds, IsOpened, IsEmpty, file_state, image_of, no_schema, opened_keyed, one_schema, HoldsOne, IsHeldIn, IsFoundIn, HoldsNoTable, OpenFailed}
+use Rattle.shop_schema.proofs.Common.{◌≡◌, ◌≢◌, ◌∙◌, inl, inr, refl, sym, ap, subst, List, [], ◌∷◌, AllZip, ∥∥₁_elim, ∥∥₁_map, Trees, Trees-set, AreListed}
+use Rattle.shop_schema.proofs.Common.{IsTableRow, IsIndexRow, IsViewRow, Database, Schema, State, HasCleanDisk, Survives, Held, HoldsDatabase, Finds, IsOpened}
+use Rattle.shop_schema.proofs.Common.{IsEmpty, file_state, image_of, no_schema, opened_keyed, one_schema, HoldsOne, IsHeldIn, IsFoundIn, HoldsNoTable}
+use Rattle.shop_schema.proofs.Common.{OpenFailed}
 use Rattle.sqlite_disk.specs.declared.Disk.{Ghosts}
 use Rattle.sqlite_disk.specs.declared.Files.{Files}
 use Rattle.sqlite_value.specs.Order.{Row}
@@ -13,7 +16,8 @@ use Rattle.till_files.specs.Migrations.{first_schema, HoldsFirst, LeavesFilled}
 use Rattle.till_book.specs.Steps.{Rests}
 use Rattle.till_files.specs.declared.faults.BookFault.{BookFault}
 use Rattle.till_files.specs.declared.faults.BookFault.TheVariants as fault
-use Rattle.till_files.specs.Files.{HasBook, HasNoBook, HoldsBook, KeepsBook, KeepsEither, StandsForEither, LeavesMade, IsNoneOrNew, HasFirstBook, HasNoFirstBook, HoldsFirstBook, KeepsFirstBook, IsMigratedFrom}
+use Rattle.till_files.specs.Files.{HasBook, HasNoBook, HoldsBook, KeepsBook, KeepsEither, StandsForEither, LeavesMade, IsNoneOrNew, HasFirstBook}
+use Rattle.till_files.specs.Files.{HasNoFirstBook, HoldsFirstBook, KeepsFirstBook, IsMigratedFrom}
 use Rattle.till_files.specs.Openings.{IsNotOpened, IsNotMade, IsNotMigrated}
 use Rattle.till_files.proofs.Deciding.{stands_in_any, written_in_any}
 use Rattle.till_files.proofs.Keeping.{kept_one, only_committed}
@@ -32,7 +36,8 @@ empty_has_none schema db empty sound =
     λ i. record { tables = tables i; indexes = indexes i; views = views i }
 
 some_tables : book_schema ≢ no_schema
-some_tables e = let tables : entry_table ∷ reply_table ∷ settled_table ∷ unsure_table ∷ rented_table ∷ returned_table ∷ [] ≡ [] = ap (λ (it : Schema). it.tables) e in cc
+some_tables e =
+    let tables : entry_table ∷ reply_table ∷ settled_table ∷ unsure_table ∷ rented_table ∷ returned_table ∷ [] ≡ [] = ap (λ (it : Schema). it.tables) e in cc
 
 first_tables : first_schema ≢ no_schema
 first_tables e = let tables : entry_table ∷ reply_table ∷ settled_table ∷ [] ≡ [] = ap (λ (it : Schema). it.tables) e in cc
@@ -76,15 +81,22 @@ module _ {D : Type 0} {g : Ghosts D} (c : Held (FileStore D g)) (files : Files D
   pub has_no_book : (opened_state.now.schema ≢ book_schema) → HasNoBook (image_of g files)
   has_no_book other db held sound = other (one_schema opened_state.now.schema book_schema db (is_database db held) sound refl)
 
-  rests_on : SeenMayStay g → opened_state.now.schema ≡ book_schema → (journal : Journal) → StandsFor opened_state.committed.trees journal → Rests opened_state journal
+  rests_on : SeenMayStay g → opened_state.now.schema ≡ book_schema → (journal : Journal)
+      → StandsFor opened_state.committed.trees journal → Rests opened_state journal
   rests_on stays schema journal stands =
       record {
-        now = λ live. record { schema_is = schema; keyed = opened_keyed book_schema files c opened found schema; stands = subst (λ (d : Database). StandsFor d.trees journal) (sym opened.0.clean) stands };
+        now = λ live.
+            record {
+              schema_is = schema;
+              keyed = opened_keyed book_schema files c opened found schema;
+              stands = subst (λ (d : Database). StandsFor d.trees journal) (sym opened.0.clean) stands;
+            };
         committed = λ live. sym opened.0.clean;
         left = λ db may. subst (λ t. StandsFor t journal) (sym (only_committed c stays opened.0.is_open db may)) stands;
       }
 
-  pub found_rests : SeenMayStay g → opened_state.now.schema ≡ book_schema → (journal : Journal) → HoldsBook (image_of g files) journal → Rests opened_state journal
+  pub found_rests : SeenMayStay g → opened_state.now.schema ≡ book_schema
+      → (journal : Journal) → HoldsBook (image_of g files) journal → Rests opened_state journal
   found_rests stays schema journal held =
       let is : opened_state.committed.trees ≡ held.db = ∥∥₁_elim held.holds (Trees-set _ _) (found.holds held.db) in
       rests_on stays schema journal (subst (λ t. StandsFor t journal) (sym is) held.stands)
@@ -128,7 +140,8 @@ module _ {D : Type 0} {g : Ghosts D} (c : Held (FileStore D g)) (files : Files D
   )
 
   -- a creation that stopped leaves no table or all of them
-  pub none_or_new : SeenMayStay g → opened_state.now.schema ≡ no_schema → (new : Held (FileStore D g)) (now : Files D) → Survives opened_state (file_state new) (LeavesMade opened_state)
+  pub none_or_new : SeenMayStay g → opened_state.now.schema ≡ no_schema → (new : Held (FileStore D g)) (now : Files D)
+      → Survives opened_state (file_state new) (LeavesMade opened_state)
       → HasCleanDisk (file_state new) → HoldsOne g now (file_state new).may_leave → HoldsOne g now IsNoneOrNew
   none_or_new stays none new now survives clean holds =
       kept_one g now _ IsNoneOrNew holds (λ left may. elim (survives.crash clean left may) [
@@ -160,13 +173,15 @@ module _ {D : Type 0} {g : Ghosts D} (c : Held (FileStore D g)) (files : Files D
       let is : opened_state.committed.trees ≡ held.db = ∥∥₁_elim held.holds (Trees-set _ _) (found.holds held.db) in
       holds_first schema journal (subst (λ t. IsWritten t journal) (sym is) held.written)
 
-  pub first_kept : SeenMayStay g → opened_state.now.schema ≡ first_schema → (journal : Journal) → KeepsFirstBook g files journal → HoldsFirst opened_state journal
+  pub first_kept : SeenMayStay g → opened_state.now.schema ≡ first_schema
+      → (journal : Journal) → KeepsFirstBook g files journal → HoldsFirst opened_state journal
   first_kept stays schema journal keeps =
       holds_first schema journal (written_in_any _ journal
       (∥∥₁_map (keeps found.honest (image_of g files) (stays _, stays _)) (λ it. subst (λ t. IsWritten t journal) (sym (found.holds it.0 it.2)) it.1)))
 
   -- a migration that stopped leaves the tables as they were, or the book
-  pub first_or_filled : SeenMayStay g → opened_state.now.schema ≡ first_schema → (new : Held (FileStore D g)) (now : Files D) → Survives opened_state (file_state new) (LeavesFilled opened_state)
+  pub first_or_filled : SeenMayStay g → opened_state.now.schema ≡ first_schema
+      → (new : Held (FileStore D g)) (now : Files D) → Survives opened_state (file_state new) (LeavesFilled opened_state)
       → HasCleanDisk (file_state new) → HoldsOne g now (file_state new).may_leave → HoldsOne g now (IsMigratedFrom opened_state.committed.trees)
   first_or_filled stays schema new now survives clean holds =
       kept_one g now _ (IsMigratedFrom opened_state.committed.trees) holds (λ left may. elim (survives.crash clean left may) [
@@ -175,15 +190,19 @@ module _ {D : Type 0} {g : Ghosts D} (c : Held (FileStore D g)) (files : Files D
       ])
 
   pub left_alone : SeenMayStay g → (now : Files D) → HoldsOne g now opened_state.may_leave → HoldsOne g now (IsMigratedFrom opened_state.committed.trees)
-  left_alone stays now holds = kept_one g now _ (IsMigratedFrom opened_state.committed.trees) holds (λ left may. inl (only_committed c stays opened.0.is_open left may))
+  left_alone stays now holds =
+      kept_one g now _ (IsMigratedFrom opened_state.committed.trees) holds (λ left may. inl (only_committed c stays opened.0.is_open left may))
 
 -- ---- faults by which the database wasn't opened
 
-pub unopened_by : {D : Type 0} (g : Ghosts D) (files : Files D) (why : BookFault) (left : Files D) → why ≢ fault.NotABook → why ≢ fault.Already → OpenFailed g files left → IsNotOpened g files why left
+pub unopened_by : {D : Type 0} (g : Ghosts D) (files : Files D) (why : BookFault) (left : Files D)
+    → why ≢ fault.NotABook → why ≢ fault.Already → OpenFailed g files left → IsNotOpened g files why left
 unopened_by g files why left book already failed = record { no_book = λ honest is. absurd (book is); kept = λ honest. inl failed; already = already }
 
-pub unmade_by : {D : Type 0} (g : Ghosts D) (files : Files D) (why : BookFault) (left : Files D) → why ≢ fault.NotABook → why ≢ fault.Already → OpenFailed g files left → IsNotMade g files why left
+pub unmade_by : {D : Type 0} (g : Ghosts D) (files : Files D) (why : BookFault) (left : Files D)
+    → why ≢ fault.NotABook → why ≢ fault.Already → OpenFailed g files left → IsNotMade g files why left
 unmade_by g files why left book already failed = record { already = λ honest is. absurd (already is); stopped = λ honest other. inl failed; book = book }
 
-pub unmigrated_by : {D : Type 0} (g : Ghosts D) (files : Files D) (why : BookFault) (left : Files D) → why ≢ fault.NotABook → why ≢ fault.Already → OpenFailed g files left → IsNotMigrated g files why left
+pub unmigrated_by : {D : Type 0} (g : Ghosts D) (files : Files D) (why : BookFault) (left : Files D)
+    → why ≢ fault.NotABook → why ≢ fault.Already → OpenFailed g files left → IsNotMigrated g files why left
 unmigrated_by g files why left book already failed = record { no_book = λ honest is. absurd (book is); kept = λ honest. inl failed; already = already }

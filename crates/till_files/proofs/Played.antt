@@ -1,5 +1,6 @@
 -- What the tables beside the journal are after a reply, or a settlement, was played.
-use Rattle.sql_rows.proofs.Common.{◌≡◌, ◌≢◌, ◌∙◌, ◌+◌, ◌<◌, ◌≤◌, ◌==◌, ℕ, zero, suc, true, false, List, [], ◌∷◌, ◌++◌, map, filter, length, take, slice_get, get_or, Option, Some, None, option_to_list, refl, sym, ap, subst, subst₂, arith, not, AllByRecursion, State, Differ}
+use Rattle.sql_rows.proofs.Common.{◌≡◌, ◌≢◌, ◌∙◌, ◌+◌, ◌<◌, ◌≤◌, ◌==◌, ℕ, zero, suc, true, false, List, [], ◌∷◌, ◌++◌, map, filter, length, take, slice_get}
+use Rattle.sql_rows.proofs.Common.{get_or, Option, Some, None, option_to_list, refl, sym, ap, subst, subst₂, arith, not, AllByRecursion, State, Differ}
 use Rattle.std.specs.List.{list_any}
 use Rattle.shop_model.specs.Rows.{numbered}
 use Rattle.shop_model.specs.Answers.{Answer}
@@ -62,7 +63,8 @@ at_place f (y ∷ xs) (suc i) x low is = at_place f xs i x (omega (arith, low)) 
 
 -- ---- replies
 
-pub reply_marked : (entries : List (List ℕ)) (at n : ℕ) (answer told : Answer) (request asked : List ℕ) (sign : Mark) (old new : State) → n ≡ at + 1 → slice_get entries at ≡ Some request
+pub reply_marked : (entries : List (List ℕ)) (at n : ℕ) (answer told : Answer) (request asked : List ℕ) (sign : Mark) (old new : State)
+    → n ≡ at + 1 → slice_get entries at ≡ Some request
     → asked ≡ request → told ≡ answer → IsReplyMark asked told sign → Marks n sign old new → MarksReply entries at answer old new
 reply_marked entries at n answer told request asked sign old new is there same_request same_answer said marks replies long has keyed =
     let is_mark : IsReplyMark request answer sign = subst₂ (λ (r : List ℕ) (a : Answer). IsReplyMark r a sign) same_request same_answer said in
@@ -85,21 +87,28 @@ one_reply entries replies i answer old mid new is before marks =
     (marks_then (journal_of entries [] []) (journal_of entries (take i replies) []) (journal_of entries (take i replies ++ answer ∷ []) []) old mid new before
     (marks (take i replies) (short replies i answer is)))
 
-pub all_replies : (entries : List (List ℕ)) (replies : List Answer) (i : ℕ) (old new : State) → length replies ≤ i → MarksReplies entries (take i replies) old new → MarksReplies entries replies old new
+pub all_replies : (entries : List (List ℕ)) (replies : List Answer) (i : ℕ) (old new : State)
+    → length replies ≤ i → MarksReplies entries (take i replies) old new → MarksReplies entries replies old new
 all_replies entries replies i old new all marks = subst (λ (rs : List Answer). MarksReplies entries rs old new) (whole_list replies i all) marks
 
 -- ---- settlements
 
-is_refused_at : (replies : List Answer) (n i : ℕ) (reply : Answer) → n ≡ i + 1 → slice_get replies i ≡ Some reply → reply.status ≢ 200 → is_refused replies n ≡ true
+is_refused_at : (replies : List Answer) (n i : ℕ) (reply : Answer) → n ≡ i + 1
+    → slice_get replies i ≡ Some reply → reply.status ≢ 200 → is_refused replies n ≡ true
 is_refused_at replies n i reply is there other =
     let place : n ≡ 1 + i = omega (arith, is) in
-    let mine : filter (λ (it : ℕ × Answer). it.0 == n) (numbered replies) ≡ (n, reply) ∷ [] = picked n 1 i replies place ∙ ap (λ (o : Option Answer). map (λ (x : Answer). (n, x)) (option_to_list o)) there in
-    ap (λ (l : List (ℕ × Answer)). list_any (λ (answer : Answer). not (answer.status == 200)) (map (λ (it : ℕ × Answer). it.1) l)) mine ∙ rw (differ_test reply.status 200 other) refl
+    let mine : filter (λ (it : ℕ × Answer). it.0 == n) (numbered replies) ≡ (n, reply) ∷ [] =
+    picked n 1 i replies place ∙ ap (λ (o : Option Answer). map (λ (x : Answer). (n, x)) (option_to_list o)) there in
+    ap (λ (l : List (ℕ × Answer)). list_any (λ (answer : Answer). not (answer.status == 200)) (map (λ (it : ℕ × Answer). it.1) l)) mine
+    ∙ rw (differ_test reply.status 200 other) refl
 
-pub settlement_marked : (entries : List (List ℕ)) (replies : List Answer) (it : ℕ × Answer) (told : Answer) (i : ℕ) (reply : Answer) (request asked : List ℕ) (sign : Mark) (old mid new : State)
+pub settlement_marked :
+    (entries : List (List ℕ)) (replies : List Answer) (it : ℕ × Answer) (told : Answer)
+    (i : ℕ) (reply : Answer) (request asked : List ℕ) (sign : Mark) (old mid new : State)
     → it.0 ≡ i + 1 → slice_get replies i ≡ Some reply → reply.status ≢ 200 → slice_get entries i ≡ Some request → asked ≡ request → told ≡ it.1
     → IsMarkOf asked told false sign → DropsUnsure it.0 old mid → Marks it.0 sign mid new → MarksSettlement entries replies it old new
-settlement_marked entries replies it told i reply request asked sign old mid new is replied other there same_request same_answer said drops marks settled unsettled has keyed =
+settlement_marked entries replies it told i reply request asked sign old mid new is replied
+    other there same_request same_answer said drops marks settled unsettled has keyed =
     let is_mark : IsMarkOf request it.1 false sign = subst₂ (λ (r : List ℕ) (a : Answer). IsMarkOf r a false sign) same_request same_answer said in
     let dropped = drops has in
     let done = marks dropped.schema_is in
@@ -113,11 +122,13 @@ settlement_marked entries replies it told i reply request asked sign old mid new
       entries = done.entries ∙ dropped.others.0 (λ e. absurd (omega (arith, e)));
       replies = done.replies ∙ dropped.others.1.0 (λ e. absurd (omega (arith, e)));
       settled = done.settled ∙ dropped.others.1.1.0 (λ e. absurd (omega (arith, e)));
-      marked = λ was. marks_settled it.0 it.1 request sign old mid new (journal_of entries replies settled) unsettled refusal found is_mark dropped keyed done was;
+      marked =
+          λ was. marks_settled it.0 it.1 request sign old mid new (journal_of entries replies settled) unsettled refusal found is_mark dropped keyed done was;
     }
 
 -- the earlier ones have other numbers
-none_earlier : (xs : List (ℕ × Answer)) (i : ℕ) (x : ℕ × Answer) → Differ (λ (it : ℕ × Answer). it.0) xs → slice_get xs i ≡ Some x → filter (λ (it : ℕ × Answer). it.0 == x.0) (take i xs) ≡ []
+none_earlier : (xs : List (ℕ × Answer)) (i : ℕ) (x : ℕ × Answer) → Differ (λ (it : ℕ × Answer). it.0) xs
+    → slice_get xs i ≡ Some x → filter (λ (it : ℕ × Answer). it.0 == x.0) (take i xs) ≡ []
 none_earlier [] i x apart is = absurd (same_none x is)
 none_earlier (y ∷ xs) zero x apart is = refl
 none_earlier (y ∷ xs) (suc i) x apart is = rw (differ_test y.0 x.0 (at_place xs i x apart.0 is)) (none_earlier xs i x apart.1 is)
@@ -129,14 +140,17 @@ none_earlier (y ∷ xs) (suc i) x apart is = rw (differ_test y.0 x.0 (at_place x
 
 -- so far, where no number comes twice in all of them
 abbrev pub MarksSome : List (List ℕ) → List Answer → List (ℕ × Answer) → ℕ → State → State → Type 0
-MarksSome entries replies settled i old new = Differ (λ (it : ℕ × Answer). it.0) settled → MarksTo (journal_of entries replies []) (journal_of entries replies (take i settled)) old new
+MarksSome entries replies settled i old new =
+    Differ (λ (it : ℕ × Answer). it.0) settled → MarksTo (journal_of entries replies []) (journal_of entries replies (take i settled)) old new
 
-pub one_settlement : (entries : List (List ℕ)) (replies : List Answer) (settled : List (ℕ × Answer)) (i : ℕ) (it : ℕ × Answer) (old mid new : State) → slice_get settled i ≡ Some it
+pub one_settlement : (entries : List (List ℕ)) (replies : List Answer) (settled : List (ℕ × Answer)) (i : ℕ) (it : ℕ × Answer) (old mid new : State)
+    → slice_get settled i ≡ Some it
     → MarksSome entries replies settled i old mid → MarksSettlement entries replies it mid new → MarksSome entries replies settled (i + 1) old new
 one_settlement entries replies settled i it old mid new is before marks apart =
     let free : settled_of it.0 (take i settled) ≡ [] = ap (map (λ (x : ℕ × Answer). x.1)) (none_earlier settled i it apart is) in
     subst (λ (l : List (ℕ × Answer)). MarksTo (journal_of entries replies []) (journal_of entries replies l) old new) (sym (one_longer settled i it is))
-    (marks_then (journal_of entries replies []) (journal_of entries replies (take i settled)) (journal_of entries replies (take i settled ++ it ∷ [])) old mid new (before apart) (marks (take i settled) free))
+    (marks_then (journal_of entries replies []) (journal_of entries replies (take i settled))
+    (journal_of entries replies (take i settled ++ it ∷ [])) old mid new (before apart) (marks (take i settled) free))
 
 pub all_settled : (entries : List (List ℕ)) (replies : List Answer) (settled : List (ℕ × Answer)) (i : ℕ) (old new : State) → length settled ≤ i
     → MarksSome entries replies settled i old new → MarksSettlements entries replies settled old new

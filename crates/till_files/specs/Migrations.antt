@@ -15,7 +15,9 @@ use Rattle.till_book.specs.Steps.{Rests}
 abbrev pub first_schema : Schema
 first_schema = record {
   tables = entry_table ∷ reply_table ∷ settled_table ∷ [];
-  indexes = automatic_of (codes "entry") (codes "1") 1 0 (1 ∷ []) ∷ automatic_of (codes "reply") (codes "1") 3 2 (1 ∷ []) ∷ automatic_of (codes "settled") (codes "1") 5 4 (1 ∷ []) ∷ [];
+  indexes =
+      automatic_of (codes "entry") (codes "1") 1 0 (1 ∷ []) ∷ automatic_of (codes "reply") (codes "1") 3 2 (1 ∷ [])
+      ∷ automatic_of (codes "settled") (codes "1") 5 4 (1 ∷ []) ∷ [];
   views = [];
 }
 

@@ -14,7 +14,8 @@ use Rattle.till_book.specs.Journal.{Journal}
 use Rattle.till_book.specs.Steps.{Rests}
 use Rattle.till_files.specs.declared.faults.BookFault.{BookFault}
 use Rattle.till_files.specs.declared.faults.BookFault.TheVariants as fault
-use Rattle.till_files.specs.Files.{HasFirstBook, HasNoFirstBook, HoldsFirstBook, KeepsFirstBook, IsMigratedFrom, HasBook, HasNoBook, HoldsBook, KeepsBook, KeepsEither, IsNoneOrNew, empty_journal}
+use Rattle.till_files.specs.Files.{HasFirstBook, HasNoFirstBook, HoldsFirstBook, KeepsFirstBook, IsMigratedFrom, HasBook, HasNoBook, HoldsBook, KeepsBook}
+use Rattle.till_files.specs.Files.{KeepsEither, IsNoneOrNew, empty_journal}
 use Rattle.sql_rows.specs.Files.{IsHeldIn, IsFoundIn, HoldsNoTable, HoldsOne, OpenFailed}
 
 -- ---- making
@@ -84,7 +85,8 @@ pub record IsBookMigrated {D : Type 0} {g : Ghosts D} (files : Files D) (conn : 
 pub record IsNotMigrated {D : Type 0} (g : Ghosts D) (files : Files D) (why : BookFault) (left : Files D) : Type 0 where
   -- NotABook: no database in the files has the journal's tables and no other
   pub no_book : AreClean g left.log left.db → why ≡ fault.NotABook → HasNoFirstBook (image_of g files)
-  -- Whatever the fault is, the files are as the opening of their database left them that failed. Or they hold what was found in them, or the book with its tables.
+  -- Whatever the fault is, the files are as the opening of their database left them that failed. Or they hold what was found in them, or the book with its
+  -- tables.
   pub kept : AreClean g left.log left.db → OpenFailed g files left ⊎ ((db : Trees) × IsFoundIn (image_of g files) db × HoldsOne g left (IsMigratedFrom db))
   -- what only making a book reports isn't reported
   pub already : why ≢ fault.Already

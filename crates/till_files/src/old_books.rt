@@ -49,7 +49,7 @@ fn first_tables(alloc: Global) -> Result<Connection<MemStore>, StoreFault>
     Ok(conn)
 }
 
-/// Tells whether the schema of a database is that of an old book. Its store isn't called.
+/// Returns whether the schema of a database is an old book's. The database's store isn't called.
 fn is_first(alloc: Global, schema: &Schema) -> Result<bool, StoreFault>
     ensures { IfOk result (λ is. IsTrue is ↔ (schema.now ≡ first_schema)) }
 {

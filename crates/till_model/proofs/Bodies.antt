@@ -1,5 +1,9 @@
 -- The rental can be read from the body of the reply to an accepted rent.
-use Rattle.shop_types.proofs.Common.{rules, ◌≡◌, ◌≢◌, ◌∙◌, ◌+◌, ◌-◌, ◌<◌, ◌≤◌, ◌^◌, ℕ, suc, Bool, true, false, List, [], ◌∷◌, ◌++◌, length, take, get_or, Option, Some, None, refl, sym, ap, subst, arith, slice_range, option_and_then, if◌then◌else◌, list_all, is_ascii_digit, bytes_eq, digits_value, take-append_seam, leb-true, le-leb, nat_tests, IsNumeralModel, numerals_by_value, digits_decimal, digits_value-decimal, decimal_nonempty, length-decimal-le, first_decimal, bytes_eq-Decides, is_row_number, is_plain_number, row_number_of, Answer, accepted_answer, differ_test}
+use Rattle.shop_types.proofs.Common.{rules, ◌≡◌, ◌≢◌, ◌∙◌, ◌+◌, ◌-◌, ◌<◌, ◌≤◌, ◌^◌, ℕ, suc, Bool, true, false, List, [], ◌∷◌, ◌++◌, length, take, get_or}
+use Rattle.shop_types.proofs.Common.{Option, Some, None, refl, sym, ap, subst, arith, slice_range, option_and_then, if◌then◌else◌, list_all, is_ascii_digit}
+use Rattle.shop_types.proofs.Common.{bytes_eq, digits_value, take-append_seam, leb-true, le-leb, nat_tests, IsNumeralModel, numerals_by_value, digits_decimal}
+use Rattle.shop_types.proofs.Common.{digits_value-decimal, decimal_nonempty, length-decimal-le, first_decimal, bytes_eq-Decides, is_row_number, is_plain_number}
+use Rattle.shop_types.proofs.Common.{row_number_of, Answer, accepted_answer, differ_test}
 use Rattle.std.specs.Prelude.{codes, decimal, nat_le, nat_lt, ◌==◌, ◌&&◌}
 use Rattle.std.proofs.lemmas.List.{length-append}
 use Rattle.shop_model.specs.Json.{escape_byte}
@@ -16,7 +20,8 @@ bounds : (n : ℕ) → is_row_number n ≡ true → (1 ≤ n) × (n < 2 ^ 32)
 bounds n row = let it = both (nat_le 1 n) (nat_lt n (2 ^ 32)) row in (leb-true 1 n it.0, leb-true (suc n) (2 ^ 32) it.1)
 
 -- digits are read back
-plain : (ds : List ℕ) (n : ℕ) → 1 ≤ length ds → length ds ≤ 10 → list_all is_ascii_digit ds ≡ true → get_or ds 0 0 ≢ 48 → digits_value 10 ds ≡ n → is_row_number n ≡ true → row_number_of ds ≡ Some n
+plain : (ds : List ℕ) (n : ℕ) → 1 ≤ length ds → length ds ≤ 10 → list_all is_ascii_digit ds ≡ true
+    → get_or ds 0 0 ≢ 48 → digits_value 10 ds ≡ n → is_row_number n ≡ true → row_number_of ds ≡ Some n
 plain ds n some few digits first value row =
     let a : nat_le 1 (length ds) ≡ true = le-leb 1 (length ds) some in
     let b : nat_le (length ds) 10 ≡ true = le-leb (length ds) 10 few in
@@ -28,7 +33,8 @@ reads_decimal n row =
     let it = bounds n row in
     let small : n < 2 ^ 64 = omega (arith, it.1) in
     let first = first_decimal n (omega (arith, it.0)) small in
-    plain (decimal n) n (omega (arith, decimal_nonempty n small)) (length-decimal-le 10 n (omega arith) (omega (arith, it.1)) small) (digits_decimal own n small) (λ is. omega (arith, first, is))
+    plain (decimal n) n (omega (arith, decimal_nonempty n small))
+    (length-decimal-le 10 n (omega arith) (omega (arith, it.1)) small) (digits_decimal own n small) (λ is. omega (arith, first, is))
     (digits_value-decimal own n small) row
 
 -- ---- bodies
@@ -52,7 +58,8 @@ same_bytes xs = grind (arith, bytes_eq-Decides xs xs)
 -- the rental of such a body is read from it
 in_body : (n : ℕ) → is_row_number n ≡ true → rental_in (rental_body n) ≡ Some n
 in_body n row =
-    let digits : slice_range (rental_body n) 10 (length (rental_body n) - 1) ≡ decimal n = ap (λ (body : List ℕ). slice_range body 10 (length body - 1)) (body_is n) ∙ digits_of_body (decimal n) in
+    let digits : slice_range (rental_body n) 10 (length (rental_body n) - 1) ≡ decimal n =
+    ap (λ (body : List ℕ). slice_range body 10 (length body - 1)) (body_is n) ∙ digits_of_body (decimal n) in
     rw (digits, reads_decimal n row, same_bytes (rental_body n)) refl
 
 pub told_back : (n : ℕ) → is_row_number n ≡ true → rental_told (accepted_answer (rental_body n)) ≡ Some n
@@ -90,7 +97,8 @@ in_is body n told = go (row_number_of (digits_in body)) refl told
         let equal : rental_body m ≡ body = grind (arith, bytes_eq-Decides (rental_body m) body) in
         (one, sym equal ∙ ap rental_body one)
 
-    go : (found : Option ℕ) → row_number_of (digits_in body) ≡ found → option_and_then (λ m. if bytes_eq (rental_body m) body then Some m else None) found ≡ Some n
+    go : (found : Option ℕ) → row_number_of (digits_in body) ≡ found
+        → option_and_then (λ m. if bytes_eq (rental_body m) body then Some m else None) found ≡ Some n
         → (is_row_number n ≡ true) × (body ≡ rental_body n)
     go None is e = let no : ◌≡◌ {A = Option ℕ} None (Some n) = e in cc
     go (Some m) is e =
@@ -100,7 +108,8 @@ in_is body n told = go (row_number_of (digits_in body)) refl told
 pub told_is : (answer : Answer) (n : ℕ) → rental_told answer ≡ Some n → (is_row_number n ≡ true) × (answer ≡ accepted_answer (rental_body n))
 told_is answer n told = go (answer.status == 200) (nat_le 12 (length answer.body)) refl told
   where
-    go : (done long : Bool) → (answer.status == 200) ≡ done → (if done && long then rental_in answer.body else None) ≡ Some n → (is_row_number n ≡ true) × (answer ≡ accepted_answer (rental_body n))
+    go : (done long : Bool) → (answer.status == 200) ≡ done → (if done && long then rental_in answer.body else None) ≡ Some n
+        → (is_row_number n ≡ true) × (answer ≡ accepted_answer (rental_body n))
     go false long is e = let no : ◌≡◌ {A = Option ℕ} None (Some n) = e in cc
     go true false is e = let no : ◌≡◌ {A = Option ℕ} None (Some n) = e in cc
     go true true is e =

@@ -1,5 +1,7 @@
 -- Entries by place and by key, and the entries that acted.
-use Rattle.shop_model.proofs.Common.{◌≡◌, inl, inr, ◌∙◌, ℕ, zero, suc, ◌<◌, List, [], ◌∷◌, ◌++◌, filter, Bool, true, false, not, Some, refl, sym, subst, ap, arith, slice_get, list_any, bytes_eq, cases_Bool, and_parts, or_parts, not-true, false≢true, bytes_eq-Decides, Text, Command, Kept}
+use Rattle.shop_model.proofs.Common.{◌≡◌, inl, inr, ◌∙◌, ℕ, zero, suc, ◌<◌, List, [], ◌∷◌, ◌++◌, filter, Bool, true, false, not, Some, refl, sym, subst, ap}
+use Rattle.shop_model.proofs.Common.{arith, slice_get, list_any, bytes_eq, cases_Bool, and_parts, or_parts, not-true, false≢true, bytes_eq-Decides, Text}
+use Rattle.shop_model.proofs.Common.{Command, Kept}
 use Rattle.shop_model.proofs.ActLaws.{bytes_same}
 use Rattle.shop_model.proofs.Resends.{same_some, same_none}
 use Rattle.till_model.specs.Tills.{Entry, are_marked, have_own_keys}
@@ -11,7 +13,8 @@ own_here : (y : Entry) (ys : List Entry) → have_own_keys (y ∷ ys) ≡ true
     → (list_any (λ (z : Entry). bytes_eq y.command.key z.command.key) ys ≡ false) × (have_own_keys ys ≡ true)
 own_here y ys own = let h = and_parts (not (list_any (λ (z : Entry). bytes_eq y.command.key z.command.key) ys)) (have_own_keys ys) own in (not-true _ h.0, h.1)
 
-other_key : (key : Text) (ys : List Entry) (n : ℕ) (x : Entry) → list_any (λ (z : Entry). bytes_eq key z.command.key) ys ≡ false → slice_get ys n ≡ Some x → bytes_eq key x.command.key ≡ false
+other_key : (key : Text) (ys : List Entry) (n : ℕ) (x : Entry) → list_any (λ (z : Entry). bytes_eq key z.command.key) ys ≡ false
+    → slice_get ys n ≡ Some x → bytes_eq key x.command.key ≡ false
 other_key key [] n x none there = absurd (same_none x there)
 other_key key (z ∷ ys) zero x none there = let h = or_parts (bytes_eq key z.command.key) (list_any (λ (z : Entry). bytes_eq key z.command.key) ys) none in
     subst (λ (it : Entry). bytes_eq key it.command.key ≡ false) (same_some z x there) h.0
@@ -25,7 +28,8 @@ turned a b isnt = elim (cases_Bool (bytes_eq b a)) [
 ]
 
 -- two entries with the same key are the same entry
-pub same_entry : (es : List Entry) (i j : ℕ) (x y : Entry) → have_own_keys es ≡ true → slice_get es i ≡ Some x → slice_get es j ≡ Some y → bytes_eq x.command.key y.command.key ≡ true → x ≡ y
+pub same_entry : (es : List Entry) (i j : ℕ) (x y : Entry) → have_own_keys es ≡ true
+    → slice_get es i ≡ Some x → slice_get es j ≡ Some y → bytes_eq x.command.key y.command.key ≡ true → x ≡ y
 same_entry [] i j x y own at_i at_j same = absurd (same_none x at_i)
 same_entry (e ∷ es) zero zero x y own at_i at_j same = sym (same_some e x at_i) ∙ same_some e y at_j
 same_entry (e ∷ es) zero (suc j) x y own at_i at_j same =
@@ -38,9 +42,11 @@ same_entry (e ∷ es) (suc i) zero x y own at_i at_j same =
     absurd (false≢true (sym (turned y.command.key x.command.key no') ∙ same))
 same_entry (e ∷ es) (suc i) (suc j) x y own at_i at_j same = same_entry es i j x y (own_here e es own).1 at_i at_j same
 
-pub marked_at : (has_mark : Text → Bool) (es : List Entry) (i : ℕ) (x : Entry) → are_marked has_mark es ≡ true → slice_get es i ≡ Some x → has_mark x.command.key ≡ true
+pub marked_at : (has_mark : Text → Bool) (es : List Entry) (i : ℕ) (x : Entry)
+    → are_marked has_mark es ≡ true → slice_get es i ≡ Some x → has_mark x.command.key ≡ true
 marked_at has_mark [] i x all there = absurd (same_none x there)
-marked_at has_mark (e ∷ es) zero x all there = subst (λ (it : Entry). has_mark it.command.key ≡ true) (same_some e x there) (and_parts (has_mark e.command.key) (are_marked has_mark es) all).0
+marked_at has_mark (e ∷ es) zero x all there =
+    subst (λ (it : Entry). has_mark it.command.key ≡ true) (same_some e x there) (and_parts (has_mark e.command.key) (are_marked has_mark es) all).0
 marked_at has_mark (e ∷ es) (suc i) x all there = marked_at has_mark es i x (and_parts (has_mark e.command.key) (are_marked has_mark es) all).1 there
 
 -- ---- the entries that acted, after one more kept row
@@ -50,11 +56,13 @@ acted es ks = filter (λ (e : Entry). has e.command.key ks) es
 
 -- a row under another's key
 
-pub acted_other : (has_mark : Text → Bool) (k : Kept) (ks : List Kept) (es : List Entry) → has_mark k.command.key ≡ false → are_marked has_mark es ≡ true → acted es (ks ++ k ∷ []) ≡ acted es ks
+pub acted_other : (has_mark : Text → Bool) (k : Kept) (ks : List Kept) (es : List Entry)
+    → has_mark k.command.key ≡ false → are_marked has_mark es ≡ true → acted es (ks ++ k ∷ []) ≡ acted es ks
 acted_other has_mark k ks [] isnt all = refl
 acted_other has_mark k ks (e ∷ es) isnt all =
     let h = and_parts (has_mark e.command.key) (are_marked has_mark es) all in
-    let same : has e.command.key (ks ++ k ∷ []) ≡ has e.command.key ks = has_more e.command.key ks k ∙ or_false (has e.command.key ks) _ (other_mark has_mark k e.command.key isnt h.0) in
+    let same : has e.command.key (ks ++ k ∷ []) ≡ has e.command.key ks =
+    has_more e.command.key ks k ∙ or_false (has e.command.key ks) _ (other_mark has_mark k e.command.key isnt h.0) in
     let rest = acted_other has_mark k ks es isnt h.1 in
     elim (cases_Bool (has e.command.key ks)) [
       | inl is ↦ rw (same, is) (ap (λ (l : List Entry). e ∷ l) rest)
@@ -68,7 +76,8 @@ pub none_acted : (es : List Entry) (ks : List Kept) → ((j : ℕ) (y : Entry) �
 none_acted [] ks none = refl
 none_acted (e ∷ es) ks none = rw (none 0 e refl) (none_acted es ks (λ j y there. none (suc j) y there))
 
-pub acted_own : (k : Kept) (ks : List Kept) (es : List Entry) (i : ℕ) (x : Entry) → have_own_keys es ≡ true → slice_get es i ≡ Some x → x.command ≡ k.command → has k.command.key ks ≡ false → NoneAbove es i ks
+pub acted_own : (k : Kept) (ks : List Kept) (es : List Entry) (i : ℕ) (x : Entry) → have_own_keys es ≡ true
+    → slice_get es i ≡ Some x → x.command ≡ k.command → has k.command.key ks ≡ false → NoneAbove es i ks
     → acted es (ks ++ k ∷ []) ≡ acted es ks ++ x ∷ []
 acted_own k ks [] i x own there is fresh above = absurd (same_none x there)
 acted_own k ks (e ∷ es) zero x own there is fresh above =
@@ -89,7 +98,8 @@ acted_own k ks (e ∷ es) zero x own there is fresh above =
 acted_own k ks (e ∷ es) (suc i) x own there is fresh above =
     let h = own_here e es own in
     let other = other_key e.command.key es i x h.0 there in
-    let other' : bytes_eq k.command.key e.command.key ≡ false = turned e.command.key k.command.key (subst (λ (c : Command). bytes_eq e.command.key c.key ≡ false) is other) in
+    let other' : bytes_eq k.command.key e.command.key ≡ false =
+    turned e.command.key k.command.key (subst (λ (c : Command). bytes_eq e.command.key c.key ≡ false) is other) in
     let same : has e.command.key (ks ++ k ∷ []) ≡ has e.command.key ks = has_more e.command.key ks k ∙ or_false (has e.command.key ks) _ other' in
     let rest = acted_own k ks es i x h.1 there is fresh (λ j y low at_j. above (suc j) y (omega arith) at_j) in
     elim (cases_Bool (has e.command.key ks)) [
@@ -99,7 +109,8 @@ acted_own k ks (e ∷ es) (suc i) x own there is fresh above =
 
 -- ---- the one row of an entry that acted
 
-none_in : (key : Text) (es : List Entry) (ks : List Kept) → list_any (λ (z : Entry). bytes_eq key z.command.key) es ≡ false → filter (λ (e : Entry). bytes_eq e.command.key key) (acted es ks) ≡ []
+none_in : (key : Text) (es : List Entry) (ks : List Kept) → list_any (λ (z : Entry). bytes_eq key z.command.key) es ≡ false
+    → filter (λ (e : Entry). bytes_eq e.command.key key) (acted es ks) ≡ []
 none_in key [] ks none = refl
 none_in key (e ∷ es) ks none =
     let h = or_parts (bytes_eq key e.command.key) (list_any (λ (z : Entry). bytes_eq key z.command.key) es) none in

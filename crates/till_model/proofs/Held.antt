@@ -1,5 +1,7 @@
 -- If a copy's last accepted rent wasn't returned, the register has that rental.
-use Rattle.shop_types.proofs.Common.{◌≡◌, ◌∙◌, ℕ, Bool, true, false, List, [], ◌∷◌, Option, Some, None, refl, sym, ap, if◌then◌else◌, AllByRecursion, fold-append, Act, AddCustomer, SetActive, Rent, TakeBack, Pay, Import, Dispatch, Receive, Scrap, Answer, accepted_answer, equal_test}
+use Rattle.shop_types.proofs.Common.{◌≡◌, ◌∙◌, ℕ, Bool, true, false, List, [], ◌∷◌, Option, Some, None, refl, sym, ap, if◌then◌else◌, AllByRecursion}
+use Rattle.shop_types.proofs.Common.{fold-append, Act, AddCustomer, SetActive, Rent, TakeBack, Pay, Import, Dispatch, Receive, Scrap, Answer, accepted_answer}
+use Rattle.shop_types.proofs.Common.{equal_test}
 use Rattle.std.specs.Prelude.{◌==◌, ◌&&◌}
 use Rattle.std.specs.List.{fold}
 use Rattle.till_model.specs.Tills.{Entry}
@@ -9,7 +11,8 @@ use Rattle.till_model.proofs.Bodies.{told_back, told_is, equal_numbers}
 use Rattle.till_model.proofs.LastRent.{last_rent}
 
 module _ (copy rental : ℕ) (entry : Entry) (leaves : LeavesIt copy rental entry) where
-  rent_leaves : (customer rented : ℕ) (answer : Answer) → entry.command.act ≡ Rent customer rented → entry.reply ≡ Some answer → after_reply copy (Rent customer rented) answer (Some rental) ≡ Some rental
+  rent_leaves : (customer rented : ℕ) (answer : Answer) → entry.command.act ≡ Rent customer rented
+      → entry.reply ≡ Some answer → after_reply copy (Rent customer rented) answer (Some rental) ≡ Some rental
   rent_leaves customer rented answer is replied = go (rented == copy) refl
     where
       of_copy : rented ≡ copy → (found : Option ℕ) → rental_told answer ≡ found → or_held found (Some rental) ≡ Some rental
@@ -22,7 +25,8 @@ module _ (copy rental : ℕ) (entry : Entry) (leaves : LeavesIt copy rental entr
       go true is_same = of_copy (equal_numbers rented copy is_same) (rental_told answer) refl
       go false differ = refl
 
-  return_leaves : (n : ℕ) (answer : Answer) → entry.command.act ≡ TakeBack n → entry.reply ≡ Some answer → after_reply copy (TakeBack n) answer (Some rental) ≡ Some rental
+  return_leaves : (n : ℕ) (answer : Answer) → entry.command.act ≡ TakeBack n
+      → entry.reply ≡ Some answer → after_reply copy (TakeBack n) answer (Some rental) ≡ Some rental
   return_leaves n answer is replied = go (answer.status == 200) (rental == n) refl refl
     where
       go : (done same : Bool) → (answer.status == 200) ≡ done → (rental == n) ≡ same → (if done && same then None else Some rental) ≡ Some rental
@@ -49,14 +53,17 @@ module _ (copy rental : ℕ) (entry : Entry) (leaves : LeavesIt copy rental entr
       go None none = refl
       go (Some answer) replied = answered entry.command.act answer refl replied
 
-all_left : (copy rental : ℕ) (entries : List Entry) → AllByRecursion (LeavesIt copy rental) entries → fold (after_entry copy) (Some rental) entries ≡ Some rental
+all_left : (copy rental : ℕ) (entries : List Entry) → AllByRecursion (LeavesIt copy rental) entries
+    → fold (after_entry copy) (Some rental) entries ≡ Some rental
 all_left copy rental [] left = refl
-all_left copy rental (entry ∷ entries) left = ap (λ (held : Option ℕ). fold (after_entry copy) held entries) (left_alone copy rental entry left.0) ∙ all_left copy rental entries left.1
+all_left copy rental (entry ∷ entries) left =
+    ap (λ (held : Option ℕ). fold (after_entry copy) held entries) (left_alone copy rental entry left.0) ∙ all_left copy rental entries left.1
 
 rented_now : (copy rental : ℕ) (entry : Entry) (held : Option ℕ) → IsRentOf copy rental entry → after_entry copy held entry ≡ Some rental
 rented_now copy rental entry held rent = go entry.command.act entry.reply rent.2 rent.3
   where
-    go : (act : Act) (reply : Option Answer) → act ≡ Rent rent.0 copy → reply ≡ Some (accepted_answer (rental_body rental)) → after_told copy act reply held ≡ Some rental
+    go : (act : Act) (reply : Option Answer) → act ≡ Rent rent.0 copy
+        → reply ≡ Some (accepted_answer (rental_body rental)) → after_told copy act reply held ≡ Some rental
     go act reply same replied = rw (same, replied, equal_test copy copy refl, told_back rental rent.1) refl
 
 held_by_last : (copy rental : ℕ) (entries : List Entry) → IsLastRent copy rental entries → rental_of copy entries ≡ Some rental

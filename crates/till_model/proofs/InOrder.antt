@@ -1,5 +1,8 @@
 -- The entries of a till that have acted did so in the order of entering, at any point of the branch's history.
-use Rattle.shop_model.proofs.Common.{◌≡◌, inl, inr, ◌∙◌, ℕ, suc, ◌<◌, List, [], ◌∷◌, ◌++◌, map, filter, Bool, true, false, Some, None, Option, refl, sym, subst, ap, arith, slice_get, bytes_eq, cases_Bool, false≢true, nat_tests, Moment, is_earlier, is_by, Text, Command, Rules, Kept, is_within, Verdict, Again, Refused, Accepted, first, refusals, is_before, verdict, Do, Unread, Look, Office, OfficeLook, Input, FromOffice, Arrive, Own, State, reply_text, reply_to, if_accepted, done, moved, state_after}
+use Rattle.shop_model.proofs.Common.{◌≡◌, inl, inr, ◌∙◌, ℕ, suc, ◌<◌, List, [], ◌∷◌, ◌++◌, map, filter, Bool, true, false, Some, None, Option, refl, sym, subst}
+use Rattle.shop_model.proofs.Common.{ap, arith, slice_get, bytes_eq, cases_Bool, false≢true, nat_tests, Moment, is_earlier, is_by, Text, Command, Rules, Kept}
+use Rattle.shop_model.proofs.Common.{is_within, Verdict, Again, Refused, Accepted, first, refusals, is_before, verdict, Do, Unread, Look, Office, OfficeLook}
+use Rattle.shop_model.proofs.Common.{Input, FromOffice, Arrive, Own, State, reply_text, reply_to, if_accepted, done, moved, state_after}
 use Rattle.shop_model.proofs.RowLemmas.{more_yes, more_no}
 use Rattle.shop_model.proofs.Accepted.{accepted_holds, none_kept}
 use Rattle.till_model.specs.Tills.{Entry, Served, served_by, served_in, are_marked, have_own_keys, ComeFrom, ComeInOrder}
@@ -33,17 +36,23 @@ falls_back (Some last) x y by less = grind (arith, nat_tests)
 -- ---- one more accepted
 
 -- a command without the till's mark
-other_accepted : (has_mark : Text → Bool) (es : List Entry) (ks : List Kept) (last : Option Moment) (k : Kept) → are_marked has_mark es ≡ true → has_mark k.command.key ≡ false
+other_accepted : (has_mark : Text → Bool) (es : List Entry) (ks : List Kept) (last : Option Moment) (k : Kept)
+    → are_marked has_mark es ≡ true → has_mark k.command.key ≡ false
     → is_before k.command.moment last ≡ false → Knows has_mark es ks last → Knows has_mark es (ks ++ k ∷ []) (Some k.command.moment)
 other_accepted has_mark es ks last k all isnt on knows = record {
-  rows = more_no (λ (k : Kept). k.command) (λ (k : Kept). has_mark k.command.key) ks k isnt ∙ knows.rows ∙ ap (map (λ (e : Entry). e.command)) (sym (acted_other has_mark k ks es isnt all));
+  rows =
+      more_no (λ (k : Kept). k.command) (λ (k : Kept). has_mark k.command.key) ks k isnt ∙ knows.rows
+      ∙ ap (map (λ (e : Entry). e.command)) (sym (acted_other has_mark k ks es isnt all));
   within = λ j y there is.
-      let was : has y.command.key ks ≡ true = sym (has_more y.command.key ks k ∙ or_false (has y.command.key ks) _ (other_mark has_mark k y.command.key isnt (marked_at has_mark es j y all there))) ∙ is in
+      let was : has y.command.key ks ≡ true =
+      sym (has_more y.command.key ks k ∙ or_false (has y.command.key ks) _ (other_mark has_mark k y.command.key isnt (marked_at has_mark es j y all there)))
+      ∙ is in
       moves_on last k.command.moment y.command.moment on (knows.within j y there was);
 }
 
 -- a command of the till
-own_accepted : (has_mark : Text → Bool) (es : List Entry) (ks : List Kept) (last : Option Moment) (k : Kept) (i : ℕ) (x : Entry) → have_own_keys es ≡ true → has_mark k.command.key ≡ true
+own_accepted : (has_mark : Text → Bool) (es : List Entry) (ks : List Kept) (last : Option Moment) (k : Kept) (i : ℕ) (x : Entry)
+    → have_own_keys es ≡ true → has_mark k.command.key ≡ true
     → is_before k.command.moment last ≡ false → slice_get es i ≡ Some x → x.command ≡ k.command → has k.command.key ks ≡ false → NoneAbove es i ks
     → Knows has_mark es ks last → Knows has_mark es (ks ++ k ∷ []) (Some k.command.moment)
 own_accepted has_mark es ks last k i x own is on there same fresh above knows = record {
@@ -65,8 +74,11 @@ own_accepted has_mark es ks last k i x own is on there same fresh above knows = 
   map_more (y ∷ ys) x = ap (λ (l : List Command). y.command ∷ l) (map_more ys x)
 
 -- no later entry has acted
-none_above : (has_mark : Text → Bool) (es : List Entry) (ks : List Kept) (last : Option Moment) (command : Command) (i : ℕ) (x : Entry) (it : Served) (more : List Served)
-    → is_before command.moment last ≡ false → slice_get es i ≡ Some x → x.command ≡ command → it.command ≡ command → Late es ks (it ∷ more) → Knows has_mark es ks last → NoneAbove es i ks
+none_above :
+    (has_mark : Text → Bool) (es : List Entry) (ks : List Kept) (last : Option Moment)
+    (command : Command) (i : ℕ) (x : Entry) (it : Served) (more : List Served)
+    → is_before command.moment last ≡ false → slice_get es i ≡ Some x → x.command ≡ command
+    → it.command ≡ command → Late es ks (it ∷ more) → Knows has_mark es ks last → NoneAbove es i ks
 none_above has_mark es ks last command i x it more on there same came late knows j y above at_j = elim (cases_Bool (has y.command.key ks)) [
   | inr isnt ↦ isnt
   | inl is ↦
@@ -81,8 +93,11 @@ none_above has_mark es ks last command i x it more on there same came late knows
 pub is_on : (rules : Rules) (b : ℕ) (s : State) (command : Command) → verdict rules b s.catalogue s.shop command ≡ Accepted
     → (is_before command.moment s.shop.last ≡ false) × (has command.key s.shop.kept ≡ false)
 is_on rules b s command e =
-    let tests = accepted_holds rules b s.catalogue s.shop command e in
-    (tests.1.0, none_has command.key s.shop.kept (none_kept command (filter (λ (k : Kept). bytes_eq k.command.key command.key) s.shop.kept) (first (refusals rules b s.catalogue s.shop command)) e).0)
+    let tests = accepted_holds rules b s.catalogue s.shop command e in (
+      tests.1.0,
+      none_has command.key s.shop.kept
+          (none_kept command (filter (λ (k : Kept). bytes_eq k.command.key command.key) s.shop.kept) (first (refusals rules b s.catalogue s.shop command)) e).0,
+    )
 
 -- ---- one event, and any number of events
 
@@ -92,26 +107,33 @@ come_on es (x ∷ front) more h = come_on es front more (λ n it there. h (suc n
 
 order_on : (es : List Entry) (front more : List Served) → ComeInOrder es (front ++ more) → ComeInOrder es more
 order_on es [] more h = h
-order_on es (x ∷ front) more h = order_on es front more (λ i j m n x y first late low at_i at_j less at_m is at_n is'. h i j (suc m) (suc n) x y first late low at_i at_j (omega arith) at_m is at_n is')
+order_on es (x ∷ front) more h =
+    order_on es front more
+    (λ i j m n x y first late low at_i at_j less at_m is at_n is'. h i j (suc m) (suc n) x y first late low at_i at_j (omega arith) at_m is at_n is')
 
 late_on : (es : List Entry) (ks : List Kept) (front more : List Served) → Late es ks (front ++ more) → Late es ks more
 late_on es ks [] more h = h
 late_on es ks (x ∷ front) more h = late_on es ks front more (λ i j n x y late low at_i at_j is at_n same. h i j (suc n) x y late low at_i at_j is at_n same)
 
 -- `Late` still holds after the till's command has acted
-late_own : (es : List Entry) (ks : List Kept) (k : Kept) (i : ℕ) (x : Entry) (it : Served) (more : List Served) → have_own_keys es ≡ true → slice_get es i ≡ Some x → x.command ≡ k.command → it.command ≡ k.command
+late_own : (es : List Entry) (ks : List Kept) (k : Kept) (i : ℕ) (x : Entry) (it : Served) (more : List Served)
+    → have_own_keys es ≡ true → slice_get es i ≡ Some x → x.command ≡ k.command → it.command ≡ k.command
     → ComeInOrder es (it ∷ more) → Late es ks (it ∷ more) → Late es (ks ++ k ∷ []) more
-late_own es ks k i x it more own there same came order late l j n p y one low at_l at_j kept at_n is = elim (one_of (has y.command.key ks) (bytes_eq k.command.key y.command.key) (sym (has_more y.command.key ks k) ∙ kept)) [
-  | inl was ↦ late l j (suc n) p y one low at_l at_j was at_n is
-  | inr new ↦
-      let key : bytes_eq x.command.key y.command.key ≡ true = subst (λ (c : Command). bytes_eq c.key y.command.key ≡ true) (sym same) new in
-      let that : it.command ≡ y.command = came ∙ sym same ∙ ap (λ (e : Entry). e.command) (same_entry es i j x y own there at_j key) in
-      order l j 0 (suc n) p y it one low at_l at_j (omega arith) refl that at_n is
-]
+late_own es ks k i x it more own there same came order late l j n p y one low at_l at_j kept at_n is =
+    elim (one_of (has y.command.key ks) (bytes_eq k.command.key y.command.key) (sym (has_more y.command.key ks k) ∙ kept)) [
+      | inl was ↦ late l j (suc n) p y one low at_l at_j was at_n is
+      | inr new ↦
+          let key : bytes_eq x.command.key y.command.key ≡ true = subst (λ (c : Command). bytes_eq c.key y.command.key ≡ true) (sym same) new in
+          let that : it.command ≡ y.command = came ∙ sym same ∙ ap (λ (e : Entry). e.command) (same_entry es i j x y own there at_j key) in
+          order l j 0 (suc n) p y it one low at_l at_j (omega arith) refl that at_n is
+    ]
 
-late_other : (has_mark : Text → Bool) (es : List Entry) (ks : List Kept) (k : Kept) (more : List Served) → are_marked has_mark es ≡ true → has_mark k.command.key ≡ false → Late es ks more → Late es (ks ++ k ∷ []) more
+late_other : (has_mark : Text → Bool) (es : List Entry) (ks : List Kept) (k : Kept) (more : List Served)
+    → are_marked has_mark es ≡ true → has_mark k.command.key ≡ false → Late es ks more → Late es (ks ++ k ∷ []) more
 late_other has_mark es ks k more all isnt late i j n x y one low at_i at_j kept at_n same =
-    let was : has y.command.key ks ≡ true = sym (has_more y.command.key ks k ∙ or_false (has y.command.key ks) _ (other_mark has_mark k y.command.key isnt (marked_at has_mark es j y all at_j))) ∙ kept in
+    let was : has y.command.key ks ≡ true =
+    sym (has_more y.command.key ks k ∙ or_false (has y.command.key ks) _ (other_mark has_mark k y.command.key isnt (marked_at has_mark es j y all at_j)))
+    ∙ kept in
     late i j n x y one low at_i at_j was at_n same
 
 module _ (has_mark : Text → Bool) (rules : Rules) (b : ℕ) (es : List Entry) (all : are_marked has_mark es ≡ true) (own : have_own_keys es ≡ true) where
@@ -122,10 +144,12 @@ module _ (has_mark : Text → Bool) (rules : Rules) (b : ℕ) (es : List Entry) 
   by_command : (command : Command) (s : State) (v : Verdict) → v ≡ verdict rules b s.catalogue s.shop command → (more : List Served)
       → ComeFrom es (served_by has_mark rules b (Own (Do command)) s ++ more) → ComeInOrder es (served_by has_mark rules b (Own (Do command)) s ++ more)
       → Knows has_mark es s.shop.kept s.shop.last → Late es s.shop.kept (served_by has_mark rules b (Own (Do command)) s ++ more)
-      → Knows has_mark es (if_accepted v (done rules s.catalogue command s.shop) s.shop).kept (if_accepted v (done rules s.catalogue command s.shop) s.shop).last
+      → Knows has_mark es (if_accepted v (done rules s.catalogue command s.shop) s.shop).kept
+      (if_accepted v (done rules s.catalogue command s.shop) s.shop).last
       × Late es (if_accepted v (done rules s.catalogue command s.shop) s.shop).kept more
   by_command command s (Again text) is more come order knows late = (knows, late_on es s.shop.kept (served_by has_mark rules b (Own (Do command)) s) more late)
-  by_command command s (Refused refusal) is more come order knows late = (knows, late_on es s.shop.kept (served_by has_mark rules b (Own (Do command)) s) more late)
+  by_command command s (Refused refusal) is more come order knows late =
+      (knows, late_on es s.shop.kept (served_by has_mark rules b (Own (Do command)) s) more late)
   by_command command s Accepted is more come order knows late =
       let on = is_on rules b s command (sym is) in
       let k : Kept = record { command = command; reply = reply_text rules command s.shop } in
@@ -147,7 +171,8 @@ module _ (has_mark : Text → Bool) (rules : Rules) (b : ℕ) (es : List Entry) 
             )
       ]
 
-  step : (input : Input) (s : State) (more : List Served) → ComeFrom es (served_by has_mark rules b input s ++ more) → ComeInOrder es (served_by has_mark rules b input s ++ more)
+  step : (input : Input) (s : State) (more : List Served) → ComeFrom es (served_by has_mark rules b input s ++ more)
+      → ComeInOrder es (served_by has_mark rules b input s ++ more)
       → Knows has_mark es s.shop.kept s.shop.last → Late es s.shop.kept (served_by has_mark rules b input s ++ more) → Stands (moved rules b input s) more
   step (FromOffice command) s more come order knows late = (knows, late)
   step (Arrive source films) s more come order knows late = (knows, late)

@@ -1,5 +1,8 @@
 -- Kept rows under a key, and how a branch's kept rows grow.
-use Rattle.shop_model.proofs.Common.{◌≡◌, ◌⊎◌, inl, inr, ◌∙◌, ℕ, List, [], ◌∷◌, ◌++◌, filter, Bool, true, false, refl, sym, ap, append-nil, append_assoc, ◌||◌, list_any, bytes_eq, cases_Bool, false≢true, bytes_eq-Decides, Text, Command, Rules, Kept, Verdict, Again, Refused, Accepted, verdict, Do, Unread, Look, Office, OfficeLook, Input, FromOffice, Arrive, Own, State, reply_text, if_accepted, done, moved, state_after}
+use Rattle.shop_model.proofs.Common.{◌≡◌, ◌⊎◌, inl, inr, ◌∙◌, ℕ, List, [], ◌∷◌, ◌++◌, filter, Bool, true, false, refl, sym, ap, append-nil, append_assoc, ◌||◌}
+use Rattle.shop_model.proofs.Common.{list_any, bytes_eq, cases_Bool, false≢true, bytes_eq-Decides, Text, Command, Rules, Kept, Verdict, Again, Refused}
+use Rattle.shop_model.proofs.Common.{Accepted, verdict, Do, Unread, Look, Office, OfficeLook, Input, FromOffice, Arrive, Own, State, reply_text, if_accepted}
+use Rattle.shop_model.proofs.Common.{done, moved, state_after}
 
 -- ---- kept rows under a key
 

@@ -1,5 +1,7 @@
 -- The register's rental of a copy is the rental of the copy's last accepted rent.
-use Rattle.shop_types.proofs.Common.{◌≡◌, ◌≢◌, ◌⊎◌, ◌∙◌, ℕ, Bool, true, false, List, [], ◌∷◌, Option, Some, None, inl, inr, refl, sym, ap, subst, if◌then◌else◌, AllByRecursion, Act, AddCustomer, SetActive, Rent, TakeBack, Pay, Import, Dispatch, Receive, Scrap, Answer, accepted_answer, equal_test}
+use Rattle.shop_types.proofs.Common.{◌≡◌, ◌≢◌, ◌⊎◌, ◌∙◌, ℕ, Bool, true, false, List, [], ◌∷◌, Option, Some, None, inl, inr, refl, sym, ap, subst, if◌then◌else◌}
+use Rattle.shop_types.proofs.Common.{AllByRecursion, Act, AddCustomer, SetActive, Rent, TakeBack, Pay, Import, Dispatch, Receive, Scrap, Answer}
+use Rattle.shop_types.proofs.Common.{accepted_answer, equal_test}
 use Rattle.std.specs.Prelude.{◌==◌, ◌&&◌}
 use Rattle.std.specs.List.{fold}
 use Rattle.till_model.specs.Tills.{Entry}
@@ -14,7 +16,8 @@ module _ (copy rental : ℕ) where
 
   module _ (held : Option ℕ) (entry : Entry) where
     -- an act that is neither a rent nor a return
-    other_act : (act : Act) → entry.command.act ≡ act → ((customer : ℕ) → Rent customer copy ≢ act) → ((n : ℕ) → TakeBack n ≢ act) → held ≡ Some rental → Step held entry
+    other_act : (act : Act) → entry.command.act ≡ act → ((customer : ℕ) → Rent customer copy ≢ act)
+        → ((n : ℕ) → TakeBack n ≢ act) → held ≡ Some rental → Step held entry
     other_act act is no_rent no_return same = inl (same, ((λ return. no_return rental (sym return.1 ∙ is)), λ other rent. no_rent rent.0 (sym rent.2 ∙ is)))
 
     unanswered : entry.reply ≡ None → held ≡ Some rental → Step held entry
@@ -27,7 +30,8 @@ module _ (copy rental : ℕ) where
       reply_is : (other : Answer) → entry.reply ≡ Some other → other ≡ answer
       reply_is other e = let both : Some other ≡ Some answer = sym e ∙ replied in cc
 
-      rent_step : (customer rented : ℕ) → entry.command.act ≡ Rent customer rented → after_reply copy (Rent customer rented) answer held ≡ Some rental → Step held entry
+      rent_step : (customer rented : ℕ) → entry.command.act ≡ Rent customer rented
+          → after_reply copy (Rent customer rented) answer held ≡ Some rental → Step held entry
       rent_step customer rented is told = go (rented == copy) refl told
         where
           no_return : IsReturnOf rental entry → ⊥
@@ -38,7 +42,13 @@ module _ (copy rental : ℕ) where
 
           of_copy : rented ≡ copy → (found : Option ℕ) → rental_told answer ≡ found → or_held found held ≡ Some rental → Step held entry
           of_copy same None none e =
-              inl (e, (no_return, λ other rent. clash (sym none ∙ ap rental_told (sym (reply_is (accepted_answer (rental_body other)) rent.3)) ∙ told_back other rent.1)))
+              inl (
+                e,
+                (
+                  no_return,
+                  λ other rent. clash (sym none ∙ ap rental_told (sym (reply_is (accepted_answer (rental_body other)) rent.3)) ∙ told_back other rent.1),
+                ),
+              )
             where
               clash : {n : ℕ} → None ≡ Some n → ⊥
               clash e = cc
@@ -81,7 +91,8 @@ module _ (copy rental : ℕ) where
               no_return : IsReturnOf rental entry → ⊥
               no_return return =
                   let same : rental ≡ n = number_is (sym return.1 ∙ is) in
-                  let done : (answer.status == 200) ≡ true = equal_test answer.status 200 (ap (λ (a : Answer). a.status) (sym (reply_is return.0 return.2)) ∙ return.3) in
+                  let done : (answer.status == 200) ≡ true =
+                  equal_test answer.status 200 (ap (λ (a : Answer). a.status) (sym (reply_is return.0 return.2)) ∙ return.3) in
                   let held_it : is_held n held ≡ true = ap (is_held n) e ∙ equal_test rental n same in
                   apart (sym not_back ∙ ap (λ b. b && is_held n held) done ∙ held_it)
 
@@ -107,7 +118,15 @@ module _ (copy rental : ℕ) where
       → ((held ≡ Some rental) × AllByRecursion (LeavesIt copy rental) entries) ⊎ IsLastRent copy rental entries
   from_held held [] told = inl (told, tt)
   from_held held (entry ∷ entries) told = elim (from_held (after_entry copy held entry) entries told) [
-    | inr last ↦ inr (record { front = entry ∷ last.front; rent = last.rent; behind = last.behind; is = ap (λ (more : List Entry). entry ∷ more) last.is; rented = last.rented; left = last.left })
+    | inr last ↦
+        inr (record {
+          front = entry ∷ last.front;
+          rent = last.rent;
+          behind = last.behind;
+          is = ap (λ (more : List Entry). entry ∷ more) last.is;
+          rented = last.rented;
+          left = last.left;
+        })
     | inl here ↦ elim (step held entry here.0) [
       | inl stays ↦ inl (stays.0, (stays.1, here.1))
       | inr rent ↦ inr (record { front = []; rent = entry; behind = entries; is = refl; rented = rent; left = here.1 })

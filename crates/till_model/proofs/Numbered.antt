@@ -1,5 +1,7 @@
 -- Entries with numbered keys and rising moments.
-use Rattle.shop_model.proofs.Common.{◌≡◌, ◌⊎◌, inl, inr, ◌∙◌, ℕ, zero, suc, ◌+◌, ◌<◌, ◌^◌, List, [], ◌∷◌, ◌++◌, length, take, Bool, true, false, Some, None, refl, sym, subst, ap, arith, length-append, slice_get, decimal, nat_lt, list_any, bytes_eq, cases_Bool, nat_tests, bytes_eq-Decides, Moment, is_earlier, Text, Command, Answer}
+use Rattle.shop_model.proofs.Common.{◌≡◌, ◌⊎◌, inl, inr, ◌∙◌, ℕ, zero, suc, ◌+◌, ◌<◌, ◌^◌, List, [], ◌∷◌, ◌++◌, length, take, Bool, true, false, Some, None}
+use Rattle.shop_model.proofs.Common.{refl, sym, subst, ap, arith, length-append, slice_get, decimal, nat_lt, list_any, bytes_eq, cases_Bool, nat_tests}
+use Rattle.shop_model.proofs.Common.{bytes_eq-Decides, Moment, is_earlier, Text, Command, Answer}
 use Rattle.std.specs.Prelude.{◌-◌}
 use Rattle.std.proofs.lemmas.Fmt.{decimal_injective}
 use Rattle.std.proofs.lemmas.Option.{slice_get_within}
@@ -35,14 +37,16 @@ keys_differ mark m n low small = elim (cases_Bool (bytes_eq (key_of mark m) (key
 
 -- ---- entries by place
 
-pub command_at : (commands : List Command) (replies : List Answer) (i : ℕ) (entry : Entry) → slice_get (entries_of commands replies) i ≡ Some entry → slice_get commands i ≡ Some entry.command
+pub command_at : (commands : List Command) (replies : List Answer) (i : ℕ) (entry : Entry)
+    → slice_get (entries_of commands replies) i ≡ Some entry → slice_get commands i ≡ Some entry.command
 command_at [] replies i entry there = absurd (same_none entry there)
 command_at (c ∷ cs) [] zero entry there = ap (λ (it : Entry). Some it.command) (same_some (record { command = c; reply = None }) entry there)
 command_at (c ∷ cs) [] (suc i) entry there = command_at cs [] i entry there
 command_at (c ∷ cs) (a ∷ answers) zero entry there = ap (λ (it : Entry). Some it.command) (same_some (record { command = c; reply = Some a }) entry there)
 command_at (c ∷ cs) (a ∷ answers) (suc i) entry there = command_at cs answers i entry there
 
-all_marked : (marked : Text → Bool) (entries : List Entry) → ((i : ℕ) (entry : Entry) → slice_get entries i ≡ Some entry → marked entry.command.key ≡ true) → are_marked marked entries ≡ true
+all_marked : (marked : Text → Bool) (entries : List Entry)
+    → ((i : ℕ) (entry : Entry) → slice_get entries i ≡ Some entry → marked entry.command.key ≡ true) → are_marked marked entries ≡ true
 all_marked marked [] each = refl
 all_marked marked (e ∷ es) each = rw (each 0 e refl) (all_marked marked es (λ i entry there. each (suc i) entry there))
 
@@ -52,7 +56,9 @@ none_same e [] differ = refl
 none_same e (x ∷ xs) differ = rw (differ 0 x refl) (none_same e xs (λ i entry there. differ (suc i) entry there))
 
 abbrev AllDiffer : List Entry → Type 0
-AllDiffer entries = (i j : ℕ) (earlier later : Entry) → i < j → slice_get entries i ≡ Some earlier → slice_get entries j ≡ Some later → bytes_eq earlier.command.key later.command.key ≡ false
+AllDiffer entries =
+    (i j : ℕ) (earlier later : Entry) → i < j → slice_get entries i ≡ Some earlier
+    → slice_get entries j ≡ Some later → bytes_eq earlier.command.key later.command.key ≡ false
 
 all_own : (entries : List Entry) → AllDiffer entries → have_own_keys entries ≡ true
 all_own [] differ = refl
@@ -63,7 +69,8 @@ all_own (e ∷ es) differ =
 pub numbered_own : NumberedAreOwn
 numbered_own mark commands replies numbered =
     let entries = entries_of commands replies in
-    let key : (i : ℕ) (entry : Entry) → slice_get entries i ≡ Some entry → entry.command.key ≡ key_of mark (i + 1) = λ i entry there. numbered.keys i entry.command (command_at commands replies i entry there) in
+    let key : (i : ℕ) (entry : Entry) → slice_get entries i ≡ Some entry → entry.command.key ≡ key_of mark (i + 1) =
+    λ i entry there. numbered.keys i entry.command (command_at commands replies i entry there) in
     record {
       marked = all_marked (has_mark mark) entries (λ i entry there. ap (has_mark mark) (key i entry there) ∙ key_marked mark (i + 1));
       keys = all_own entries (λ i j earlier later low at_i at_j.
@@ -90,7 +97,8 @@ earlier_still : (a b c : Moment) → is_earlier a b ≡ true → is_earlier b c 
 earlier_still a b c one two = grind (arith, nat_tests)
 
 -- each is before a moment that is after the last
-each_before : (mark : Text) (commands : List Command) (moment : Moment) → AreNumbered mark commands → IsAfterLast commands moment → (i : ℕ) (it : Command) → slice_get commands i ≡ Some it
+each_before : (mark : Text) (commands : List Command) (moment : Moment) → AreNumbered mark commands
+    → IsAfterLast commands moment → (i : ℕ) (it : Command) → slice_get commands i ≡ Some it
     → is_earlier it.moment moment ≡ true
 each_before mark commands moment numbered last i it there =
     let within : i < length commands = slice_get_within commands i it there in
@@ -113,7 +121,8 @@ each_before mark commands moment numbered last i it there =
     some_at (c ∷ cs) zero low = (c, refl)
     some_at (c ∷ cs) (suc j) low = some_at cs j (omega arith)
 
-pub numbered_more : (mark : Text) (commands : List Command) (command : Command) → AreNumbered mark commands → length commands + 1 < 2 ^ 64 - 1 → command.key ≡ key_of mark (length commands + 1)
+pub numbered_more : (mark : Text) (commands : List Command) (command : Command) → AreNumbered mark commands
+    → length commands + 1 < 2 ^ 64 - 1 → command.key ≡ key_of mark (length commands + 1)
     → IsAfterLast commands command.moment → AreNumbered mark (commands ++ command ∷ [])
 numbered_more mark commands command numbered few key last =
     let long : length (commands ++ command ∷ []) ≡ length commands + 1 = length-append commands (command ∷ []) in
@@ -129,7 +138,8 @@ numbered_more mark commands command numbered few key last =
           | inr (is, same) ↦ absurd (omega arith)
         ]
         | inr (is, same) ↦ elim (more_at commands command earlier i at_i) [
-          | inl (under, there) ↦ subst (λ (c : Command). is_earlier earlier.moment c.moment ≡ true) same (each_before mark commands command.moment numbered last i earlier there)
+          | inl (under, there) ↦
+              subst (λ (c : Command). is_earlier earlier.moment c.moment ≡ true) same (each_before mark commands command.moment numbered last i earlier there)
           | inr (is', same') ↦ absurd (omega arith)
         ]
       ];

@@ -1,5 +1,8 @@
 -- The laws of a till over a chain's stops.
-use Rattle.shop_model.proofs.Common.{◌≡◌, inl, inr, ◌∙◌, ℕ, zero, suc, List, [], ◌∷◌, ◌++◌, length, take, Bool, true, Some, refl, sym, subst, ap, append_assoc, slice_get, cases_Bool, Text, Command, OfficeAsk, Rules, Do, Reply, Input, Own, State, reply_to, moved, state_after, Answer, answer_of, Books, Event, Counter, state_of, caller_in, reply_in, after, last_books, seen_of, view, is_decided, counted_in, Asks, books_next, Life, in_flight, acted_in, Lives, history_of, begun}
+use Rattle.shop_model.proofs.Common.{◌≡◌, inl, inr, ◌∙◌, ℕ, zero, suc, List, [], ◌∷◌, ◌++◌, length, take, Bool, true, Some, refl, sym, subst, ap, append_assoc}
+use Rattle.shop_model.proofs.Common.{slice_get, cases_Bool, Text, Command, OfficeAsk, Rules, Do, Reply, Input, Own, State, reply_to, moved, state_after, Answer}
+use Rattle.shop_model.proofs.Common.{answer_of, Books, Event, Counter, state_of, caller_in, reply_in, after, last_books, seen_of, view, is_decided, counted_in}
+use Rattle.shop_model.proofs.Common.{Asks, books_next, Life, in_flight, acted_in, Lives, history_of, begun}
 use Rattle.shop_model.proofs.RowLemmas.{same_test}
 use Rattle.shop_model.proofs.Histories.{last_append}
 use Rattle.shop_model.proofs.Isolation.{alone}
@@ -34,7 +37,8 @@ record Given (rules : Rules) (look : Reads) (b : ℕ) (command : Command) (answe
   reply : answer ≡ answer_of (reply_in rules look event (last_books rules front books))
 
 module _ (rules : Rules) (look : Reads) (b : ℕ) (command : Command) where
-  in_life : (events : List Event) (answers : List Answer) (books : Books) → Steps rules look events answers books → (i : ℕ) (x : Answer) → Asks rules events answers books i (Counter b) (Do command)
+  in_life : (events : List Event) (answers : List Answer) (books : Books) → Steps rules look events answers books
+      → (i : ℕ) (x : Answer) → Asks rules events answers books i (Counter b) (Do command)
       → slice_get answers i ≡ Some x → is_decided x ≡ true → Given rules look b command x (counted_in events answers) books
   in_life [] answers books steps i x asks there decided = absurd (same_none asks.event asks.stands)
   in_life (e ∷ events) [] books steps i x asks there decided = absurd (same_none x there)
@@ -54,7 +58,8 @@ module _ (rules : Rules) (look : Reads) (b : ℕ) (command : Command) where
   in_life (e ∷ events) (a ∷ answers) books steps (suc i) x asks there decided =
       let sound = sound_before rules look e events a answers books steps i x there decided in
       let next = books_next rules e a books in
-      let rest : Asks rules events answers next i (Counter b) (Do command) = record { event = asks.event; stands = asks.stands; who = asks.who; what = asks.what } in
+      let rest : Asks rules events answers next i (Counter b) (Do command) =
+      record { event = asks.event; stands = asks.stands; who = asks.who; what = asks.what } in
       let it = in_life events answers next (steps_next rules look e events a answers books steps sound) i x rest there decided in
       elim (cases_Bool (is_decided a)) [
         | inl fine ↦
@@ -89,7 +94,8 @@ module _ (rules : Rules) (look : Reads) (b : ℕ) (command : Command) where
   in_lives [] old new lived n i life x at_n asks there decided = absurd (same_none life at_n)
   in_lives (l ∷ lives) old new (mid, ran, rest) zero i life x at_n asks there decided =
       let same : l ≡ life = same_some l life at_n in
-      let here : Asks rules l.events l.answers old i (Counter b) (Do command) = subst (λ (it : Life). Asks rules it.events it.answers old i (Counter b) (Do command)) (sym same) asks in
+      let here : Asks rules l.events l.answers old i (Counter b) (Do command) =
+      subst (λ (it : Life). Asks rules it.events it.answers old i (Counter b) (Do command)) (sym same) asks in
       let answer : slice_get l.answers i ≡ Some x = subst (λ (it : Life). slice_get it.answers i ≡ Some x) (sym same) there in
       let it = in_life l.events l.answers old (steps_of rules look l.events l.answers old ran.each ran.stays ran.decisions) i x here answer decided in
       let more = history_of lives in
@@ -106,11 +112,15 @@ module _ (rules : Rules) (look : Reads) (b : ℕ) (command : Command) where
       }
   in_lives (l ∷ lives) old new (mid, ran, rest) (suc n) i life x at_n asks there decided =
       let next = last_books rules (in_flight l) mid in
-      let first : last_books rules (acted_in l) old ≡ next = last_append rules (counted_in l.events l.answers) (in_flight l) old ∙ ap (last_books rules (in_flight l)) (sym ran.books) in
+      let first : last_books rules (acted_in l) old ≡ next =
+      last_append rules (counted_in l.events l.answers) (in_flight l) old ∙ ap (last_books rules (in_flight l)) (sym ran.books) in
       let start : begun rules (l ∷ lives) old (suc n) ≡ begun rules lives next n =
       last_append rules (acted_in l) (history_of (take n lives)) old ∙ ap (last_books rules (history_of (take n lives))) first in
-      let it = in_lives lives next new rest n i life x at_n (subst (λ (bs : Books). Asks rules life.events life.answers bs i (Counter b) (Do command)) start asks) there decided in
-      let at_it : last_books rules it.front next ≡ last_books rules (acted_in l ++ it.front) old = sym (last_append rules (acted_in l) it.front old ∙ ap (last_books rules it.front) first) in
+      let it =
+      in_lives lives next new rest n i life x at_n
+      (subst (λ (bs : Books). Asks rules life.events life.answers bs i (Counter b) (Do command)) start asks) there decided in
+      let at_it : last_books rules it.front next ≡ last_books rules (acted_in l ++ it.front) old =
+      sym (last_append rules (acted_in l) it.front old ∙ ap (last_books rules it.front) first) in
       record {
         front = acted_in l ++ it.front;
         event = it.event;
@@ -123,7 +133,8 @@ module _ (rules : Rules) (look : Reads) (b : ℕ) (command : Command) where
 
 -- ---- the served commands of two histories in a row
 
-view_append : (rules : Rules) (b : ℕ) (front back : List Event) (books : Books) → view rules b (front ++ back) books ≡ view rules b front books ++ view rules b back (last_books rules front books)
+view_append : (rules : Rules) (b : ℕ) (front back : List Event) (books : Books)
+    → view rules b (front ++ back) books ≡ view rules b front books ++ view rules b back (last_books rules front books)
 view_append rules b [] back books = refl
 view_append rules b (e ∷ front) back books =
     let seen = seen_of rules b (caller_in e books) (e.request (caller_in e books)) books in
@@ -136,7 +147,8 @@ served_append has_mark rules b [] back s = refl
 served_append has_mark rules b (input ∷ front) back s =
     let one = served_by has_mark rules b input s in
     ap (λ (l : List Served). one ++ l) (served_append has_mark rules b front back (moved rules b input s))
-    ∙ sym (append_assoc one (served_in has_mark rules b front (moved rules b input s)) (served_in has_mark rules b back (state_after rules b front (moved rules b input s))))
+    ∙ sym (append_assoc one (served_in has_mark rules b front (moved rules b input s))
+    (served_in has_mark rules b back (state_after rules b front (moved rules b input s))))
 
 behind : (front : List Served) (it : Served) (rest : List Served) → slice_get (front ++ it ∷ rest) (length front) ≡ Some it
 behind [] it rest = refl
@@ -154,7 +166,8 @@ answers_served has_mark rules look b lives old new lived numbers n i life comman
     let own : seen_of rules b (caller_in g.event mid) (g.event.request (caller_in g.event mid)) mid ≡ Own (Do command) ∷ [] =
     rw (g.who, g.what, same_test b) refl in
     let inputs : view rules b (history_of lives) old ≡ first ++ Own (Do command) ∷ rest =
-    ap (λ (h : List Event). view rules b h old) g.split ∙ view_append rules b g.front (g.event ∷ g.back) old ∙ ap (λ (l : List Input). first ++ (l ++ rest)) own in
+    ap (λ (h : List Event). view rules b h old) g.split ∙ view_append rules b g.front (g.event ∷ g.back) old
+    ∙ ap (λ (l : List Input). first ++ (l ++ rest)) own in
     let here : state_after rules b first (state_of b old) ≡ s = sym (alone rules look g.front old b numbers).state in
     let front = served_in has_mark rules b first (state_of b old) in
     let later = served_in has_mark rules b rest (moved rules b (Own (Do command)) s) in

@@ -1,5 +1,7 @@
 -- The place in a history at which a command was served.
-use Rattle.shop_model.proofs.Common.{◌≡◌, ◌⊎◌, inl, inr, ◌∙◌, ℕ, zero, suc, ◌<◌, List, [], ◌∷◌, ◌++◌, Bool, true, Some, refl, sym, subst, ap, arith, slice_get, cases_Bool, Text, Command, Rules, Do, Unread, Look, Office, OfficeLook, Input, FromOffice, Arrive, Own, State, reply_to, moved, state_after}
+use Rattle.shop_model.proofs.Common.{◌≡◌, ◌⊎◌, inl, inr, ◌∙◌, ℕ, zero, suc, ◌<◌, List, [], ◌∷◌, ◌++◌, Bool, true, Some, refl, sym, subst, ap, arith, slice_get}
+use Rattle.shop_model.proofs.Common.{cases_Bool, Text, Command, Rules, Do, Unread, Look, Office, OfficeLook, Input, FromOffice, Arrive, Own, State, reply_to}
+use Rattle.shop_model.proofs.Common.{moved, state_after}
 use Rattle.shop_model.proofs.Resends.{same_some, same_none}
 use Rattle.till_model.specs.Tills.{Served, served_by, served_in}
 
@@ -31,14 +33,16 @@ pub record Place (has_mark : Text → Bool) (rules : Rules) (b : ℕ) (inputs : 
       → (k : ℕ) × (n < k) × (slice_get (served_in has_mark rules b inputs s) k ≡ Some x)
 
 module _ (has_mark : Text → Bool) (rules : Rules) (b : ℕ) (input : Input) (inputs : List Input) (s : State)
-    (behind_it : (n : ℕ) (it : Served) → slice_get (served_in has_mark rules b inputs (moved rules b input s)) n ≡ Some it → Place has_mark rules b inputs (moved rules b input s) n it) where
+    (behind_it : (n : ℕ) (it : Served) → slice_get (served_in has_mark rules b inputs (moved rules b input s)) n ≡ Some it
+    → Place has_mark rules b inputs (moved rules b input s) n it) where
   abbrev next : State
   next = moved rules b input s
 
   abbrev more : List Served
   more = served_in has_mark rules b inputs next
 
-  nothing_came : (n : ℕ) (it : Served) → served_by has_mark rules b input s ≡ [] → slice_get (served_in has_mark rules b (input ∷ inputs) s) n ≡ Some it → Place has_mark rules b (input ∷ inputs) s n it
+  nothing_came : (n : ℕ) (it : Served) → served_by has_mark rules b input s ≡ []
+      → slice_get (served_in has_mark rules b (input ∷ inputs) s) n ≡ Some it → Place has_mark rules b (input ∷ inputs) s n it
   nothing_came n it none there =
       let at_n : slice_get more n ≡ Some it = subst (λ (l : List Served). slice_get (l ++ more) n ≡ Some it) none there in
       let p = behind_it n it at_n in
@@ -49,7 +53,8 @@ module _ (has_mark : Text → Bool) (rules : Rules) (b : ℕ) (input : Input) (i
         reply = p.reply;
         owned = p.owned;
         before = λ m x at_m.
-            let down : slice_get (served_in has_mark rules b p.front next) m ≡ Some x = subst (λ (l : List Served). slice_get (l ++ served_in has_mark rules b p.front next) m ≡ Some x) none at_m in
+            let down : slice_get (served_in has_mark rules b p.front next) m ≡ Some x =
+            subst (λ (l : List Served). slice_get (l ++ served_in has_mark rules b p.front next) m ≡ Some x) none at_m in
             subst (λ (l : List Served). slice_get (l ++ more) m ≡ Some x) (sym none) (p.before m x down);
         behind = λ m x at_m.
             let h = p.behind m x at_m in
@@ -73,7 +78,8 @@ module _ (has_mark : Text → Bool) (rules : Rules) (b : ℕ) (input : Input) (i
         owned = subst (λ (c : Command). has_mark c.key ≡ true) command_is owned;
         before = λ m x at_m. absurd (same_none x at_m);
         behind = λ m x at_m.
-            let at' : slice_get more m ≡ Some x = subst (λ (i : Input). slice_get (served_in has_mark rules b inputs (moved rules b i s)) m ≡ Some x) (sym input_is) at_m in
+            let at' : slice_get more m ≡ Some x =
+            subst (λ (i : Input). slice_get (served_in has_mark rules b inputs (moved rules b i s)) m ≡ Some x) (sym input_is) at_m in
             (suc m, omega arith, subst (λ (l : List Served). slice_get (l ++ more) (suc m) ≡ Some x) (sym one) at');
       }
 
@@ -95,12 +101,15 @@ module _ (has_mark : Text → Bool) (rules : Rules) (b : ℕ) (input : Input) (i
             (suc h.0, omega arith, subst (λ (l : List Served). slice_get (l ++ more) (suc h.0) ≡ Some x) (sym one) h.2);
       }
     where
-      before_on : (p : Place has_mark rules b inputs next n it) (m : ℕ) (x : Served) → slice_get (served_in has_mark rules b (input ∷ p.front) s) m ≡ Some x → slice_get (served_in has_mark rules b (input ∷ inputs) s) m ≡ Some x
+      before_on : (p : Place has_mark rules b inputs next n it) (m : ℕ) (x : Served)
+          → slice_get (served_in has_mark rules b (input ∷ p.front) s) m ≡ Some x → slice_get (served_in has_mark rules b (input ∷ inputs) s) m ≡ Some x
       before_on p zero x at_m =
-          let here : slice_get (me ∷ served_in has_mark rules b p.front next) zero ≡ Some x = subst (λ (l : List Served). slice_get (l ++ served_in has_mark rules b p.front next) zero ≡ Some x) one at_m in
+          let here : slice_get (me ∷ served_in has_mark rules b p.front next) zero ≡ Some x =
+          subst (λ (l : List Served). slice_get (l ++ served_in has_mark rules b p.front next) zero ≡ Some x) one at_m in
           subst (λ (l : List Served). slice_get (l ++ more) zero ≡ Some x) (sym one) here
       before_on p (suc m) x at_m =
-          let down : slice_get (served_in has_mark rules b p.front next) m ≡ Some x = subst (λ (l : List Served). slice_get (l ++ served_in has_mark rules b p.front next) (suc m) ≡ Some x) one at_m in
+          let down : slice_get (served_in has_mark rules b p.front next) m ≡ Some x =
+          subst (λ (l : List Served). slice_get (l ++ served_in has_mark rules b p.front next) (suc m) ≡ Some x) one at_m in
           subst (λ (l : List Served). slice_get (l ++ more) (suc m) ≡ Some x) (sym one) (p.before m x down)
 
   place_in : (n : ℕ) (it : Served) → slice_get (served_in has_mark rules b (input ∷ inputs) s) n ≡ Some it → Place has_mark rules b (input ∷ inputs) s n it
@@ -113,10 +122,13 @@ module _ (has_mark : Text → Bool) (rules : Rules) (b : ℕ) (input : Input) (i
     | inr (command, is, owned, one) ↦ came_on n it (record { command = command; reply = reply_to rules b s.catalogue s.shop (Do command) }) one there
   ]
 
-pub place_of : (has_mark : Text → Bool) (rules : Rules) (b : ℕ) (inputs : List Input) (s : State) (n : ℕ) (it : Served) → slice_get (served_in has_mark rules b inputs s) n ≡ Some it → Place has_mark rules b inputs s n it
+pub place_of : (has_mark : Text → Bool) (rules : Rules) (b : ℕ) (inputs : List Input) (s : State) (n : ℕ) (it : Served)
+    → slice_get (served_in has_mark rules b inputs s) n ≡ Some it → Place has_mark rules b inputs s n it
 place_of has_mark rules b [] s n it there = absurd (same_none it there)
-place_of has_mark rules b (input ∷ inputs) s n it there = place_in has_mark rules b input inputs s (λ n it there. place_of has_mark rules b inputs (moved rules b input s) n it there) n it there
+place_of has_mark rules b (input ∷ inputs) s n it there =
+    place_in has_mark rules b input inputs s (λ n it there. place_of has_mark rules b inputs (moved rules b input s) n it there) n it there
 
-pub state_append : (rules : Rules) (b : ℕ) (front back : List Input) (s : State) → state_after rules b (front ++ back) s ≡ state_after rules b back (state_after rules b front s)
+pub state_append : (rules : Rules) (b : ℕ) (front back : List Input) (s : State)
+    → state_after rules b (front ++ back) s ≡ state_after rules b back (state_after rules b front s)
 state_append rules b [] back s = refl
 state_append rules b (input ∷ front) back s = state_append rules b front back (moved rules b input s)

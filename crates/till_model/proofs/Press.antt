@@ -11,9 +11,11 @@ pub record Stands (commands : List Command) (replies : List Answer) (i : ℕ) (e
   pub command : slice_get commands i ≡ Some e.command
   pub reply : slice_get replies i ≡ Some answer
 
-pub stands : (commands : List Command) (replies : List Answer) (i : ℕ) (e : Entry) (answer : Answer) → slice_get (entries_of commands replies) i ≡ Some e → e.reply ≡ Some answer → Stands commands replies i e answer
+pub stands : (commands : List Command) (replies : List Answer) (i : ℕ) (e : Entry) (answer : Answer)
+    → slice_get (entries_of commands replies) i ≡ Some e → e.reply ≡ Some answer → Stands commands replies i e answer
 stands [] replies i e answer there is = absurd (same_none e there)
-stands (c ∷ cs) [] zero e answer there is = absurd (same_none answer (ap (λ (it : Entry). it.reply) (same_some (record { command = c; reply = None }) e there) ∙ is))
+stands (c ∷ cs) [] zero e answer there is =
+    absurd (same_none answer (ap (λ (it : Entry). it.reply) (same_some (record { command = c; reply = None }) e there) ∙ is))
 stands (c ∷ cs) [] (suc i) e answer there is = let it = stands cs [] i e answer there is in record { command = it.command; reply = absurd (none_at i it.reply) }
   where
     none_at : (i : ℕ) → ◌≡◌ {A = Option Answer} None (Some answer) → ⊥
@@ -35,6 +37,7 @@ press_to_disk has_mark rules look b commands replies lives old new lived numbers
       told = λ i e answer there is.
           let it = stands commands replies i e answer there is in
           let was = book.witnessed.answered i e.command answer it.command it.reply in
-          answers_served has_mark rules look b lives old new lived numbers was.at_life was.at_place was.life e.command answer was.lived was.asked was.told (book.witnessed.decided i answer it.reply)
+          answers_served has_mark rules look b lives old new lived numbers was.at_life was.at_place
+          was.life e.command answer was.lived was.asked was.told (book.witnessed.decided i answer it.reply)
           (marked_at has_mark entries i e book.own.marked there);
     })

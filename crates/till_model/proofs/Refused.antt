@@ -1,5 +1,10 @@
 -- Commands that never act: those that aren't sent, and those whose moment is earlier than the branch's last.
-use Rattle.shop_model.proofs.Common.{◌≡◌, inl, inr, ◌∙◌, ℕ, zero, suc, ◌<◌, List, [], ◌∷◌, ◌++◌, Bool, true, false, not, Some, None, Option, refl, sym, subst, ap, arith, slice_get, nat_lt, list_any, bytes_eq, cases_Bool, and_parts, false≢true, nat_tests, bytes_eq-Decides, at, Moment, Text, Command, Rules, Refusal, refusal_number, KeyUsed, Full, MomentBack, NoStaff, Kept, same_command, Verdict, Again, Refused, Accepted, first, resent, refusals, act_refusals, staff_is, is_before, is_full, verdict, Do, Unread, Look, Office, OfficeLook, Input, FromOffice, Arrive, Own, State, reply_text, reply_to, if_accepted, done, moved, state_after, rise_from}
+use Rattle.shop_model.proofs.Common.{◌≡◌, inl, inr, ◌∙◌, ℕ, zero, suc, ◌<◌, List, [], ◌∷◌, ◌++◌, Bool, true, false, not, Some, None, Option, refl, sym, subst}
+use Rattle.shop_model.proofs.Common.{ap, arith, slice_get, nat_lt, list_any, bytes_eq, cases_Bool, and_parts, false≢true, nat_tests, bytes_eq-Decides, at}
+use Rattle.shop_model.proofs.Common.{Moment, Text, Command, Rules, Refusal, refusal_number, KeyUsed, Full, MomentBack, NoStaff, Kept, same_command, Verdict}
+use Rattle.shop_model.proofs.Common.{Again, Refused, Accepted, first, resent, refusals, act_refusals, staff_is, is_before, is_full, verdict, Do, Unread, Look}
+use Rattle.shop_model.proofs.Common.{Office, OfficeLook, Input, FromOffice, Arrive, Own, State, reply_text, reply_to, if_accepted, done, moved, state_after}
+use Rattle.shop_model.proofs.Common.{rise_from}
 use Rattle.shop_model.proofs.Resends.{same_none}
 use Rattle.shop_model.proofs.Refusing.{in_order}
 use Rattle.till_model.specs.Tills.{Served, served_by, served_in}
@@ -9,7 +14,8 @@ use Rattle.till_model.proofs.InOrder.{is_on}
 -- ---- what never acts
 
 -- if no command with that key is served, none is kept
-absent_by : (key : Text) (has_mark : Text → Bool) (rules : Rules) (b : ℕ) (s : State) (command : Command) (v : Verdict) → has_mark key ≡ true → has key s.shop.kept ≡ false
+absent_by : (key : Text) (has_mark : Text → Bool) (rules : Rules) (b : ℕ) (s : State) (command : Command) (v : Verdict)
+    → has_mark key ≡ true → has key s.shop.kept ≡ false
     → ((n : ℕ) (x : Served) → slice_get (served_by has_mark rules b (Own (Do command)) s) n ≡ Some x → bytes_eq x.command.key key ≡ false)
     → has key (if_accepted v (done rules s.catalogue command s.shop) s.shop).kept ≡ false
 absent_by key has_mark rules b s command (Again text) owned none away = none
@@ -31,15 +37,18 @@ none_by key has_mark rules b (Own (Unread refusal)) s owned none away = none
 none_by key has_mark rules b (Own (Look ask)) s owned none away = none
 none_by key has_mark rules b (Own (Office command)) s owned none away = none
 none_by key has_mark rules b (Own (OfficeLook ask)) s owned none away = none
-none_by key has_mark rules b (Own (Do command)) s owned none away = absent_by key has_mark rules b s command (verdict rules b s.catalogue s.shop command) owned none away
+none_by key has_mark rules b (Own (Do command)) s owned none away =
+    absent_by key has_mark rules b s command (verdict rules b s.catalogue s.shop command) owned none away
 
 -- what holds for all of a list holds for all of its front and for all of the rest
-in_front : (front behind_ : List Served) (P : Served → Type 0) → ((n : ℕ) (x : Served) → slice_get (front ++ behind_) n ≡ Some x → P x) → (n : ℕ) (x : Served) → slice_get front n ≡ Some x → P x
+in_front : (front behind_ : List Served) (P : Served → Type 0)
+    → ((n : ℕ) (x : Served) → slice_get (front ++ behind_) n ≡ Some x → P x) → (n : ℕ) (x : Served) → slice_get front n ≡ Some x → P x
 in_front [] behind_ P all n x there = absurd (same_none x there)
 in_front (it ∷ front) behind_ P all zero x there = all 0 x there
 in_front (it ∷ front) behind_ P all (suc n) x there = in_front front behind_ P (λ n x there. all (suc n) x there) n x there
 
-in_more : (front behind_ : List Served) (P : Served → Type 0) → ((n : ℕ) (x : Served) → slice_get (front ++ behind_) n ≡ Some x → P x) → (n : ℕ) (x : Served) → slice_get behind_ n ≡ Some x → P x
+in_more : (front behind_ : List Served) (P : Served → Type 0) → ((n : ℕ) (x : Served) → slice_get (front ++ behind_) n ≡ Some x → P x)
+    → (n : ℕ) (x : Served) → slice_get behind_ n ≡ Some x → P x
 in_more [] behind_ P all = all
 in_more (it ∷ front) behind_ P all = in_more front behind_ P (λ n x there. all (suc n) x there)
 
@@ -51,7 +60,8 @@ absent key has_mark rules b (input ∷ inputs) s owned none away =
     let front = served_by has_mark rules b input s in
     let more = served_in has_mark rules b inputs (moved rules b input s) in
     let P : Served → Type 0 = λ x. bytes_eq x.command.key key ≡ false in
-    absent key has_mark rules b inputs (moved rules b input s) owned (none_by key has_mark rules b input s owned none (in_front front more P away)) (in_more front more P away)
+    absent key has_mark rules b inputs (moved rules b input s) owned
+    (none_by key has_mark rules b input s owned none (in_front front more P away)) (in_more front more P away)
 
 -- the branch keeps no command with that key, and the command's moment is earlier than the branch's last
 pub record IsPast (command : Command) (s : State) : Type 0 where
@@ -62,7 +72,8 @@ later_past : (last : Option Moment) (a c : Moment) → is_before a last ≡ true
 later_past None a c past on = absurd (false≢true past)
 later_past (Some last) a c past on = grind (arith, nat_tests)
 
-past_by : (it : Command) (has_mark : Text → Bool) (rules : Rules) (b : ℕ) (s : State) (command : Command) (v : Verdict) → v ≡ verdict rules b s.catalogue s.shop command → has_mark it.key ≡ true → IsPast it s
+past_by : (it : Command) (has_mark : Text → Bool) (rules : Rules) (b : ℕ) (s : State) (command : Command) (v : Verdict)
+    → v ≡ verdict rules b s.catalogue s.shop command → has_mark it.key ≡ true → IsPast it s
     → ((n : ℕ) (x : Served) → slice_get (served_by has_mark rules b (Own (Do command)) s) n ≡ Some x → bytes_eq x.command.key it.key ≡ true → x.command ≡ it)
     → IsPast it (record s { shop = if_accepted v (done rules s.catalogue command s.shop) s.shop })
 past_by it has_mark rules b s command (Again text) is owned at only = record { none = at.none; past = at.past }
@@ -92,7 +103,8 @@ past_once it has_mark rules b (Own (Unread refusal)) s owned at only = record { 
 past_once it has_mark rules b (Own (Look ask)) s owned at only = record { none = at.none; past = at.past }
 past_once it has_mark rules b (Own (Office command)) s owned at only = record { none = at.none; past = at.past }
 past_once it has_mark rules b (Own (OfficeLook ask)) s owned at only = record { none = at.none; past = at.past }
-past_once it has_mark rules b (Own (Do command)) s owned at only = past_by it has_mark rules b s command (verdict rules b s.catalogue s.shop command) refl owned at only
+past_once it has_mark rules b (Own (Do command)) s owned at only =
+    past_by it has_mark rules b s command (verdict rules b s.catalogue s.shop command) refl owned at only
 
 pub past : (it : Command) (has_mark : Text → Bool) (rules : Rules) (b : ℕ) (inputs : List Input) (s : State) → has_mark it.key ≡ true → IsPast it s
     → ((n : ℕ) (x : Served) → slice_get (served_in has_mark rules b inputs s) n ≡ Some x → bytes_eq x.command.key it.key ≡ true → x.command ≡ it)
@@ -102,7 +114,8 @@ past it has_mark rules b (input ∷ inputs) s owned at only =
     let front = served_by has_mark rules b input s in
     let more = served_in has_mark rules b inputs (moved rules b input s) in
     let P : Served → Type 0 = λ x. bytes_eq x.command.key it.key ≡ true → x.command ≡ it in
-    past it has_mark rules b inputs (moved rules b input s) owned (past_once it has_mark rules b input s owned at (in_front front more P only)) (in_more front more P only)
+    past it has_mark rules b inputs (moved rules b input s) owned
+    (past_once it has_mark rules b input s owned at (in_front front more P only)) (in_more front more P only)
 
 -- ---- what holds at a refusal
 
@@ -153,7 +166,9 @@ is_past rules b s command e =
         | inr room ↦ elim (cases_Bool (is_before command.moment s.shop.last)) [
           | inl is ↦ is
           | inr isnt ↦
-              let rest : List (Refusal × Bool) = (NoStaff, not (list_any (staff_is b) (at command.staff s.catalogue.staff))) ∷ act_refusals rules b s.catalogue s.shop command.moment command.act in
+              let rest : List (Refusal × Bool) =
+              (NoStaff, not (list_any (staff_is b) (at command.staff s.catalogue.staff)))
+              ∷ act_refusals rules b s.catalogue s.shop command.moment command.act in
               let later : first rest ≡ Refused MomentBack = rw (room, isnt) at told in
               let low : refusal_number MomentBack < refusal_number MomentBack = above_all (refusal_number MomentBack) rest MomentBack order later in
               absurd (omega arith)

@@ -1,5 +1,10 @@
 -- A command whose reply was 200 is kept with that reply, in one row alone.
-use Rattle.shop_model.proofs.Common.{◌≡◌, inl, inr, ◌∙◌, ℕ, List, [], ◌∷◌, ◌++◌, map, filter, Bool, true, Some, Option, refl, sym, ap, arith, slice_get, bytes_eq, cases_Bool, bytes_eq-Decides, Moment, Text, Command, Rules, Refusal, TooLong, NoCounter, NoRoute, BadBody, KeyUsed, Full, MomentBack, NoStaff, NoCustomer, CustomerInactive, NoCopy, CopyNotHere, CopyOut, FilmWithdrawn, SameMoment, NoRental, RentalReturned, WrongCustomer, NoFilm, LotIn, BadCsv, NoBranch, OwnBranch, NoArrival, ArrivalReceived, BadLines, BadThreshold, TokenTaken, NoSharedRow, Already, Usage, Kept, same_command, Verdict, Again, Refused, Accepted, first, resent, refusals, verdict, Sorry, Done, State, reply_text, reply_by, if_accepted, done, answer_of, filter-append}
+use Rattle.shop_model.proofs.Common.{◌≡◌, inl, inr, ◌∙◌, ℕ, List, [], ◌∷◌, ◌++◌, map, filter, Bool, true, Some, Option, refl, sym, ap, arith, slice_get}
+use Rattle.shop_model.proofs.Common.{bytes_eq, cases_Bool, bytes_eq-Decides, Moment, Text, Command, Rules, Refusal, TooLong, NoCounter, NoRoute, BadBody}
+use Rattle.shop_model.proofs.Common.{KeyUsed, Full, MomentBack, NoStaff, NoCustomer, CustomerInactive, NoCopy, CopyNotHere, CopyOut, FilmWithdrawn, SameMoment}
+use Rattle.shop_model.proofs.Common.{NoRental, RentalReturned, WrongCustomer, NoFilm, LotIn, BadCsv, NoBranch, OwnBranch, NoArrival, ArrivalReceived, BadLines}
+use Rattle.shop_model.proofs.Common.{BadThreshold, TokenTaken, NoSharedRow, Already, Usage, Kept, same_command, Verdict, Again, Refused, Accepted, first}
+use Rattle.shop_model.proofs.Common.{resent, refusals, verdict, Sorry, Done, State, reply_text, reply_by, if_accepted, done, answer_of, filter-append}
 use Rattle.shop_model.proofs.RowLemmas.{filter_map, filter_away}
 use Rattle.shop_model.proofs.ActLaws.{bytes_same}
 use Rattle.shop_model.proofs.Resends.{never_again}
@@ -23,7 +28,8 @@ says_more key text old new says more = record {
   reply = says.reply;
 }
 
-again_row : (command : Command) (ks : List Kept) (v : Verdict) (text : Text) → (v ≡ Again text → ⊥) → resent command ks v ≡ Again text → (k : Kept) × (rest : List Kept) × (ks ≡ k ∷ rest) × (k.reply ≡ text)
+again_row : (command : Command) (ks : List Kept) (v : Verdict) (text : Text) → (v ≡ Again text → ⊥)
+    → resent command ks v ≡ Again text → (k : Kept) × (rest : List Kept) × (ks ≡ k ∷ rest) × (k.reply ≡ text)
 again_row command [] v text fresh e = absurd (fresh e)
 again_row command (k ∷ ks) v text fresh e = elim (cases_Bool (same_command k.command command)) [
   | inl is ↦ let it : Again k.reply ≡ Again text = rw is at e in (k, ks, refl, text_of k.reply text it)
@@ -39,7 +45,8 @@ same_done : (x y : Text) → Done x ≡ Done y → x ≡ y
 same_done x y e = cc
 
 -- a command is kept with the text of its reply, if the reply is 200
-pub said : (rules : Rules) (b : ℕ) (s : State) (command : Command) (text : Text) (v : Verdict) → v ≡ verdict rules b s.catalogue s.shop command → reply_by v (reply_text rules command s.shop) ≡ Done text
+pub said : (rules : Rules) (b : ℕ) (s : State) (command : Command) (text : Text) (v : Verdict)
+    → v ≡ verdict rules b s.catalogue s.shop command → reply_by v (reply_text rules command s.shop) ≡ Done text
     → Says command.key text (if_accepted v (done rules s.catalogue command s.shop) s.shop).kept
 said rules b s command text (Again t) is told =
     let tests = refusals rules b s.catalogue s.shop command in
@@ -56,7 +63,9 @@ said rules b s command text Accepted is told =
     record {
       row = k;
       rest = [];
-      rows = filter-append (λ (k : Kept). bytes_eq k.command.key command.key) s.shop.kept (k ∷ []) ∙ ap (λ (l : List Kept). l ++ under command.key (k ∷ [])) none ∙ one;
+      rows =
+          filter-append (λ (k : Kept). bytes_eq k.command.key command.key) s.shop.kept (k ∷ [])
+          ∙ ap (λ (l : List Kept). l ++ under command.key (k ∷ [])) none ∙ one;
       reply = same_done (reply_text rules command s.shop) text told;
     }
 
@@ -74,7 +83,8 @@ one_row command (k ∷ (other ∷ rows)) e = absurd (clash e)
     clash : k.command ∷ (other.command ∷ map (λ (k : Kept). k.command) rows) ≡ command ∷ [] → ⊥
     clash e = cc
 
-pub row_of : (has_mark : Text → Bool) (es : List Entry) (ks : List Kept) (last : Option Moment) (i : ℕ) (x : Entry) → are_marked has_mark es ≡ true → have_own_keys es ≡ true → Knows has_mark es ks last
+pub row_of : (has_mark : Text → Bool) (es : List Entry) (ks : List Kept) (last : Option Moment) (i : ℕ) (x : Entry)
+    → are_marked has_mark es ≡ true → have_own_keys es ≡ true → Knows has_mark es ks last
     → slice_get es i ≡ Some x → has x.command.key ks ≡ true → (k : Kept) × (under x.command.key ks ≡ k ∷ []) × (k.command ≡ x.command)
 row_of has_mark es ks last i x all own knows there kept =
     let key = x.command.key in
@@ -88,7 +98,8 @@ row_of has_mark es ks last i x all own knows there kept =
     ∙ filter_map (λ (c : Command). bytes_eq c.key key) (λ (e : Entry). e.command) (acted es ks)
     ∙ ap (map (λ (e : Entry). e.command)) (acted_one es ks i x own there kept))
 
-pub kept_as : (has_mark : Text → Bool) (es : List Entry) (ks : List Kept) (last : Option Moment) (i : ℕ) (x : Entry) (text : Text) → are_marked has_mark es ≡ true → have_own_keys es ≡ true → Knows has_mark es ks last
+pub kept_as : (has_mark : Text → Bool) (es : List Entry) (ks : List Kept) (last : Option Moment) (i : ℕ) (x : Entry) (text : Text)
+    → are_marked has_mark es ≡ true → have_own_keys es ≡ true → Knows has_mark es ks last
     → slice_get es i ≡ Some x → Says x.command.key text ks → under x.command.key ks ≡ record { command = x.command; reply = text } ∷ []
 kept_as has_mark es ks last i x text all own knows there says =
     let found = row_of has_mark es ks last i x all own knows there (some_has x.command.key ks says.row says.rest says.rows) in
@@ -100,7 +111,8 @@ kept_as has_mark es ks last i x text all own knows there says =
     head_of k l rest e = cc
 
     row_is : (k : Kept) (command : Command) (text : Text) → k.command ≡ command → k.reply ≡ text → k ≡ record { command = command; reply = text }
-    row_is k command text c r = ap (λ (it : Command). record { command = it; reply = k.reply }) c ∙ ap (λ (it : Text). record { command = command; reply = it }) r
+    row_is k command text c r =
+        ap (λ (it : Command). record { command = it; reply = k.reply }) c ∙ ap (λ (it : Text). record { command = command; reply = it }) r
 
 sorry_status : (refusal : Refusal) → (answer_of (Sorry refusal)).status ≡ 200 → ⊥
 sorry_status TooLong e = omega (arith, e)

@@ -1,5 +1,6 @@
 -- A return of the rental that the register had took the copy back.
-use Rattle.shop_types.proofs.Common.{◌≡◌, ◌≢◌, ◌∙◌, ◌<◌, ℕ, zero, suc, Bool, true, false, List, [], ◌∷◌, ◌++◌, length, Option, Some, None, refl, sym, ap, arith, slice_get, if◌then◌else◌, fold-append, Act, TakeBack, Answer, accepted_answer, equal_test}
+use Rattle.shop_types.proofs.Common.{◌≡◌, ◌≢◌, ◌∙◌, ◌<◌, ℕ, zero, suc, Bool, true, false, List, [], ◌∷◌, ◌++◌, length, Option, Some, None, refl, sym, ap, arith}
+use Rattle.shop_types.proofs.Common.{slice_get, if◌then◌else◌, fold-append, Act, TakeBack, Answer, accepted_answer, equal_test}
 use Rattle.std.specs.Prelude.{◌==◌, ◌&&◌}
 use Rattle.std.proofs.lemmas.Option.{slice_get_within}
 use Rattle.till_model.specs.Tills.{Entry}
@@ -24,7 +25,8 @@ gone_from copy rental held return is told =
     let after : after_told copy (TakeBack rental) (Some answer) held ≡ Some rental = subst2 return.command.act return.reply is.1 is.2 told in
     go held (sym (ap (λ b. if b && is_held rental held then None else held) done) ∙ after)
   where
-    subst2 : (act : Act) (reply : Option Answer) → act ≡ TakeBack rental → reply ≡ Some is.0 → after_told copy act reply held ≡ Some rental → after_told copy (TakeBack rental) (Some is.0) held ≡ Some rental
+    subst2 : (act : Act) (reply : Option Answer) → act ≡ TakeBack rental → reply ≡ Some is.0
+        → after_told copy act reply held ≡ Some rental → after_told copy (TakeBack rental) (Some is.0) held ≡ Some rental
     subst2 act reply same replied told = rw (same, replied) at told
 
     go : (held : Option ℕ) → (if true && is_held rental held then None else held) ≡ Some rental → ⊥

@@ -37,7 +37,8 @@ ActsOnceOverStops =
 -- Answers with status 503 don't count: the chain lacked memory, room or its store.
 abbrev pub AnswersWereServed : Type 0
 AnswersWereServed =
-    (has_mark : Text → Bool) (rules : Rules) (look : OfficeAsk → Books → Reply) (b : ℕ) (lives : List Life) (old new : Books) → Lives rules look lives old new → HasNumbers old
+    (has_mark : Text → Bool) (rules : Rules) (look : OfficeAsk → Books → Reply) (b : ℕ) (lives : List Life) (old new : Books)
+    → Lives rules look lives old new → HasNumbers old
     → (n i : ℕ) (life : Life) (command : Command) (answer : Answer) → slice_get lives n ≡ Some life
     → Asks rules life.events life.answers (begun rules lives old n) i (Counter b) (Do command)
     → slice_get life.answers i ≡ Some answer → is_decided answer ≡ true → has_mark command.key ≡ true
@@ -79,24 +80,28 @@ pub record AreOwn (has_mark : Text → Bool) (entries : List Entry) : Type 0 whe
 
 -- The entries of numbered commands are own, whatever their replies are.
 abbrev pub NumberedAreOwn : Type 0
-NumberedAreOwn = (mark : Text) (commands : List Command) (replies : List Answer) → AreNumbered mark commands → AreOwn (has_mark mark) (entries_of commands replies)
+NumberedAreOwn =
+    (mark : Text) (commands : List Command) (replies : List Answer) → AreNumbered mark commands → AreOwn (has_mark mark) (entries_of commands replies)
 
 -- Each command that came under the mark is one of the book's, so nobody else uses the mark.
 -- Each recorded reply is a decision that the chain gave to that very command.
-pub record IsWitnessed (has_mark : Text → Bool) (rules : Rules) (b : ℕ) (commands : List Command) (replies : List Answer) (lives : List Life) (old : Books) : Type 0 where
+pub record IsWitnessed (has_mark : Text → Bool) (rules : Rules) (b : ℕ) (commands : List Command) (replies : List Answer) (lives : List Life) (old : Books) :
+    Type 0 where
   pub come : ComeFrom (entries_of commands replies) (served_over has_mark rules b lives old)
   pub answered : (i : ℕ) (command : Command) (answer : Answer) → slice_get commands i ≡ Some command → slice_get replies i ≡ Some answer
       → WasAnswered rules b lives old command answer
   pub decided : (i : ℕ) (answer : Answer) → slice_get replies i ≡ Some answer → is_decided answer ≡ true
 
 -- the till keeps entries of its own, and replies that the chain gave
-pub record KeepsBook (has_mark : Text → Bool) (rules : Rules) (b : ℕ) (commands : List Command) (replies : List Answer) (lives : List Life) (old : Books) : Type 0 where
+pub record KeepsBook (has_mark : Text → Bool) (rules : Rules) (b : ℕ) (commands : List Command) (replies : List Answer) (lives : List Life) (old : Books) :
+    Type 0 where
   pub own : AreOwn has_mark (entries_of commands replies)
   pub witnessed : IsWitnessed has_mark rules b commands replies lives old
 
 -- Over any number of stops, each entry acts at most once, in the order of entering. An entry that the book shows as accepted acted once, with that reply.
 abbrev pub FromThePressToTheDisk : Type 0
 FromThePressToTheDisk =
-    (has_mark : Text → Bool) (rules : Rules) (look : OfficeAsk → Books → Reply) (b : ℕ) (commands : List Command) (replies : List Answer) (lives : List Life) (old new : Books)
+    (has_mark : Text → Bool) (rules : Rules) (look : OfficeAsk → Books → Reply) (b : ℕ)
+    (commands : List Command) (replies : List Answer) (lives : List Life) (old new : Books)
     → Lives rules look lives old new → HasNumbers old → IsUnused has_mark (shop_of b old) → KeepsBook has_mark rules b commands replies lives old
     → Became has_mark (entries_of commands replies) (served_over has_mark rules b lives old) (shop_of b new)

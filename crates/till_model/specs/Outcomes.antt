@@ -36,16 +36,19 @@ NoneBehind n command served = (m : ℕ) (it : Served) → n < m → slice_get se
 -- The outcome of one entry:
 pub record BecameOf (served : List Served) (shop : Shop) (entry : Entry) : Type 0 where
   -- an entry whose recorded reply is 200 acted once, and is kept with that reply
-  pub accepted : (answer : Answer) → entry.reply ≡ Some answer → answer.status ≡ 200 → (text : Text) × (answer ≡ answer_of (Done text)) × IsKeptAs entry.command text shop
+  pub accepted : (answer : Answer) → entry.reply ≡ Some answer → answer.status ≡ 200
+      → (text : Text) × (answer ≡ answer_of (Done text)) × IsKeptAs entry.command text shop
   -- so did an entry that was served with 200 at any place, also if its reply in the book is a refusal
-  pub again : (n : ℕ) (it : Served) (text : Text) → slice_get served n ≡ Some it → it.command ≡ entry.command → it.reply ≡ Done text → IsKeptAs entry.command text shop
+  pub again : (n : ℕ) (it : Served) (text : Text) → slice_get served n ≡ Some it
+      → it.command ≡ entry.command → it.reply ≡ Done text → IsKeptAs entry.command text shop
   -- an entry that was never served did not act
   pub unsent : ((m : ℕ) (it : Served) → slice_get served m ≡ Some it → it.command ≡ entry.command → ⊥) → is_kept entry.command.key shop ≡ false
   -- an entry that was refused, and wasn't served after that, did not act
   pub refused : (n : ℕ) (it : Served) (refusal : Refusal) → slice_get served n ≡ Some it → it.command ≡ entry.command → it.reply ≡ Sorry refusal
       → NoneBehind n entry.command served → is_kept entry.command.key shop ≡ false
   -- an entry that was refused because its moment was earlier than the branch's last did not act, also if it is served again later
-  pub back : (n : ℕ) (it : Served) → slice_get served n ≡ Some it → it.command ≡ entry.command → it.reply ≡ Sorry MomentBack → is_kept entry.command.key shop ≡ false
+  pub back : (n : ℕ) (it : Served) → slice_get served n ≡ Some it → it.command ≡ entry.command
+      → it.reply ≡ Sorry MomentBack → is_kept entry.command.key shop ≡ false
 
 -- What the branch keeps under the till's mark are the entries that acted, each once, in the order in which they were entered.
 pub record Became (has_mark : Text → Bool) (entries : List Entry) (served : List Served) (shop : Shop) : Type 0 where

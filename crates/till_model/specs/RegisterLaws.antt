@@ -13,7 +13,8 @@ use Rattle.till_model.specs.Register.{rental_body, rental_of}
 
 -- the entry is an accepted rent of that copy, and its reply gives that rental
 abbrev pub IsRentOf : ℕ → ℕ → Entry → Type 0
-IsRentOf copy rental entry = (customer : ℕ) × (is_row_number rental ≡ true) × (entry.command.act ≡ Rent customer copy) × (entry.reply ≡ Some (accepted_answer (rental_body rental)))
+IsRentOf copy rental entry =
+    (customer : ℕ) × (is_row_number rental ≡ true) × (entry.command.act ≡ Rent customer copy) × (entry.reply ≡ Some (accepted_answer (rental_body rental)))
 
 -- the entry is an accepted return of that rental
 abbrev pub IsReturnOf : ℕ → Entry → Type 0
@@ -39,7 +40,8 @@ RegisterIsTheLastRent = (copy rental : ℕ) (entries : List Entry) → rental_of
 abbrev pub BecameBook : List Entry → List Entry → Type 0
 BecameBook before after =
     (i : ℕ) (entry : Entry) → slice_get before i ≡ Some entry
-    → (later : Entry) × (slice_get after i ≡ Some later) × (later.command ≡ entry.command) × ((answer : Answer) → entry.reply ≡ Some answer → later.reply ≡ Some answer)
+    → (later : Entry) × (slice_get after i ≡ Some later) × (later.command ≡ entry.command)
+    × ((answer : Answer) → entry.reply ≡ Some answer → later.reply ≡ Some answer)
 
 -- One of the entries `front` is an accepted rent of the copy with that rental, and after the return the register lacks the rental.
 pub record TookBack (copy rental : ℕ) (front : List Entry) (return : Entry) : Type 0 where
@@ -64,6 +66,7 @@ is_rental_of copy n shop = list_any (λ (it : Rental). it.copy == copy) (at n sh
 -- The reply to an accepted rent gives the number of a rental of its copy. That rental stays one of that copy, whatever the branch gets later.
 abbrev pub RentsStayOfTheirCopies : Type 0
 RentsStayOfTheirCopies =
-    (rules : Rules) (b : ℕ) (inputs : List Input) (s : State) (command : Command) (customer copy : ℕ) → command.act ≡ Rent customer copy → verdict rules b s.catalogue s.shop command ≡ Accepted
+    (rules : Rules) (b : ℕ) (inputs : List Input) (s : State) (command : Command) (customer copy : ℕ)
+    → command.act ≡ Rent customer copy → verdict rules b s.catalogue s.shop command ≡ Accepted
     → (reply_text rules command s.shop ≡ rental_body (length s.shop.rentals + 1))
     × (is_rental_of copy (length s.shop.rentals + 1) (state_after rules b inputs (moved rules b (Own (Do command)) s)).shop ≡ true)

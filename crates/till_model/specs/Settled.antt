@@ -57,16 +57,21 @@ pub record SettlesIt (commands : List Command) (shop : Shop) (it : ℕ × Answer
 
 -- The branch keeps, under the till's mark, exactly the entries that acted, also if an entry's reply is the 200 that settled it.
 -- Each settlement is true of its entry.
-pub record BecameSettled (has_mark : Text → Bool) (commands : List Command) (replies : List Answer) (settled : List (ℕ × Answer)) (served : List Served) (shop : Shop) : Type 0 where
+pub record BecameSettled (has_mark : Text → Bool) (commands : List Command) (replies : List Answer)
+    (settled : List (ℕ × Answer)) (served : List Served) (shop : Shop) :
+    Type 0 where
   pub became : Became has_mark (book_entries commands replies settled) served shop
   pub settles : AllByRecursion (SettlesIt commands shop) settled
 
 -- Each settlement that the chain gave in one of its lives is true after all these lives (`became`). The premise stays true as the chain lives on (`stays`).
 -- So an entry that is settled with 200 has acted permanently. An entry that is settled with `moment_back` never acts, also when a command arrives late.
 pub record SettledForGood : Type 0 where
-  pub became : (has_mark : Text → Bool) (rules : Rules) (look : OfficeAsk → Books → Reply) (b : ℕ) (commands : List Command) (replies : List Answer) (settled : List (ℕ × Answer))
+  pub became :
+      (has_mark : Text → Bool) (rules : Rules) (look : OfficeAsk → Books → Reply) (b : ℕ)
+      (commands : List Command) (replies : List Answer) (settled : List (ℕ × Answer))
       (lives : List Life) (old new : Books) → Lives rules look lives old new → HasNumbers old → IsUnused has_mark (shop_of b old)
       → KeepsBook has_mark rules b commands replies lives old → WereToldLater rules b commands settled lives old
       → BecameSettled has_mark commands replies settled (served_over has_mark rules b lives old) (shop_of b new)
-  pub stays : (rules : Rules) (b : ℕ) (commands : List Command) (settled : List (ℕ × Answer)) (lives more : List Life) (old : Books) → WereToldLater rules b commands settled lives old
+  pub stays : (rules : Rules) (b : ℕ) (commands : List Command) (settled : List (ℕ × Answer)) (lives more : List Life) (old : Books)
+      → WereToldLater rules b commands settled lives old
       → WereToldLater rules b commands settled (lives ++ more) old

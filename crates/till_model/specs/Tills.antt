@@ -41,7 +41,8 @@ have_own_keys entries = are_different (λ (earlier later : Entry). bytes_eq earl
 
 -- every command that is served under the mark is an entry's
 abbrev pub ComeFrom : List Entry → List Served → Type 0
-ComeFrom entries served = (n : ℕ) (it : Served) → slice_get served n ≡ Some it → (i : ℕ) × (entry : Entry) × (slice_get entries i ≡ Some entry) × (entry.command ≡ it.command)
+ComeFrom entries served =
+    (n : ℕ) (it : Served) → slice_get served n ≡ Some it → (i : ℕ) × (entry : Entry) × (slice_get entries i ≡ Some entry) × (entry.command ≡ it.command)
 
 -- If an entry is served after a later entry, then its moment is earlier than the later entry's.
 -- This holds if the till sends each entry after the reply to the entry before, and no command arrives late. It also holds if moments rise from entry to entry.

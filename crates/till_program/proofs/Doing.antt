@@ -39,7 +39,8 @@ ok_is (Ok a) is holds = holds
 ok_is (Err e) is holds = absurd is
 
 -- what was done of a plan was done of the same plan by another name
-pub carried_out : {A E : Type 0} (r : Result A E) (Tells : List ℕ → Answer → Type 0) (shows : ℕ → Type 0) (mark token : Text) (giver : Result ℕ TillFault) (it other : Plan)
+pub carried_out :
+    {A E : Type 0} (r : Result A E) (Tells : List ℕ → Answer → Type 0) (shows : ℕ → Type 0) (mark token : Text) (giver : Result ℕ TillFault) (it other : Plan)
     (before : Place) (old : State) (after : Place) (new : State) → it ≡ other → OnOk r (IsCarriedOut Tells shows mark token giver other before old after new)
     → OnOk r (IsCarriedOut Tells shows mark token giver it before old after new)
 carried_out r Tells shows mark token giver it other before old after new same done =
@@ -52,7 +53,8 @@ held_before copy held old new stays is journal rests = is journal (stays journal
 module _ (Tells : List ℕ → Answer → Type 0) where
   -- ---- what waited was sent
 
-  pub sends_all : (before after : Place) (old new : State) → Sends Tells before old after new → (before.replies ≤ before.entries → after.replies ≡ before.entries)
+  pub sends_all : (before after : Place) (old new : State) → Sends Tells before old after new
+      → (before.replies ≤ before.entries → after.replies ≡ before.entries)
       → SendsAll Tells before old after new
   sends_all before after old new sends all journal has =
       let it = sends journal has in (
@@ -74,7 +76,8 @@ module _ (Tells : List ℕ → Answer → Type 0) where
         it.2,
       ))
 
-  sent_word : (place after : Place) (old mid new : State) → IsPlaceOf place old → book.Stays old mid → SendsAll Tells place mid after new → SendsWord Tells old new
+  sent_word : (place after : Place) (old mid new : State) → IsPlaceOf place old
+      → book.Stays old mid → SendsAll Tells place mid after new → SendsWord Tells old new
   sent_word place after old mid new is stays sends journal rests =
       let counted = is journal rests in
       let it = sends journal (record { rests = stays journal rests; entries = counted.0; replies = counted.1 }) in
@@ -84,7 +87,8 @@ module _ (Tells : List ℕ → Answer → Type 0) where
 
   module _ (shows : ℕ → Type 0) (mark token : Text) (giver : Result ℕ TillFault) where
     -- a look at the book leaves it so
-    pub gives_stays : (act : Act) (answer : Answer) (before after : Place) (old mid new : State) → Gives Tells shows mark token giver act answer before old after mid
+    pub gives_stays : (act : Act) (answer : Answer) (before after : Place) (old mid new : State)
+        → Gives Tells shows mark token giver act answer before old after mid
         → book.Stays mid new → Gives Tells shows mark token giver act answer before old after new
     gives_stays act answer before after old mid new gives stays = (
       gives.0,
@@ -119,7 +123,8 @@ module _ (Tells : List ℕ → Answer → Type 0) where
     gives_told (Ok a) act answer before after old mid new gives stays = (answer, gives_stays act answer before after old mid new gives stays)
     gives_told (Err e) act answer before after old mid new gives stays = tt
 
-    given_word : (what : Act) (place after : Place) (old mid new : State) → IsPlaceOf place old → book.Stays old mid → GivesAct Tells shows mark token giver what place mid after new
+    given_word : (what : Act) (place after : Place) (old mid new : State) → IsPlaceOf place old
+        → book.Stays old mid → GivesAct Tells shows mark token giver what place mid after new
         → GivesWord Tells shows mark token giver what old new
     given_word what place after old mid new is stays gives = (
       gives.0,
@@ -131,21 +136,25 @@ module _ (Tells : List ℕ → Answer → Type 0) where
     )
 
     -- of the plan that it is
-    as_planned : (it other : Plan) (before : Place) (old : State) (after : Place) (new : State) → it ≡ other → IsCarriedOut Tells shows mark token giver it before old after new
+    as_planned : (it other : Plan) (before : Place) (old : State) (after : Place) (new : State)
+        → it ≡ other → IsCarriedOut Tells shows mark token giver it before old after new
         → IsCarriedOut Tells shows mark token giver other before old after new
     as_planned it other before old after new same done = subst (λ (p : Plan). IsCarriedOut Tells shows mark token giver p before old after new) same done
 
     -- words of head office that only read
     reading_stays : (reads : Bool) (words : List Text) (it : Plan) (before : Place) (old : State) (after : Place) (new : State)
-        → it ≡ (if reads then plan.ReadOffice words else plan.Office words) → IsCarriedOut Tells shows mark token giver it before old after new → IsTrue reads → book.Stays old new
+        → it ≡ (if reads then plan.ReadOffice words else plan.Office words)
+        → IsCarriedOut Tells shows mark token giver it before old after new → IsTrue reads → book.Stays old new
     reading_stays true words it before old after new same done is = as_planned it (plan.ReadOffice words) before old after new same done
     reading_stays false words it before old after new same done is = absurd (false≢true is)
 
     -- What was carried out of the word's plan is the word. The plan was made of the book as it was read.
-    pub word_done : (word : TillAct) (it : Plan) (place after : Place) (old read mid new : State) → IsPlaceOf place old → book.Stays old read → book.Stays read mid → IsPlanOf read word it
+    pub word_done : (word : TillAct) (it : Plan) (place after : Place) (old read mid new : State)
+        → IsPlaceOf place old → book.Stays old read → book.Stays read mid → IsPlanOf read word it
         → IsCarriedOut Tells shows mark token giver it place mid after new → DoesWord Tells shows mark token giver word old new
     word_done (typed.Do what) it place after old read mid new is first second plans done =
-        given_word (seen_act what) place after old mid new is (stays_both old read mid first second) (as_planned it (plan.Give what plans.0) place mid after new plans.2 done)
+        given_word (seen_act what) place after old mid new is (stays_both old read mid first second)
+        (as_planned it (plan.Give what plans.0) place mid after new plans.2 done)
     word_done (typed.ReturnCopy copy) it place after old read mid new is first second plans done = (
       plans.0,
       held_before copy plans.0 old read first plans.1,

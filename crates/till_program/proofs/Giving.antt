@@ -1,5 +1,6 @@
 -- Tries of an act, one after another.
-use Rattle.std.proofs.Common.{◌≡◌, ◌∙◌, ◌+◌, ◌≤◌, ◌<◌, ◌++◌, ◌∷◌, [], ℕ, List, Option, None, Some, Result, Ok, Err, IfOk, length, sym, ap, subst, refl, arith, append_assoc, append-nil, length-append}
+use Rattle.std.proofs.Common.{◌≡◌, ◌∙◌, ◌+◌, ◌≤◌, ◌<◌, ◌++◌, ◌∷◌, [], ℕ, List, Option, None, Some, Result, Ok, Err, IfOk, length, sym, ap, subst, refl, arith}
+use Rattle.std.proofs.Common.{append_assoc, append-nil, length-append}
 use Rattle.std.specs.Prelude.{MatchResult, slice_get, max}
 use Rattle.std.specs.List.{AllByRecursion}
 use Rattle.std.proofs.lemmas.Option.{slice_get_within}
@@ -32,11 +33,14 @@ dated_within shows (Some last) ahead at is = (seconds_of is.0, is.1, later, is.3
     later : seconds_of is.0 ≤ seconds_of at
     later = let same = is.2 in let most = at_least (seconds_of is.0 + ahead) (seconds_of last + 1) in omega (arith, same, most)
 
-pub enters_try : (shows : ℕ → Type 0) (mark token own_mark own_token : Text) (giver : Result ℕ TillFault) (act : Act) (request : List ℕ) (before after : Place) (old new : State)
+pub enters_try :
+    (shows : ℕ → Type 0) (mark token own_mark own_token : Text) (giver : Result ℕ TillFault)
+    (act : Act) (request : List ℕ) (before after : Place) (old new : State)
     → own_mark ≡ mark → own_token ≡ token → IsRequest shows token giver act request → EntersOne own_mark own_token request before old after new
     → EntersTry shows mark token giver act before old after new
 enters_try shows mark token own_mark own_token giver act request before after old new same_mark same_token says enters =
-    let marked : EntersOne mark own_token request before old after new = subst (λ (it : Text). EntersOne it own_token request before old after new) same_mark enters in
+    let marked : EntersOne mark own_token request before old after new =
+    subst (λ (it : Text). EntersOne it own_token request before old after new) same_mark enters in
     let entered : EntersOne mark token request before old after new = subst (λ (it : Text). EntersOne mark it request before old after new) same_token marked in (
       says.0,
       says.1,
@@ -56,7 +60,9 @@ enters_try shows mark token own_mark own_token giver act request before after ol
           )),
     )
 
-pub try_goes : (Tells : List ℕ → Answer → Type 0) (shows : ℕ → Type 0) (mark token : Text) (giver : Result ℕ TillFault) (act : Act) (before after : Place) (old new : State)
+pub try_goes :
+    (Tells : List ℕ → Answer → Type 0) (shows : ℕ → Type 0) (mark token : Text)
+    (giver : Result ℕ TillFault) (act : Act) (before after : Place) (old new : State)
     → EntersTry shows mark token giver act before old after new → GoesOn Tells mark before old after new
 try_goes Tells shows mark token giver act before after old new enters journal commands at =
     let it = enters.2 journal commands at in
@@ -69,7 +75,8 @@ try_goes Tells shows mark token giver act before after old new enters journal co
     }
 
 -- each reply that was received is of an entry of the book
-told_within : (Tells : List ℕ → Answer → Type 0) (entries : List (List ℕ)) (i : ℕ) (front : List Answer) (answer : Answer) → AreTold Tells entries i (front ++ answer ∷ [])
+told_within : (Tells : List ℕ → Answer → Type 0) (entries : List (List ℕ)) (i : ℕ) (front : List Answer) (answer : Answer)
+    → AreTold Tells entries i (front ++ answer ∷ [])
     → i + length front < length entries
 told_within Tells entries i [] answer told = let within = slice_get_within entries i told.0.0 told.0.1 in omega arith
 told_within Tells entries i (x ∷ front) answer told = let within = told_within Tells entries (i + 1) front answer told.1 in omega arith
@@ -90,7 +97,8 @@ module _ (Tells : List ℕ → Answer → Type 0) (shows : ℕ → Type 0) (mark
           let front = sent.2.0 in
           let told : AreTold Tells next.entries (length next.replies) (front ++ seen_answer answer ∷ []) =
           subst (λ (xs : List Answer). AreTold Tells next.entries (length next.replies) xs) sent.2.1 sent.1.told in
-          let within : length journal.replies + length front < length (journal.entries ++ it.0 ∷ []) = told_within Tells next.entries (length next.replies) front (seen_answer answer) told in
+          let within : length journal.replies + length front < length (journal.entries ++ it.0 ∷ []) =
+          told_within Tells next.entries (length next.replies) front (seen_answer answer) told in
           let entries : mid.entries ≡ length (journal.entries ++ it.0 ∷ []) = it.3.entries in
           let replies : mid.replies ≡ length journal.replies = it.3.replies in
           let full : after.replies ≡ mid.entries = all (omega arith) in
@@ -103,7 +111,8 @@ module _ (Tells : List ℕ → Answer → Type 0) (shows : ℕ → Type 0) (mark
             journal = with_replies answers next;
             commands = commands ++ it.1 ∷ [];
             is_at = at_place mark mid after between new next (with_replies answers next) (commands ++ it.1 ∷ []) it.3 refl sent.1.has;
-            extends = extends_then Tells journal next (with_replies answers next) (extends_entry Tells it.0 journal) (extends_sent Tells answers next sent.1.told);
+            extends =
+                extends_then Tells journal next (with_replies answers next) (extends_entry Tells it.0 journal) (extends_sent Tells answers next sent.1.told);
             requests = it.0 ∷ [];
             tries = it.1 ∷ [];
             entries = refl;
@@ -118,7 +127,8 @@ module _ (Tells : List ℕ → Answer → Type 0) (shows : ℕ → Type 0) (mark
 
 -- ---- one try after another
 
-tries_then : (shows : ℕ → Type 0) (token : Text) (staff : ℕ) (act : Act) (xs ys : List (List ℕ)) (cs ds : List Command) → AreTries shows token staff act xs cs → AreTries shows token staff act ys ds
+tries_then : (shows : ℕ → Type 0) (token : Text) (staff : ℕ) (act : Act) (xs ys : List (List ℕ)) (cs ds : List Command)
+    → AreTries shows token staff act xs cs → AreTries shows token staff act ys ds
     → AreTries shows token staff act (xs ++ ys) (cs ++ ds)
 tries_then shows token staff act [] ys [] ds one two = two
 tries_then shows token staff act [] ys (c ∷ cs) ds one two = absurd one
@@ -130,30 +140,38 @@ none_long [] is = refl
 none_long (x ∷ xs) is = absurd (omega arith)
 
 -- where no entry waits, what had waited is nothing
-none_waited : {A B : Type 0} (entries : List B) (replies waited : List A) → length replies ≡ length entries → length (replies ++ waited) ≡ length entries → waited ≡ []
+none_waited : {A B : Type 0} (entries : List B) (replies waited : List A)
+    → length replies ≡ length entries → length (replies ++ waited) ≡ length entries → waited ≡ []
 none_waited entries replies waited full first =
     let long : length (replies ++ waited) ≡ length replies + length waited = length-append replies waited in
     none_long waited (omega arith)
 
 -- where nothing had waited
-behind_all : {A : Type 0} (mid last told later waited none : List A) (before : List A) → none ≡ [] → mid ≡ (before ++ waited) ++ told → last ≡ (mid ++ none) ++ later
+behind_all : {A : Type 0} (mid last told later waited none : List A) (before : List A)
+    → none ≡ [] → mid ≡ (before ++ waited) ++ told → last ≡ (mid ++ none) ++ later
     → last ≡ (before ++ waited) ++ (told ++ later)
 behind_all mid last told later waited none before is one two =
     two ∙ ap (λ (xs : List _). (mid ++ xs) ++ later) is ∙ ap (λ (xs : List _). xs ++ later) (append-nil mid ∙ one) ∙ append_assoc (before ++ waited) told later
 
 module _ (Tells : List ℕ → Answer → Type 0) (shows : ℕ → Type 0) (mark token : Text) (staff : ℕ) (act : Act) where
   -- each try has its reply
-  full : (told : List Answer) (place : Place) (s : State) (old : Journal) (said : List Command) (it : IsTried Tells shows mark token staff act told place s old said)
+  full :
+      (told : List Answer) (place : Place) (s : State) (old : Journal) (said : List Command)
+      (it : IsTried Tells shows mark token staff act told place s old said)
       → length it.journal.replies ≡ length it.journal.entries
   full told place s old said it =
-      let replies : length it.journal.replies ≡ length (old.replies ++ it.waited) + length told = ap length it.replies ∙ length-append (old.replies ++ it.waited) told in
+      let replies : length it.journal.replies ≡ length (old.replies ++ it.waited) + length told =
+      ap length it.replies ∙ length-append (old.replies ++ it.waited) told in
       let entries : length it.journal.entries ≡ length old.entries + length it.requests = ap length it.entries ∙ length-append old.entries it.requests in
       let first = it.first in
       let counted = it.counted in
       omega arith
 
-  tried_then : (told later : List Answer) (mid after : Place) (between new : State) (old : Journal) (said : List Command) (one : IsTried Tells shows mark token staff act told mid between old said)
-      → IsTried Tells shows mark token staff act later after new one.journal one.commands → IsTried Tells shows mark token staff act (told ++ later) after new old said
+  tried_then :
+      (told later : List Answer) (mid after : Place) (between new : State) (old : Journal)
+      (said : List Command) (one : IsTried Tells shows mark token staff act told mid between old said)
+      → IsTried Tells shows mark token staff act later after new one.journal one.commands
+      → IsTried Tells shows mark token staff act (told ++ later) after new old said
   tried_then told later mid after between new old said one two = record {
     journal = two.journal;
     commands = two.commands;
@@ -190,7 +208,8 @@ module _ (Tells : List ℕ → Answer → Type 0) (shows : ℕ → Type 0) (mark
         ([], tt, tries.2 journal commands there)),
   )
 
-  pub next_gives : (back answer : Answer) (before mid after : Place) (old between new : State) → IsBack back → Gives Tells shows mark token giver act back before old mid between
+  pub next_gives : (back answer : Answer) (before mid after : Place) (old between new : State)
+      → IsBack back → Gives Tells shows mark token giver act back before old mid between
       → Tries Tells shows mark token giver act (answer ∷ []) mid between after new → Gives Tells shows mark token giver act answer before old after new
   next_gives back answer before mid after old between new is gives tries = (gives.0, gives.1, given)
     where
@@ -202,7 +221,8 @@ module _ (Tells : List ℕ → Answer → Type 0) (shows : ℕ → Type 0) (mark
       given journal commands at =
           let it = gives.2 journal commands at in
           let last : IsTried Tells shows mark token gives.0 act (answer ∷ []) after new it.2.journal it.2.commands =
-          subst (λ (staff : ℕ). IsTried Tells shows mark token staff act (answer ∷ []) after new it.2.journal it.2.commands) same (tries.2 it.2.journal it.2.commands it.2.is_at) in (
+          subst (λ (staff : ℕ). IsTried Tells shows mark token staff act (answer ∷ []) after new it.2.journal it.2.commands) same
+          (tries.2 it.2.journal it.2.commands it.2.is_at) in (
             it.0 ++ back ∷ [],
             all_then IsBack it.0 back it.1 is,
             tried_then Tells shows mark token gives.0 act (it.0 ++ back ∷ []) (answer ∷ []) mid after between new journal commands it.2 last,
@@ -214,7 +234,8 @@ module _ (Tells : List ℕ → Answer → Type 0) (shows : ℕ → Type 0) (mark
       MatchResult told (λ it. Gives Tells shows mark token giver act (seen it) before old after new × IsBack (seen it)) (λ _. Stays before old after new)
 
   pub gives_so_far : {A : Type 0} (seen : A → Answer) (told : Result A TillFault) (answer : Answer) (before mid after : Place) (old between new : State)
-      → SoFar seen told before old mid between → Tries Tells shows mark token giver act (answer ∷ []) mid between after new → Gives Tells shows mark token giver act answer before old after new
+      → SoFar seen told before old mid between → Tries Tells shows mark token giver act (answer ∷ []) mid between after new
+      → Gives Tells shows mark token giver act answer before old after new
   gives_so_far seen (Ok it) answer before mid after old between new far tries = next_gives (seen it) answer before mid after old between new far.1 far.0 tries
   gives_so_far seen (Err fault) answer before mid after old between new far tries = first_gives answer before mid after old between new far tries
 

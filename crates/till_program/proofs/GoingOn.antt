@@ -1,5 +1,6 @@
 -- A till's book goes on over a word.
-use Rattle.std.proofs.Common.{◌≡◌, ◌∙◌, ◌+◌, ◌-◌, ◌<◌, ◌++◌, ◌∷◌, [], ℕ, List, Option, Result, Ok, Err, IfOk, IfErr, length, inl, inr, sym, ap, subst, refl, arith, append_assoc, append-nil}
+use Rattle.std.proofs.Common.{◌≡◌, ◌∙◌, ◌+◌, ◌-◌, ◌<◌, ◌++◌, ◌∷◌, [], ℕ, List, Option, Result, Ok, Err, IfOk, IfErr, length, inl, inr, sym, ap, subst, refl}
+use Rattle.std.proofs.Common.{arith, append_assoc, append-nil}
 use Rattle.sqlite.specs.State.{State}
 use Rattle.shop_model.specs.Values.{Text, Command}
 use Rattle.shop_model.specs.Answers.{Answer}
@@ -46,7 +47,8 @@ desk_kept told fault same kept e =
 pub stays_both : (old mid new : State) → book.Stays old mid → book.Stays mid new → book.Stays old new
 stays_both old mid new one two journal rests = two journal (one journal rests)
 
-pub place_of : (end : BookEnd) (place : Place) (s new : State) → place.entries ≡ end.entries → place.replies ≡ end.replies → book.Tells (IsEndOf end) s new → IsPlaceOf place s
+pub place_of : (end : BookEnd) (place : Place) (s new : State) → place.entries ≡ end.entries
+    → place.replies ≡ end.replies → book.Tells (IsEndOf end) s new → IsPlaceOf place s
 place_of end place s new entries replies tells journal rests =
     let is : IsEndOf end journal = (tells journal rests).1 in
     (entries ∙ is.entries, replies ∙ is.replies)
@@ -60,14 +62,16 @@ module _ (Tells : List ℕ → Answer → Type 0) where
   pub kept_grows : (place : Place) (old new : State) → book.Stays old new → Grows Tells place old place new
   kept_grows place old new stays = grows_same Tells place place old new (rests_stays place old new stays)
 
-  pub goes_stays : (mark : Text) (before after : Place) (old mid new : State) → GoesOn Tells mark before old after mid → book.Stays mid new → GoesOn Tells mark before old after new
+  pub goes_stays : (mark : Text) (before after : Place) (old mid new : State)
+      → GoesOn Tells mark before old after mid → book.Stays mid new → GoesOn Tells mark before old after new
   goes_stays mark before after old mid new goes stays = goes_then Tells mark before after after old mid new goes (kept_goes mark after mid new stays)
 
   pub grows_stays : (before after : Place) (old mid new : State) → Grows Tells before old after mid → book.Stays mid new → Grows Tells before old after new
   grows_stays before after old mid new grows stays =
       grows_then Tells before after after old mid new grows (kept_grows after mid new stays)
 
-  behind : (mark : Text) (place : Place) (s : State) (journal : Journal) (commands : List Command) → Becomes Tells mark place s journal commands → IsBehind Tells mark s journal commands
+  behind : (mark : Text) (place : Place) (s : State) (journal : Journal) (commands : List Command)
+      → Becomes Tells mark place s journal commands → IsBehind Tells mark s journal commands
   behind mark place s journal commands it = record {
     journal = it.journal;
     commands = it.commands;
@@ -85,7 +89,8 @@ module _ (Tells : List ℕ → Answer → Type 0) where
       behind mark after new journal commands
       (goes journal commands (record { rests = stays journal rests; book = tills; entries = counted.0; replies = counted.1 }))
 
-  pub read_grows : (place after : Place) (old mid new : State) → IsPlaceOf place old → book.Stays old mid → Grows Tells place mid after new → KeepsABook Tells old new
+  pub read_grows : (place after : Place) (old mid new : State) → IsPlaceOf place old
+      → book.Stays old mid → Grows Tells place mid after new → KeepsABook Tells old new
   read_grows place after old mid new is stays grows journal rests =
       let counted = is journal rests in
       let it = grows journal (record { rests = stays journal rests; entries = counted.0; replies = counted.1 }) in
@@ -144,7 +149,8 @@ module _ (Tells : List ℕ → Answer → Type 0) where
     settled = ((n, answer) ∷ [], refl, ((i, is, told, decided), tt));
   }
 
-  same_after : (n : ℕ) (answer : Answer) (what : Settled) (s : State) (old : Journal) (i : ℕ) → n ≡ i + 1 → (IsDecided answer → IsToldAt Tells old.entries i answer)
+  same_after : (n : ℕ) (answer : Answer) (what : Settled) (s : State) (old : Journal) (i : ℕ)
+      → n ≡ i + 1 → (IsDecided answer → IsToldAt Tells old.entries i answer)
       → IsSettledBy answer what
       → book.Rests s (after_settling n answer what old) → IsSame Tells s old
   same_after n answer (settled.Acted read) s old i is told says rests = same_settled n answer s old i is (told (inl says.1)) (inl says.1) rests
@@ -158,7 +164,8 @@ module _ (Tells : List ℕ → Answer → Type 0) where
   }
 
   -- what the entries say they say still
-  same_book : (mark : Text) (old new : Journal) (commands : List Command) → new.entries ≡ old.entries → IsTillsBook mark old commands → IsTillsBook mark new commands
+  same_book : (mark : Text) (old new : Journal) (commands : List Command)
+      → new.entries ≡ old.entries → IsTillsBook mark old commands → IsTillsBook mark new commands
   same_book mark old new commands same tills = record {
     says = subst (λ (entries : List (List ℕ)). Say entries commands) (sym same) tills.says;
     numbered = tills.numbered;
@@ -187,7 +194,8 @@ module _ (Tells : List ℕ → Answer → Type 0) where
         says = ([], sym (append-nil commands));
       }
 
-unsettled_stays : (n : ℕ) (fault : DeskFault) (old new : State) (output written : Option (List ℕ)) → FailsToSettle n fault old new output written → IsDeskKept {A = Settled} (Err fault)
+unsettled_stays : (n : ℕ) (fault : DeskFault) (old new : State) (output written : Option (List ℕ))
+    → FailsToSettle n fault old new output written → IsDeskKept {A = Settled} (Err fault)
     → book.Stays old new
 unsettled_stays n desk.Book old new output written fails kept journal rests = absurd (kept refl)
 unsettled_stays n desk.NoEntry old new output written fails kept journal rests = (fails journal rests).0
@@ -205,7 +213,8 @@ unsettled_stays n desk.NotKnown old new output written fails kept journal rests 
 module _ {R W : Type 0} (opens : R → W → Type 0) (remaining : R → Option (List ℕ)) (contents : W → Option (List ℕ)) where
   -- what was received over opened streams
   told_same : (n : ℕ) (what : Settled) (new : State) (reader read : R) (writer written : W) (journal : Journal) → 0 < n → opens reader writer
-      → IsSettled n what journal new (remaining reader) (remaining read) (contents writer) (contents written) → IsSame (IsTold opens remaining contents) new journal
+      → IsSettled n what journal new (remaining reader) (remaining read) (contents writer) (contents written)
+      → IsSame (IsTold opens remaining contents) new journal
   told_same n what new reader read writer written journal some opened is =
       let place : n ≡ n - 1 + 1 = omega arith in
       let entry = is.writes (n - 1) place in
@@ -223,7 +232,8 @@ module _ {R W : Type 0} (opens : R → W → Type 0) (remaining : R → Option (
       same_after (IsTold opens remaining contents) n is.answer what new journal (n - 1) place (λ decided. (entry.0, entry.1, told decided)) is.says is.rests
 
   settled_same : (n : ℕ) (what : Settled) (old new : State) (reader read : R) (writer written : W) → 0 < n → opens reader writer
-      → Settles n what old new (remaining reader) (remaining read) (contents writer) (contents written) → EntersNothing (IsTold opens remaining contents) old new
+      → Settles n what old new (remaining reader) (remaining read) (contents writer) (contents written)
+      → EntersNothing (IsTold opens remaining contents) old new
   settled_same n what old new reader read writer written some opened settles journal rests =
       elim (settles journal rests) [
         | inl was ↦ record { journal = journal; rests = was.rests; entries = refl; replies = refl; settled = ([], sym (append-nil journal.settled), tt) }
@@ -232,7 +242,8 @@ module _ {R W : Type 0} (opens : R → W → Type 0) (remaining : R → Option (
 
   pub settling_same : (n : ℕ) (r : Result Settled DeskFault) (old new : State) (reader read : R) (writer written : W) → 0 < n → opens reader writer
       → IfOk r (λ what. Settles n what old new (remaining reader) (remaining read) (contents writer) (contents written))
-      → IfErr r (λ fault. FailsToSettle n fault old new (contents writer) (contents written)) → IsDeskKept r → EntersNothing (IsTold opens remaining contents) old new
+      → IfErr r (λ fault. FailsToSettle n fault old new (contents writer) (contents written))
+      → IsDeskKept r → EntersNothing (IsTold opens remaining contents) old new
   settling_same n (Ok what) old new reader read writer written some opened settles fails kept =
       settled_same n what old new reader read writer written some opened settles
   settling_same n (Err fault) old new reader read writer written some opened settles fails kept =

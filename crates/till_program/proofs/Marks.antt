@@ -1,5 +1,6 @@
 -- The mark of a book's last entry.
-use Rattle.std.proofs.Common.{◌≡◌, ◌≢◌, ◌∙◌, ◌++◌, ◌∷◌, [], ℕ, suc, Bool, true, false, List, Option, Some, None, length, take, drop, refl, sym, ap, subst, append_assoc}
+use Rattle.std.proofs.Common.{◌≡◌, ◌≢◌, ◌∙◌, ◌++◌, ◌∷◌, [], ℕ, suc, Bool, true, false, List, Option, Some, None, length, take, drop, refl, sym, ap, subst}
+use Rattle.std.proofs.Common.{append_assoc}
 use Rattle.std.specs.Prelude.{◌↔◌, ◌+◌, Decides, IsTrue, ⊤, decimal, nat_eq, slice_get}
 use Rattle.std.specs.Str.{bytes_eq}
 use Rattle.std.specs.Cmp.Lexicographic.{pointwise}
@@ -27,8 +28,10 @@ IsMarked mark key = (rest : Text) × (key ≡ mark_text mark ++ rest)
 marked_Decides : (mark key : Text) → Decides (has_mark mark key) (IsMarked mark key)
 marked_Decides mark key = (
   (λ is.
-      let front : take (length (mark_text mark)) key ≡ mark_text mark = (bytes_eq-Decides (take (length (mark_text mark)) key) (mark_text mark)).0 is in
-      (drop (length (mark_text mark)) key, sym (take-append-drop (length (mark_text mark)) key) ∙ ap (λ (it : Text). it ++ drop (length (mark_text mark)) key) front)),
+      let front : take (length (mark_text mark)) key ≡ mark_text mark = (bytes_eq-Decides (take (length (mark_text mark)) key) (mark_text mark)).0 is in (
+        drop (length (mark_text mark)) key,
+        sym (take-append-drop (length (mark_text mark)) key) ∙ ap (λ (it : Text). it ++ drop (length (mark_text mark)) key) front,
+      )),
   (λ whole.
       (bytes_eq-Decides (take (length (mark_text mark)) key) (mark_text mark)).1
       (ap (λ (it : Text). take (length (mark_text mark)) it) whole.1 ∙ take-append_seam (mark_text mark) whole.0)),
@@ -58,7 +61,8 @@ mark_then mark key rest r whole is =
 -- ---- the last entry
 
 -- the bytes say one command alone, with its key
-pub key_said : (mark : Text) (request : List ℕ) (one command : Command) (r : Bool) → Says request one → Says request command → r ≡ has_mark mark one.key → r ≡ has_mark mark command.key
+pub key_said : (mark : Text) (request : List ℕ) (one command : Command) (r : Bool) → Says request one
+    → Says request command → r ≡ has_mark mark one.key → r ≡ has_mark mark command.key
 key_said mark request one command r first says is =
     is ∙ ap (λ (it : Command). has_mark mark it.key) (one_command request first.0 says.0 one command first.1 says.1)
 
@@ -69,7 +73,8 @@ SaysBoth None (Some command) = ⊥
 SaysBoth (Some bytes) None = ⊥
 SaysBoth (Some bytes) (Some command) = Says bytes command
 
-last_says : (entries : List (List ℕ)) (commands : List Command) (entry : Option (List ℕ)) (command : Option Command) → Say entries commands → SaysBoth entry command
+last_says : (entries : List (List ℕ)) (commands : List Command) (entry : Option (List ℕ)) (command : Option Command)
+    → Say entries commands → SaysBoth entry command
     → SaysBoth (last_or entry entries) (last_or command commands)
 last_says [] [] entry command say both = both
 last_says [] (c ∷ cs) entry command say both = absurd say
@@ -93,7 +98,8 @@ last_marked mark is_own (Some bytes) (Some command) both tells = (
 )
 
 -- what holds of the last entry holds of the book
-pub tells_mark : (mark : Text) (is_own : Bool) (end : BookEnd) (s new : State) → TellsLastMark mark is_own end.last → book.Tells (IsEndOf end) s new → TellsMark mark is_own s
+pub tells_mark : (mark : Text) (is_own : Bool) (end : BookEnd) (s new : State)
+    → TellsLastMark mark is_own end.last → book.Tells (IsEndOf end) s new → TellsMark mark is_own s
 tells_mark mark is_own end s new last tells journal commands rests say =
     let at : IsEndOf end journal = (tells journal rests).1 in
     last_marked mark is_own (last_or None journal.entries) (last_or None commands) (last_says journal.entries commands None None say tt)
@@ -101,7 +107,8 @@ tells_mark mark is_own end s new last tells journal commands rests say =
 
 -- ---- a till's book
 
-all_last : (P : Command → Type 0) (other : Option Command) (commands : List Command) (last : Command) → ((i : ℕ) (it : Command) → slice_get commands i ≡ Some it → P it)
+all_last : (P : Command → Type 0) (other : Option Command) (commands : List Command) (last : Command)
+    → ((i : ℕ) (it : Command) → slice_get commands i ≡ Some it → P it)
     → ((it : Command) → other ≡ Some it → P it) → last_or other commands ≡ Some last → P last
 all_last P other [] last each first is = first last is
 all_last P other (c ∷ cs) last each first is = all_last P (Some c) cs last (λ i it there. each (suc i) it there) (λ it same. each 0 it same) is

@@ -25,7 +25,8 @@ use Rattle.till_program.specs.Word.{IsHeldIn, IsDebtor, SendsAll}
 abbrev pub office_planned : List Text → Plan
 office_planned words = if is_reading words then plan.ReadOffice words else plan.Office words
 
--- A word has the plan that it asks for. An act is planned as it was typed, and for a return its rental's customer owes. For a copy that comes back, the plan is the
+-- A word has the plan that it asks for. An act is planned as it was typed, and for a return its rental's customer owes. For a copy that comes back, the plan is
+-- the
 -- return of the register's rental, and then what that rental's customer owes. Head office's words are read or entered, as the first of them asks.
 abbrev pub IsPlanOf : State → TillAct → Plan → Type 0
 IsPlanOf s (typed.Do what) it = (customer : Option ℕ) × IsDebtor what customer s × (it ≡ plan.Give what customer)
@@ -42,7 +43,8 @@ IsPlanOf s typed.Prompt it = it ≡ plan.Usage
 
 -- An act that was planned was given, and got some answer. What waited was sent. Of a look the book stays.
 abbrev pub IsCarriedOut : (List ℕ → Answer → Type 0) → (ℕ → Type 0) → Text → Text → Result ℕ TillFault → Plan → Place → State → Place → State → Type 0
-IsCarriedOut Tells shows mark token giver (plan.Give what customer) before old after new = GivesAct Tells shows mark token giver (seen_act what) before old after new
+IsCarriedOut Tells shows mark token giver (plan.Give what customer) before old after new =
+    GivesAct Tells shows mark token giver (seen_act what) before old after new
 IsCarriedOut Tells shows mark token giver (plan.Office words) before old after new = ⊤
 IsCarriedOut Tells shows mark token giver plan.Send before old after new = SendsAll Tells before old after new
 IsCarriedOut Tells shows mark token giver (plan.Look look) before old after new = Stays old new
@@ -65,7 +67,8 @@ SendsWord Tells old new =
     → (answers : List Answer) × Rests new (with_replies answers journal) × AreTold Tells journal.entries (length journal.replies) answers
     × (length journal.replies ≤ length journal.entries → length (journal.replies ++ answers) ≡ length journal.entries)
 
--- An act that was typed was given. Of a copy that comes back the return of the register's rental was given. What waited was sent. Over a look, and over words of
+-- An act that was typed was given. Of a copy that comes back the return of the register's rental was given. What waited was sent. Over a look, and over words
+-- of
 -- head office that only read, the book stays. Of its other words nothing is said here.
 abbrev pub DoesWord : (List ℕ → Answer → Type 0) → (ℕ → Type 0) → Text → Text → Result ℕ TillFault → TillAct → State → State → Type 0
 DoesWord Tells shows mark token giver (typed.Do what) old new = GivesWord Tells shows mark token giver (seen_act what) old new

@@ -32,7 +32,8 @@ abbrev pub AreTries : (ℕ → Type 0) → Text → ℕ → Act → List (List �
 AreTries shows token staff act [] [] = ⊤
 AreTries shows token staff act [] (command ∷ commands) = ⊥
 AreTries shows token staff act (request ∷ requests) [] = ⊥
-AreTries shows token staff act (request ∷ requests) (command ∷ commands) = IsTry shows token staff act request command × AreTries shows token staff act requests commands
+AreTries shows token staff act (request ∷ requests) (command ∷ commands) =
+    IsTry shows token staff act request command × AreTries shows token staff act requests commands
 
 -- the request is a try of the act by its giver
 abbrev pub IsRequest : (ℕ → Type 0) → Text → Result ℕ TillFault → Act → List ℕ → Type 0
@@ -43,13 +44,16 @@ abbrev pub EntersTry : (ℕ → Type 0) → Text → Text → Result ℕ TillFau
 EntersTry shows mark token giver act before old after new =
     (staff : ℕ) × (giver ≡ Ok staff)
     × ((journal : Journal) (commands : List Command) → IsAt mark before old journal commands
-    → (request : List ℕ) × (command : Command) × IsTry shows token staff act request command × IsAt mark after new (with_entry request journal) (commands ++ command ∷ []))
+    → (request : List ℕ) × (command : Command) × IsTry shows token staff act request command
+    × IsAt mark after new (with_entry request journal) (commands ++ command ∷ []))
 
 -- ---- tries, until one isn't refused for its moment
 
--- What had waited got replies. Tries of the act were added after the last entry, in a till's book still: so they have the next keys, and moments that rise. Each try
+-- What had waited got replies. Tries of the act were added after the last entry, in a till's book still: so they have the next keys, and moments that rise.
+-- Each try
 -- got its own reply, and no entry waits.
-pub record IsTried (Tells : List ℕ → Answer → Type 0) (shows : ℕ → Type 0) (mark token : Text) (staff : ℕ) (act : Act) (told : List Answer) (place : Place) (s : State)
+pub record IsTried (Tells : List ℕ → Answer → Type 0) (shows : ℕ → Type 0) (mark token : Text)
+    (staff : ℕ) (act : Act) (told : List Answer) (place : Place) (s : State)
     (old : Journal) (said : List Command) : Type 0 where
   pub journal : Journal
   pub commands : List Command
@@ -70,7 +74,8 @@ pub record IsTried (Tells : List ℕ → Answer → Type 0) (shows : ℕ → Typ
 abbrev pub Tries : (List ℕ → Answer → Type 0) → (ℕ → Type 0) → Text → Text → Result ℕ TillFault → Act → List Answer → Place → State → Place → State → Type 0
 Tries Tells shows mark token giver act told before old after new =
     (staff : ℕ) × (giver ≡ Ok staff)
-    × ((journal : Journal) (commands : List Command) → IsAt mark before old journal commands → IsTried Tells shows mark token staff act told after new journal commands)
+    × ((journal : Journal) (commands : List Command) → IsAt mark before old journal commands
+    → IsTried Tells shows mark token staff act told after new journal commands)
 
 -- refused for its moment
 abbrev pub IsBack : Answer → Type 0
@@ -85,7 +90,8 @@ IsGivenAt Tells shows mark token staff act answer place s journal commands =
 abbrev pub Gives : (List ℕ → Answer → Type 0) → (ℕ → Type 0) → Text → Text → Result ℕ TillFault → Act → Answer → Place → State → Place → State → Type 0
 Gives Tells shows mark token giver act answer before old after new =
     (staff : ℕ) × (giver ≡ Ok staff)
-    × ((journal : Journal) (commands : List Command) → IsAt mark before old journal commands → IsGivenAt Tells shows mark token staff act answer after new journal commands)
+    × ((journal : Journal) (commands : List Command) → IsAt mark before old journal commands
+    → IsGivenAt Tells shows mark token staff act answer after new journal commands)
 
 -- with some answer
 abbrev pub GivesAct : (List ℕ → Answer → Type 0) → (ℕ → Type 0) → Text → Text → Result ℕ TillFault → Act → Place → State → Place → State → Type 0

@@ -60,7 +60,8 @@ IsOwnBook mark s = (journal : Journal) (commands : List Command) → Rests s jou
 
 -- the answer is yes exactly if the book's last entry was entered with the mark, or there is none
 abbrev pub TellsMark : Text → Bool → State → Type 0
-TellsMark mark is_own s = (journal : Journal) (commands : List Command) → Rests s journal → Say journal.entries commands → IsTrue is_own ↔ LastHasMark mark commands
+TellsMark mark is_own s =
+    (journal : Journal) (commands : List Command) → Rests s journal → Say journal.entries commands → IsTrue is_own ↔ LastHasMark mark commands
 
 -- whatever command the last entry says, the answer is whether its key has the mark; it is yes without an entry
 abbrev pub TellsLastMark : Text → Bool → Option (List ℕ) → Type 0
@@ -113,7 +114,8 @@ IsFor staff act.Help = ⊤
 IsFor staff act.Prompt = ⊤
 
 -- the fault tells one of the desk's, at which sending ended, and why
-abbrev pub FailsToSendAll : {R W : Type 0} → (List ℕ → Answer → Type 0) → Type 0 → (R → W → Type 0) → (W → Option (List ℕ)) → Place → State → Place → State → TillFault → Type 0
+abbrev pub FailsToSendAll : {R W : Type 0} → (List ℕ → Answer → Type 0) → Type 0
+    → (R → W → Type 0) → (W → Option (List ℕ)) → Place → State → Place → State → TillFault → Type 0
 FailsToSendAll Tells refuses opens contents before old after new told =
     (it : DeskFault) × (told ≡ told_fault it) × FailsToSend Tells refuses opens contents before old after new it
 

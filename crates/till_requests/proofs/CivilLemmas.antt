@@ -1,5 +1,6 @@
 -- A date of jiff's calendar from 1970 on, with a second of its day, is a moment, and has those seconds.
-use Rattle.shop_types.proofs.Common.{◌≡◌, ◌∙◌, refl, sym, ap, subst, arith, ℕ, ℤ, pos, negsuc, ◌+◌, ◌*◌, ◌<◌, ◌≤◌, ◌≤ℤ◌, unsigned_abs, List, Option, Some, by_lt_z, Moment, IsMoment, moment_text, days_in_month, days_from_civil-day_of, IsTextOf}
+use Rattle.shop_types.proofs.Common.{◌≡◌, ◌∙◌, refl, sym, ap, subst, arith, ℕ, ℤ, pos, negsuc, ◌+◌, ◌*◌, ◌<◌, ◌≤◌, ◌≤ℤ◌, unsigned_abs, List, Option, Some}
+use Rattle.shop_types.proofs.Common.{by_lt_z, Moment, IsMoment, moment_text, days_in_month, days_from_civil-day_of, IsTextOf}
 use Rattle.jiff_core.specs.Calendar.{days_from_civil, day_count, days_in_month as jiff_days, IsCivilDate}
 use Rattle.jiff_core.specs.Date.{epoch_day}
 use Rattle.jiff_core.specs.declared.civil.date.Date.{Date}
@@ -42,7 +43,8 @@ civil_is date n second civil is short =
       minute = omega arith;
       second = omega arith;
     } in
-    let days : pos (day_of (civil_of date second)) ≡ pos n = sym (days_from_civil-day_of (civil_of date second) moment) ∙ ap (λ (y : ℤ). days_from_civil y date.month date.day) year ∙ is in
+    let days : pos (day_of (civil_of date second)) ≡ pos n =
+    sym (days_from_civil-day_of (civil_of date second) moment) ∙ ap (λ (y : ℤ). days_from_civil y date.month date.day) year ∙ is in
     let same : day_of (civil_of date second) ≡ n = ap unsigned_abs days in
     (moment, omega (arith, same))
 
@@ -50,9 +52,11 @@ some_same : (a b : Moment) → ◌≡◌ {A = Option Moment} (Some a) (Some b) �
 some_same a b e = cc
 
 -- a moment that has that text has those seconds
-pub read_seconds : (date : Date) (n second : ℕ) (text : List ℕ) (m : Moment) → IsCivilDate date.year date.month date.day → epoch_day date ≡ pos n → second < 86400
+pub read_seconds : (date : Date) (n second : ℕ) (text : List ℕ) (m : Moment)
+    → IsCivilDate date.year date.month date.day → epoch_day date ≡ pos n → second < 86400
     → moment_text (civil_of date second) ≡ text → IsTextOf text m → seconds_of m ≡ n * 86400 + second
 read_seconds date n second text m civil is short written read =
     let there = civil_is date n second civil is short in
-    let same : m ≡ civil_of date second = some_same m (civil_of date second) (read_is (Some m) text read tt ∙ sym (read_is (Some (civil_of date second)) text (there.0, written) tt)) in
+    let same : m ≡ civil_of date second =
+    some_same m (civil_of date second) (read_is (Some m) text read tt ∙ sym (read_is (Some (civil_of date second)) text (there.0, written) tt)) in
     ap seconds_of same ∙ there.1

@@ -1,5 +1,6 @@
 -- `each` from front to back: the values of the elements before, and the values still to come.
-use Rattle.shop_types.proofs.Common.{◌≡◌, ◌∙◌, ◌≤◌, ◌<◌, ◌+◌, ℕ, List, [], ◌∷◌, ◌++◌, map, length, get_or, drop, refl, sym, ap, append-nil, append_assoc, Option, Some, None, drop_all, drop_more, option_map}
+use Rattle.shop_types.proofs.Common.{◌≡◌, ◌∙◌, ◌≤◌, ◌<◌, ◌+◌, ℕ, List, [], ◌∷◌, ◌++◌, map, length, get_or, drop, refl, sym, ap, append-nil, append_assoc}
+use Rattle.shop_types.proofs.Common.{Option, Some, None, drop_all, drop_more, option_map}
 use Rattle.till_shows.specs.Bodies.{each}
 
 abbrev pub behind : {A : Type 0} → List A → Option (List A) → Option (List A)
@@ -29,12 +30,14 @@ each_none f done a rest is = rw is refl
 pub turn : {A B : Type 0} (f : A → Option B) (done : List B) (xs : List A) (i : ℕ) (x : A) (y : B) → i < length xs → x ≡ get_or xs i x → f x ≡ Some y
     → behind done (each f (drop i xs)) ≡ behind (done ++ y ∷ []) (each f (drop (i + 1) xs))
 turn {A} f done xs i x y h is value =
-    ap (λ (them : List A). behind done (each f them)) (drop_more xs i x h ∙ ap (λ (a : A). a ∷ drop (i + 1) xs) (sym is)) ∙ each_one f done x y (drop (i + 1) xs) value
+    ap (λ (them : List A). behind done (each f them)) (drop_more xs i x h ∙ ap (λ (a : A). a ∷ drop (i + 1) xs) (sym is))
+    ∙ each_one f done x y (drop (i + 1) xs) value
 
 pub stop : {A B : Type 0} (f : A → Option B) (done : List B) (xs : List A) (i : ℕ) (x : A) → i < length xs → x ≡ get_or xs i x → f x ≡ None
     → behind done (each f (drop i xs)) ≡ None
 stop {A} f done xs i x h is value =
-    ap (λ (them : List A). behind done (each f them)) (drop_more xs i x h ∙ ap (λ (a : A). a ∷ drop (i + 1) xs) (sym is)) ∙ each_none f done x (drop (i + 1) xs) value
+    ap (λ (them : List A). behind done (each f them)) (drop_more xs i x h ∙ ap (λ (a : A). a ∷ drop (i + 1) xs) (sym is))
+    ∙ each_none f done x (drop (i + 1) xs) value
 
 pub whole : {A B : Type 0} (f : A → Option B) (done : List B) (xs : List A) (i : ℕ) → length xs ≤ i → behind done (each f (drop i xs)) ≡ Some done
 whole {A} f done xs i h = ap (λ (them : List A). behind done (each f them)) (drop_all i xs h) ∙ behind_last done

@@ -1,5 +1,6 @@
 -- What is found in a body or isn't, and an error that is passed on.
-use Rattle.shop_types.proofs.Common.{◌≡◌, ◌∙◌, List, ℕ, refl, sym, ap, Option, Some, None, inl, inr, cases_Bool, IsUtf8-from_is_utf8, Result, IfErr, IsUtf8, option_map, option_and_then, IsErrAnd, is_utf8}
+use Rattle.shop_types.proofs.Common.{◌≡◌, ◌∙◌, List, ℕ, refl, sym, ap, Option, Some, None, inl, inr, cases_Bool, IsUtf8-from_is_utf8, Result, IfErr, IsUtf8}
+use Rattle.shop_types.proofs.Common.{option_map, option_and_then, IsErrAnd, is_utf8}
 use Rattle.std.specs.Prelude.{Ok, Err, OnOk}
 use Rattle.serde_json.specs.Read.{read}
 use Rattle.till_shows.specs.Bodies.{body_of}
@@ -20,7 +21,8 @@ if_err (Err e) P Q f h = f e h
 
 -- ---- what is read from a body, step by step
 
-pub told : {A B C : Type 0} (g : B → C) (f : A → Option B) (o : Option A) (a : A) (b : B) → o ≡ Some a → Some b ≡ f a → option_map g (option_and_then f o) ≡ Some (g b)
+pub told : {A B C : Type 0} (g : B → C) (f : A → Option B) (o : Option A) (a : A) (b : B)
+    → o ≡ Some a → Some b ≡ f a → option_map g (option_and_then f o) ≡ Some (g b)
 told {A} g f o a b p q = ap (λ (x : Option A). option_map g (option_and_then f x)) p ∙ ap (option_map g) (sym q)
 
 pub no_member : {A B C : Type 0} (g : B → C) (f : A → Option B) (o : Option A) (a : A) → o ≡ Some a → None ≡ f a → option_map g (option_and_then f o) ≡ None

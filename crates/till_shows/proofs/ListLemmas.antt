@@ -1,5 +1,6 @@
 -- Tables of listed objects, object by object, and what is found in them.
-use Rattle.shop_types.proofs.Common.{◌≡◌, ◌∙◌, ◌≤◌, ◌<◌, ◌+◌, ℕ, List, [], ◌∷◌, map, filter, length, get_or, drop, refl, sym, ap, append-nil, append_assoc, Option, Some, None, Bool, true, false, inl, inr, cases_Bool, drop_all, drop_more, option_map, option_and_then, Text}
+use Rattle.shop_types.proofs.Common.{◌≡◌, ◌∙◌, ◌≤◌, ◌<◌, ◌+◌, ℕ, List, [], ◌∷◌, map, filter, length, get_or, drop, refl, sym, ap, append-nil, append_assoc}
+use Rattle.shop_types.proofs.Common.{Option, Some, None, Bool, true, false, inl, inr, cases_Bool, drop_all, drop_more, option_map, option_and_then, Text}
 use Rattle.std.specs.Prelude.{◌||◌, ◌==◌}
 use Rattle.serde_json.specs.Data.{Data}
 use Rattle.till_shows.specs.Bodies.{body_of, rows_in, each, text_at, has_number}
@@ -31,16 +32,19 @@ with_row table new None rest h = let no : ◌≡◌ {A = Option Table} None (Som
 with_row table new (Some row) None h = refl
 with_row table new (Some row) (Some more) h =
     let is : more_rows table (row ∷ []) ≡ new = let same : Some (more_rows table (row ∷ [])) ≡ Some new = h in cc in
-    let whole : more_rows table (row ∷ more) ≡ more_rows (more_rows table (row ∷ [])) more = λ i. record { sides = table.sides; rows = sym (append_assoc table.rows (row ∷ []) more) i } in
+    let whole : more_rows table (row ∷ more) ≡ more_rows (more_rows table (row ∷ [])) more =
+    λ i. record { sides = table.sides; rows = sym (append_assoc table.rows (row ∷ []) more) i } in
     ap (λ (t : Table). Some t) whole ∙ ap (λ (t : Table). Some (more_rows t more)) is
 
-without_row : (table new : Table) (rest : Option (List (List Text))) → Some (more_rows table []) ≡ Some new → option_map (more_rows table) rest ≡ option_map (more_rows new) rest
+without_row : (table new : Table) (rest : Option (List (List Text))) → Some (more_rows table []) ≡ Some new
+    → option_map (more_rows table) rest ≡ option_map (more_rows new) rest
 without_row table new rest h =
     let is : more_rows table [] ≡ new = cc in
     ap (λ (t : Table). option_map (more_rows t) rest) (sym (nothing_more table) ∙ is)
 
 -- one more object
-pub found_more : (fields : List Field) (part : Text) (table new : Table) (d : Data) (ds : List Data) → option_map (more_rows table) (found_rows fields part (d ∷ [])) ≡ Some new
+pub found_more : (fields : List Field) (part : Text) (table new : Table) (d : Data) (ds : List Data)
+    → option_map (more_rows table) (found_rows fields part (d ∷ [])) ≡ Some new
     → option_map (more_rows table) (found_rows fields part (d ∷ ds)) ≡ option_map (more_rows new) (found_rows fields part ds)
 found_more fields part table new d ds h = elim (cases_Bool (is_found part fields d)) [
   | inl e ↦ let one = rw e at h in rw e (with_row table new (row_of fields d) (found_rows fields part ds) one)
@@ -53,7 +57,8 @@ none_at None rest h = refl
 none_at {A} (Some a) rest h = let no : ◌≡◌ {A = Option (List A)} (Some (a ∷ [])) None = h in cc
 
 -- an object that has no row
-pub found_none : (fields : List Field) (part : Text) (d : Data) (ds : List Data) → found_rows fields part (d ∷ []) ≡ None → found_rows fields part (d ∷ ds) ≡ None
+pub found_none : (fields : List Field) (part : Text) (d : Data) (ds : List Data)
+    → found_rows fields part (d ∷ []) ≡ None → found_rows fields part (d ∷ ds) ≡ None
 found_none fields part d ds h = elim (cases_Bool (is_found part fields d)) [
   | inl e ↦ let one = rw e at h in rw e (none_at (row_of fields d) (found_rows fields part ds) one)
   | inr e ↦ let no : ◌≡◌ {A = Option (List (List Text))} (Some []) None = rw e at h in cc
@@ -82,10 +87,12 @@ whole_is fields body = ap (option_map (more_rows (headed fields))) (rows_all fie
 
 -- ---- one number
 
-pub named_here : (by : Text) (n : ℕ) (name : Text) (d : Data) (ds : List Data) → has_number by n d ≡ true → first_named by n name (d ∷ ds) ≡ option_map (λ t. Some t) (text_at name d)
+pub named_here : (by : Text) (n : ℕ) (name : Text) (d : Data) (ds : List Data) → has_number by n d ≡ true
+    → first_named by n name (d ∷ ds) ≡ option_map (λ t. Some t) (text_at name d)
 named_here by n name d ds e = rw e refl
 
-pub named_later : (by : Text) (n : ℕ) (name : Text) (d : Data) (ds : List Data) → has_number by n d ≡ false → first_named by n name (d ∷ ds) ≡ first_named by n name ds
+pub named_later : (by : Text) (n : ℕ) (name : Text) (d : Data) (ds : List Data)
+    → has_number by n d ≡ false → first_named by n name (d ∷ ds) ≡ first_named by n name ds
 named_later by n name d ds e = rw e refl
 
 -- ---- an object, by whether the part is found in it
@@ -93,7 +100,8 @@ named_later by n name d ds e = rw e refl
 pub is_row : (fields : List Field) (part : Text) (d : Data) → is_found part fields d ≡ true → found_rows fields part (d ∷ []) ≡ each (row_of fields) (d ∷ [])
 is_row fields part d e = rw e refl
 
-pub no_row : (fields : List Field) (part : Text) (table : Table) (d : Data) → is_found part fields d ≡ false → option_map (more_rows table) (found_rows fields part (d ∷ [])) ≡ Some table
+pub no_row : (fields : List Field) (part : Text) (table : Table) (d : Data) → is_found part fields d ≡ false
+    → option_map (more_rows table) (found_rows fields part (d ∷ [])) ≡ Some table
 no_row fields part table d e = rw e (ap (λ (t : Table). Some t) (nothing_more table))
 
 -- ---- a body's table, step by step
@@ -113,7 +121,8 @@ table_no_list fields part body d b r =
     ap (λ (o : Option Data). option_map (more_rows (headed fields)) (option_and_then (found_rows fields part) (option_and_then rows_in o))) b
     ∙ ap (λ (o : Option (List Data)). option_map (more_rows (headed fields)) (option_and_then (found_rows fields part) o)) (sym r)
 
-pub named_told : (by : Text) (n : ℕ) (name body : Text) (d : Data) (ds : List Data) → body_of body ≡ Some d → Some ds ≡ rows_in d → named_in by n name body ≡ first_named by n name ds
+pub named_told : (by : Text) (n : ℕ) (name body : Text) (d : Data) (ds : List Data)
+    → body_of body ≡ Some d → Some ds ≡ rows_in d → named_in by n name body ≡ first_named by n name ds
 named_told by n name body d ds b r =
     ap (λ (o : Option Data). option_and_then (first_named by n name) (option_and_then rows_in o)) b ∙ ap (option_and_then (first_named by n name)) (sym r)
 
@@ -137,23 +146,28 @@ or_later false b e = refl
 pub stands_here : (part text : Text) (i : ℕ) → i < length text → begins_with part (drop i text) ≡ true → stands_in part (drop i text) ≡ true
 stands_here part text i h is =
     let front : drop i text ≡ get_or text i 0 ∷ drop (i + 1) text = drop_more text i 0 h in
-    ap (stands_in part) front ∙ or_here (begins_with part (get_or text i 0 ∷ drop (i + 1) text)) (stands_in part (drop (i + 1) text)) (ap (begins_with part) (sym front) ∙ is)
+    ap (stands_in part) front
+    ∙ or_here (begins_with part (get_or text i 0 ∷ drop (i + 1) text)) (stands_in part (drop (i + 1) text)) (ap (begins_with part) (sym front) ∙ is)
 
-pub stands_later : (part text : Text) (i : ℕ) → i < length text → begins_with part (drop i text) ≡ false → stands_in part (drop i text) ≡ stands_in part (drop (i + 1) text)
+pub stands_later : (part text : Text) (i : ℕ) → i < length text → begins_with part (drop i text) ≡ false
+    → stands_in part (drop i text) ≡ stands_in part (drop (i + 1) text)
 stands_later part text i h is =
     let front : drop i text ≡ get_or text i 0 ∷ drop (i + 1) text = drop_more text i 0 h in
-    ap (stands_in part) front ∙ or_later (begins_with part (get_or text i 0 ∷ drop (i + 1) text)) (stands_in part (drop (i + 1) text)) (ap (begins_with part) (sym front) ∙ is)
+    ap (stands_in part) front
+    ∙ or_later (begins_with part (get_or text i 0 ∷ drop (i + 1) text)) (stands_in part (drop (i + 1) text)) (ap (begins_with part) (sym front) ∙ is)
 
 pub nothing_stands : (part text : Text) (i : ℕ) → length text ≤ i → stands_in part (drop i text) ≡ (length part == 0)
 nothing_stands part text i h = ap (stands_in part) (drop_all i text h)
 
-pub found_here : (part : Text) (fields : List Field) (d : Data) (i : ℕ) (field : Field) → i < length fields → field ≡ get_or fields i field → has_field part d field ≡ true
+pub found_here : (part : Text) (fields : List Field) (d : Data) (i : ℕ) (field : Field)
+    → i < length fields → field ≡ get_or fields i field → has_field part d field ≡ true
     → is_found part (drop i fields) d ≡ true
 found_here part fields d i field h is has =
     let front : drop i fields ≡ field ∷ drop (i + 1) fields = drop_more fields i field h ∙ ap (λ (f : Field). f ∷ drop (i + 1) fields) (sym is) in
     ap (λ (fs : List Field). is_found part fs d) front ∙ or_here (has_field part d field) (is_found part (drop (i + 1) fields) d) has
 
-pub found_later : (part : Text) (fields : List Field) (d : Data) (i : ℕ) (field : Field) → i < length fields → field ≡ get_or fields i field → has_field part d field ≡ false
+pub found_later : (part : Text) (fields : List Field) (d : Data) (i : ℕ) (field : Field)
+    → i < length fields → field ≡ get_or fields i field → has_field part d field ≡ false
     → is_found part (drop i fields) d ≡ is_found part (drop (i + 1) fields) d
 found_later part fields d i field h is has =
     let front : drop i fields ≡ field ∷ drop (i + 1) fields = drop_more fields i field h ∙ ap (λ (f : Field). f ∷ drop (i + 1) fields) (sym is) in

@@ -39,7 +39,8 @@ of_null (string s) e = let no : false ≡ true = e in cc
 of_null (array ds) e = let no : false ≡ true = e in cc
 of_null (object ms) e = let no : false ≡ true = e in cc
 
-pub of_list : (d : Data) → as_str d ≡ None → whole_number d ≡ None → as_bool d ≡ None → is_some (as_null d) ≡ false → plain_text d ≡ option_map commas (numbers_in d)
+pub of_list : (d : Data) → as_str d ≡ None → whole_number d ≡ None → as_bool d ≡ None
+    → is_some (as_null d) ≡ false → plain_text d ≡ option_map commas (numbers_in d)
 of_list null s n b e = let no : true ≡ false = e in cc
 of_list (boolean a) s n b e = let no : ◌≡◌ {A = Option Bool} (Some a) None = b in cc
 of_list (number m) s n b e = ap (option_map decimal) n

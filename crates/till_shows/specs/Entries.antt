@@ -11,7 +11,8 @@ not_text false = codes "not "
 
 abbrev pub payment_text : ℕ → Option ℕ → ℕ → Text
 payment_text customer None amount = codes "pay: customer " ++ (decimal customer ++ (codes ", " ++ money_text (pos amount)))
-payment_text customer (Some rental) amount = codes "pay: customer " ++ (decimal customer ++ (codes ", " ++ (money_text (pos amount) ++ (codes ", rental " ++ decimal rental))))
+payment_text customer (Some rental) amount =
+    codes "pay: customer " ++ (decimal customer ++ (codes ", " ++ (money_text (pos amount) ++ (codes ", rental " ++ decimal rental))))
 
 abbrev pub dispatch_text : ℕ → List ℕ → Text
 dispatch_text to copies = codes "dispatch: branch " ++ (decimal to ++ (codes ", copies " ++ commas copies))

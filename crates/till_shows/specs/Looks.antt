@@ -1,5 +1,6 @@
 -- The lines for looks and accepted commands, from the bodies of their replies.
-use Rattle.std.specs.Prelude.{ℕ, zero, suc, ℤ, pos, negsuc, ◌==◌, Bool, true, false, List, [], ◌∷◌, ◌++◌, Option, Some, None, is_some, option_map, option_and_then, codes, decimal, if◌then◌else◌}
+use Rattle.std.specs.Prelude.{ℕ, zero, suc, ℤ, pos, negsuc, ◌==◌, Bool, true, false, List, [], ◌∷◌, ◌++◌, Option, Some, None, is_some, option_map}
+use Rattle.std.specs.Prelude.{option_and_then, codes, decimal, if◌then◌else◌}
 use Rattle.std.specs.Option.{option_or}
 use Rattle.serde_json.specs.Data.{Data}
 use Rattle.serde_json.specs.Find.{get, as_null, as_array}
@@ -49,10 +50,12 @@ abbrev pub copies_of_film : ℕ → List ℕ → Text
 copies_of_film film numbers = decimal film ++ (codes ": " ++ counted_or (codes "none") (codes "copies ") numbers)
 
 abbrev pub film_in_stock_in : ℕ → Text → Option Text
-film_in_stock_in film body = option_map (λ ns. codes "in stock of film " ++ copies_of_film film ns) (option_and_then (numbers_at (codes "copies")) (body_of body))
+film_in_stock_in film body =
+    option_map (λ ns. codes "in stock of film " ++ copies_of_film film ns) (option_and_then (numbers_at (codes "copies")) (body_of body))
 
 abbrev pub film_not_in_stock_in : ℕ → Text → Option Text
-film_not_in_stock_in film body = option_map (λ ns. codes "out of film " ++ copies_of_film film ns) (option_and_then (numbers_at (codes "copies")) (body_of body))
+film_not_in_stock_in film body =
+    option_map (λ ns. codes "out of film " ++ copies_of_film film ns) (option_and_then (numbers_at (codes "copies")) (body_of body))
 
 -- who owes whom how much
 abbrev pub balance_text : Text → ℤ → Text

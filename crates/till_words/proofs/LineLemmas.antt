@@ -16,13 +16,15 @@ faulty [] k line h = absurd h
 faulty (f ∷ fs) k line h = rw (not_zero (length fs)) refl
 
 -- words without a fault are the line of what clap finds in them
-pub taken : {L : Type 0} (line_from : List Row → Option (Text × List Row) → Option L) (faults : Kinds) (rows found : List Row) (sub inner : Option (Text × List Row))
+pub taken :
+    {L : Type 0} (line_from : List Row → Option (Text × List Row) → Option L) (faults : Kinds) (rows found : List Row) (sub inner : Option (Text × List Row))
     → faults ≡ [] → rows ≡ found → sub ≡ inner → (if is_empty faults then line_from found inner else None) ≡ line_from rows sub
 taken line_from faults rows found sub inner none same is = rw (none, ← same, ← is) refl
 
 -- a subcommand is its name and its rows
 pub entered : {S : Type 0} (sub : Option S) (name_of : S → Text) (rows_of : S → List Row) (name : Text) (rows : List Row) → Some name ≡ option_map name_of sub
-    → Some rows ≡ option_map (λ (p : Text × List Row). p.1) (option_map (λ s. (name_of s, rows_of s)) sub) → option_map {U = Text × List Row} (λ s. (name_of s, rows_of s)) sub ≡ Some (name, rows)
+    → Some rows ≡ option_map (λ (p : Text × List Row). p.1) (option_map (λ s. (name_of s, rows_of s)) sub)
+    → option_map {U = Text × List Row} (λ s. (name_of s, rows_of s)) sub ≡ Some (name, rows)
 entered None name_of rows_of name rows e f = absurd (cc e)
 entered (Some s) name_of rows_of name rows e f =
     let named : name ≡ name_of s = ap (λ (o : Option Text). unwrap_or o []) e in

@@ -1,5 +1,6 @@
 -- Numbers that are read digit by digit, and lists of them.
-use Rattle.shop_types.proofs.Common.{◌≡◌, ◌<◌, ◌≤◌, ◌^◌, ◌+◌, ◌*◌, ℕ, arith, lit<, add-one, ◌∙◌, refl, sym, ap, append_assoc, List, [], ◌∷◌, ◌++◌, Option, Some, None, option_map, digit_value, digit_value_digit, digit_from_value, row_number_of}
+use Rattle.shop_types.proofs.Common.{◌≡◌, ◌<◌, ◌≤◌, ◌^◌, ◌+◌, ◌*◌, ℕ, arith, lit<, add-one, ◌∙◌, refl, sym, ap, append_assoc, List, [], ◌∷◌, ◌++◌, Option, Some}
+use Rattle.shop_types.proofs.Common.{None, option_map, digit_value, digit_value_digit, digit_from_value, row_number_of}
 use Rattle.std.proofs.lemmas.List.{append-nil}
 use Rattle.std.proofs.Math.Nat.{pow-le-pow_right}
 use Rattle.clap.specs.Words.{Text}
@@ -20,7 +21,8 @@ digit_is c h = digit_value_digit c (digit_from_value c h)
 abbrev pub with_rest : List ℕ → List Text → Option (List ℕ)
 with_rest numbers texts = with_value (all_numbers texts) (λ rest. Some (numbers ++ rest))
 
-one_on : (old : List ℕ) (n : ℕ) (rest : Option (List ℕ)) → with_value (option_map (λ ns. n ∷ ns) rest) (λ ns. Some (old ++ ns)) ≡ with_value rest (λ ns. Some ((old ++ n ∷ []) ++ ns))
+one_on : (old : List ℕ) (n : ℕ) (rest : Option (List ℕ))
+    → with_value (option_map (λ ns. n ∷ ns) rest) (λ ns. Some (old ++ ns)) ≡ with_value rest (λ ns. Some ((old ++ n ∷ []) ++ ns))
 one_on old n None = refl
 one_on old n (Some ns) = ap Some (sym (append_assoc old (n ∷ []) ns))
 

@@ -13,7 +13,8 @@ use Rattle.till_words.specs.declared.words.TillLook.TheVariants as look
 use Rattle.till_words.specs.declared.words.TillAct.{TillAct}
 use Rattle.till_words.specs.declared.words.TillAct.TheVariants as till
 use Rattle.till_words.specs.Texts.{with_value}
-use Rattle.till_words.specs.Given.{text_given, lot_given, token_given, flag_given, row_given, optional_row_given, amount_given, numbers_given, any_numbers_given}
+use Rattle.till_words.specs.Given.{text_given, lot_given, token_given, flag_given, row_given, optional_row_given, amount_given, numbers_given}
+use Rattle.till_words.specs.Given.{any_numbers_given}
 
 -- ---- at the counter
 

@@ -1,5 +1,6 @@
 -- The words of a line: blanks separate them, and double quotes keep blanks in a word.
-use Rattle.std.specs.Prelude.{ℕ, ◌==◌, ◌||◌, ◌&&◌, Bool, false, not, List, [], ◌++◌, Option, Some, None, fold, unwrap_or, option_to_list, encode_utf8, if◌then◌else◌}
+use Rattle.std.specs.Prelude.{ℕ, ◌==◌, ◌||◌, ◌&&◌, Bool, false, not, List, [], ◌++◌, Option, Some, None, fold, unwrap_or, option_to_list, encode_utf8}
+use Rattle.std.specs.Prelude.{if◌then◌else◌}
 use Rattle.std.specs.Str.{chars}
 use Rattle.clap.specs.Words.{Text}
 

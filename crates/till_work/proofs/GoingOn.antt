@@ -1,5 +1,6 @@
 -- A till's book goes on, step by step.
-use Rattle.std.proofs.Common.{◌≡◌, ◌≢◌, ◌∙◌, ◌+◌, ◌++◌, ◌∷◌, [], ℕ, List, Option, Some, None, Result, Ok, Err, IfOk, IfErr, length, inl, inr, sym, ap, refl, subst, append_assoc, append-nil, length-append}
+use Rattle.std.proofs.Common.{◌≡◌, ◌≢◌, ◌∙◌, ◌+◌, ◌++◌, ◌∷◌, [], ℕ, List, Option, Some, None, Result, Ok, Err, IfOk, IfErr, length, inl, inr, sym, ap, refl}
+use Rattle.std.proofs.Common.{subst, append_assoc, append-nil, length-append}
 use Rattle.sqlite.specs.State.{State}
 use Rattle.shop_model.specs.Values.{Text, Command}
 use Rattle.shop_model.specs.Answers.{Answer}
@@ -15,10 +16,11 @@ use Rattle.till_work.specs.declared.fault.DeskFault.{DeskFault}
 use Rattle.till_work.specs.declared.fault.DeskFault.TheVariants as desk
 use Rattle.till_work.specs.declared.place.Place.{Place}
 use Rattle.till_work.specs.Told.{IsTold, IsToldAt, AreTold, AreSettled, IsUnanswered, IsPutOff}
-use Rattle.till_work.specs.Desk.{HasPlace, IsAt, Extends, Becomes, HasMore, GoesOn, Grows, Stays, EntersOne, AnswersOne, AreSent, Sends, TellsLast, IsLastOf, with_replies, IsWhy, FailsToTell, FailsToSend, IsBookKept}
+use Rattle.till_work.specs.Desk.{HasPlace, IsAt, Extends, Becomes, HasMore, GoesOn, Grows, Stays, EntersOne, AnswersOne, AreSent, Sends, TellsLast, IsLastOf}
+use Rattle.till_work.specs.Desk.{with_replies, IsWhy, FailsToTell, FailsToSend, IsBookKept}
 use Rattle.till_work.proofs.Telling.{all_told_more, told_then, all_settled_more, settled_then}
 
--- what stands behind what stands behind
+-- a list that goes on a list that goes on a list goes on it
 pub more_then : {A : Type 0} (x y z a b : List A) → y ≡ x ++ a → z ≡ y ++ b → z ≡ x ++ (a ++ b)
 more_then x y z a b one two = two ∙ ap (λ l. l ++ b) one ∙ append_assoc x a b
 
@@ -30,7 +32,8 @@ length_behind xs x = length-append xs (x ∷ [])
 
 -- ---- a till's book and its place
 
-pub place_of : (mark : Text) (place : Place) (s : State) (journal : Journal) (commands : List Command) → IsAt mark place s journal commands → HasPlace place s journal
+pub place_of : (mark : Text) (place : Place) (s : State) (journal : Journal) (commands : List Command)
+    → IsAt mark place s journal commands → HasPlace place s journal
 place_of mark place s journal commands at = record { rests = at.rests; entries = at.entries; replies = at.replies }
 
 -- where the entries are the same the book is a till's still
@@ -99,7 +102,8 @@ module _ (Tells : List ℕ → Answer → Type 0) where
     settled = ([], nothing_more journal.settled, tt);
   }
 
-  pub extends_sent : (answers : List Answer) (journal : Journal) → AreTold Tells journal.entries (length journal.replies) answers → Extends Tells journal (with_replies answers journal)
+  pub extends_sent : (answers : List Answer) (journal : Journal)
+      → AreTold Tells journal.entries (length journal.replies) answers → Extends Tells journal (with_replies answers journal)
   extends_sent answers journal told = record {
     entries = ([], nothing_more journal.entries);
     replies = (answers, refl, told);
@@ -118,7 +122,8 @@ module _ (Tells : List ℕ → Answer → Type 0) where
     says = ([], nothing_more commands);
   }
 
-  pub becomes_then : (mark : Text) (after last : Place) (new end : State) (journal : Journal) (commands : List Command) (mid : Becomes Tells mark after new journal commands)
+  pub becomes_then :
+      (mark : Text) (after last : Place) (new end : State) (journal : Journal) (commands : List Command) (mid : Becomes Tells mark after new journal commands)
       → Becomes Tells mark last end mid.journal mid.commands → Becomes Tells mark last end journal commands
   becomes_then mark after last new end journal commands mid it = record {
     journal = it.journal;
@@ -128,7 +133,8 @@ module _ (Tells : List ℕ → Answer → Type 0) where
     says = (mid.says.0 ++ it.says.0, more_then commands mid.commands it.commands mid.says.0 it.says.0 mid.says.1 it.says.1);
   }
 
-  pub goes_then : (mark : Text) (before after last : Place) (old new end : State) → GoesOn Tells mark before old after new → GoesOn Tells mark after new last end
+  pub goes_then : (mark : Text) (before after last : Place) (old new end : State)
+      → GoesOn Tells mark before old after new → GoesOn Tells mark after new last end
       → GoesOn Tells mark before old last end
   goes_then mark before after last old new end one two journal commands at =
       let mid = one journal commands at in becomes_then mark after last new end journal commands mid (two mid.journal mid.commands mid.is_at)
@@ -163,7 +169,8 @@ module _ (Tells : List ℕ → Answer → Type 0) where
 
   -- ---- whatever the entries say
 
-  pub grows_then : (before mid after : Place) (old between new : State) → Grows Tells before old mid between → Grows Tells mid between after new → Grows Tells before old after new
+  pub grows_then : (before mid after : Place) (old between new : State) → Grows Tells before old mid between
+      → Grows Tells mid between after new → Grows Tells before old after new
   grows_then before mid after old between new one two journal has =
       let first = one journal has in
       let next = two first.journal first.has in
@@ -196,7 +203,8 @@ module _ (Tells : List ℕ → Answer → Type 0) where
   pub tells_sends : (last : Option Read) (before after : Place) (old new : State) → TellsLast Tells last before old after new → Sends Tells before old after new
   tells_sends last before after old new tells journal has = let it = tells journal has in (it.0, it.1)
 
-  pub sends_stays : (before mid after : Place) (old between new : State) → Sends Tells before old mid between → Stays mid between after new → Sends Tells before old after new
+  pub sends_stays : (before mid after : Place) (old between new : State)
+      → Sends Tells before old mid between → Stays mid between after new → Sends Tells before old after new
   sends_stays before mid after old between new sends stays journal has =
       let it = sends journal has in
       (it.0, record { has = stays (with_replies it.0 journal) it.1.has; told = it.1.told })
@@ -218,7 +226,9 @@ module _ (Tells : List ℕ → Answer → Type 0) where
       (subst (λ (k : ℕ). IsToldAt Tells journal.entries k (seen_answer answer)) place one.1, tt) in (
         it.0 ++ seen_answer answer ∷ [],
         record {
-          has = subst (λ (rs : List Answer). HasPlace after new (record journal { replies = rs })) (append_assoc journal.replies it.0 (seen_answer answer ∷ [])) one.0;
+          has =
+              subst (λ (rs : List Answer). HasPlace after new (record journal { replies = rs }))
+              (append_assoc journal.replies it.0 (seen_answer answer ∷ [])) one.0;
           told = told_then Tells journal.entries (length journal.replies) it.0 (seen_answer answer ∷ []) it.1.told told;
         },
         (it.0, refl),
@@ -227,7 +237,7 @@ module _ (Tells : List ℕ → Answer → Type 0) where
 -- ---- what the book's calls say
 
 module _ {R W : Type 0} (opens : R → W → Type 0) (remaining : R → Option (List ℕ)) (contents : W → Option (List ℕ)) where
-  -- what was delivered over streams that were opened was told over them
+  -- an entry that was delivered over streams that were opened has its reply from them
   pub delivers_one : (n : ℕ) (answer : Read) (before after : Place) (old new : State) (reader read : R) (writer written : W) → n ≡ before.replies + 1
       → after ≡ record before { replies = n } → opens reader writer
       → Delivers n (Some answer) old new (remaining reader) (remaining read) (contents writer) (contents written)
@@ -253,13 +263,15 @@ module _ {R W : Type 0} (opens : R → W → Type 0) (remaining : R → Option (
         ),
       )
 
-pub none_stays : (n : ℕ) (place : Place) (old new : State) (input left output written : Option (List ℕ)) → n ≡ place.replies + 1 → Delivers n None old new input left output written
+pub none_stays : (n : ℕ) (place : Place) (old new : State) (input left output written : Option (List ℕ))
+    → n ≡ place.replies + 1 → Delivers n None old new input left output written
     → Stays place old place new
 none_stays n place old new input left output written counted it journal has =
     let next : n ≡ length journal.replies + 1 = counted ∙ ap (λ k. k + 1) has.replies in
     record { rests = (it journal has.rests next).rests; entries = has.entries; replies = has.replies }
 
-failing_sending : (n : ℕ) (fault : DeskFault) (old new : State) (output written : Option (List ℕ)) → FailsToDeliver n fault old new output written → fault ≢ desk.Book
+failing_sending : (n : ℕ) (fault : DeskFault) (old new : State) (output written : Option (List ℕ))
+    → FailsToDeliver n fault old new output written → fault ≢ desk.Book
     → (journal : Journal) → Rests old journal → IsNextReply n journal → Rests new journal
 failing_sending n (desk.Unanswered why) old new output written fails kept journal rests next = (fails journal rests next).0
 failing_sending n desk.NotNow old new output written fails kept journal rests next = (fails journal rests next).0
@@ -282,7 +294,7 @@ failing_stays n fault place old new output written counted fails kept journal ha
   replies = has.replies;
 }
 
--- ---- why nothing was told
+-- ---- why no reply was received
 
 module _ {R W : Type 0} (refuses : Type 0) (opens : R → W → Type 0) (contents : W → Option (List ℕ)) where
   pub why_none : (n : ℕ) (place : Place) (old new : State) (input left output written : Option (List ℕ)) → n ≡ place.replies + 1

@@ -9,7 +9,8 @@ pub may_note : (n status : ℕ) (body : List ℕ) (old new : State) → Survives
 may_note n status body old new h = survives_weaker old new (LeavesNoted n status body old) (MayNote n old) (λ clean db leaves. (status, body, leaves)) h
 
 -- after two looks
-pub noted_after : (n : ℕ) (old one two new : State) → Survives old one (λ _. ⊥) → Survives one two (λ _. ⊥) → (HasCleanDisk one → Stays old one) → (HasCleanDisk two → Stays one two)
+pub noted_after : (n : ℕ) (old one two new : State) → Survives old one (λ _. ⊥)
+    → Survives one two (λ _. ⊥) → (HasCleanDisk one → Stays old one) → (HasCleanDisk two → Stays one two)
     → Survives two new (MayNote n two) → Survives old new (MayNote n old)
 noted_after n old one two new first second stays still last =
     survives_then old two new (λ _. ⊥) (MayNote n two) (MayNote n old) (λ _ db none. absurd none)

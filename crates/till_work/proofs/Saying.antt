@@ -47,11 +47,13 @@ none_last n journal it low next at none =
     same_none found.0 (sym none ∙ at (n - 2) (omega arith) ∙ found.1)
 
 -- the command of the last entry
-pub last_said : (n : ℕ) (journal : Journal) (commands : List Command) (it : Option (List ℕ)) (bytes : List ℕ) → 1 < n → IsNext n journal → Say journal.entries commands
+pub last_said : (n : ℕ) (journal : Journal) (commands : List Command) (it : Option (List ℕ)) (bytes : List ℕ)
+    → 1 < n → IsNext n journal → Say journal.entries commands
     → IsAt n it journal.entries → it ≡ Some bytes → (command : Command) × (slice_get commands (n - 2) ≡ Some command) × Says bytes command
 last_said n journal commands it bytes low next say at is = said_at journal.entries commands (n - 2) bytes say (sym (at (n - 2) (omega arith)) ∙ is)
 
-pub is_last : (n : ℕ) (journal : Journal) (commands : List Command) (it : Option (List ℕ)) (bytes : List ℕ) (command : Command) → 1 < n → IsNext n journal → Say journal.entries commands
+pub is_last : (n : ℕ) (journal : Journal) (commands : List Command) (it : Option (List ℕ)) (bytes : List ℕ) (command : Command)
+    → 1 < n → IsNext n journal → Say journal.entries commands
     → IsAt n it journal.entries → it ≡ Some bytes → Says bytes command → IsLast (Some command.moment) commands
 is_last n journal commands it bytes command low next say at is says =
     let found = last_said n journal commands it bytes low next say at is in
@@ -61,8 +63,10 @@ is_last n journal commands it bytes command low next say at is says =
 
 -- ---- one more
 
-pub keeps_book : (mark : Text) (n : ℕ) (journal : Journal) (commands : List Command) (request : List ℕ) (command : Command) → n < 2 ^ 32 → IsNext n journal → IsTillsBook mark journal commands
-    → Says request command → command.key ≡ key_of mark n → IsAfterLast commands command.moment → IsTillsBook mark (with_entry request journal) (commands ++ command ∷ [])
+pub keeps_book : (mark : Text) (n : ℕ) (journal : Journal) (commands : List Command) (request : List ℕ) (command : Command)
+    → n < 2 ^ 32 → IsNext n journal → IsTillsBook mark journal commands
+    → Says request command → command.key ≡ key_of mark n → IsAfterLast commands command.moment
+    → IsTillsBook mark (with_entry request journal) (commands ++ command ∷ [])
 keeps_book mark n journal commands request command small next book says key after =
     let long = as_long journal.entries commands book.says in
     let number : n ≡ length commands + 1 = omega (arith, long, next) in

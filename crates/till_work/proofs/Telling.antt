@@ -1,4 +1,4 @@
--- Lists of what entries were told.
+-- Lists of the replies of entries.
 use Rattle.std.proofs.Common.{◌≡◌, ◌≢◌, ◌∙◌, ℕ, zero, suc, ◌+◌, List, [], ◌∷◌, ◌++◌, length, Some, inl, inr, sym, ap, subst, arith, add-zero}
 use Rattle.std.specs.Prelude.{slice_get}
 use Rattle.std.specs.List.{AllByRecursion}
@@ -27,12 +27,14 @@ module _ (Tells : List ℕ → Answer → Type 0) where
   pub told_more : (entries more : List (List ℕ)) (i : ℕ) (answer : Answer) → IsToldAt Tells entries i answer → IsToldAt Tells (entries ++ more) i answer
   told_more entries more i answer told = (told.0, still_at entries more i told.0 told.1, told.2)
 
-  pub all_told_more : (entries more : List (List ℕ)) (i : ℕ) (answers : List Answer) → AreTold Tells entries i answers → AreTold Tells (entries ++ more) i answers
+  pub all_told_more : (entries more : List (List ℕ)) (i : ℕ) (answers : List Answer)
+      → AreTold Tells entries i answers → AreTold Tells (entries ++ more) i answers
   all_told_more entries more i [] told = tt
   all_told_more entries more i (answer ∷ answers) told = (told_more entries more i answer told.0, all_told_more entries more (i + 1) answers told.1)
 
   -- the one after the other
-  pub told_then : (entries : List (List ℕ)) (i : ℕ) (xs ys : List Answer) → AreTold Tells entries i xs → AreTold Tells entries (i + length xs) ys → AreTold Tells entries i (xs ++ ys)
+  pub told_then : (entries : List (List ℕ)) (i : ℕ) (xs ys : List Answer) → AreTold Tells entries i xs
+      → AreTold Tells entries (i + length xs) ys → AreTold Tells entries i (xs ++ ys)
   told_then entries i [] ys one two = subst (λ (k : ℕ). AreTold Tells entries k ys) (add-zero i) two
   told_then entries i (x ∷ xs) ys one two =
       let place : i + length (x ∷ xs) ≡ i + 1 + length xs = omega arith in
@@ -41,9 +43,11 @@ module _ (Tells : List ℕ → Answer → Type 0) where
   settled_more : (entries more : List (List ℕ)) (it : ℕ × Answer) → IsSettledAt Tells entries it → IsSettledAt Tells (entries ++ more) it
   settled_more entries more it told = (told.0, told.1, told_more entries more told.0 it.1 told.2, told.3)
 
-  pub all_settled_more : (entries more : List (List ℕ)) (settled : List (ℕ × Answer)) → AreSettled Tells entries settled → AreSettled Tells (entries ++ more) settled
+  pub all_settled_more : (entries more : List (List ℕ)) (settled : List (ℕ × Answer))
+      → AreSettled Tells entries settled → AreSettled Tells (entries ++ more) settled
   all_settled_more entries more [] told = tt
   all_settled_more entries more (it ∷ settled) told = (settled_more entries more it told.0, all_settled_more entries more settled told.1)
 
-  pub settled_then : (entries : List (List ℕ)) (xs ys : List (ℕ × Answer)) → AreSettled Tells entries xs → AreSettled Tells entries ys → AreSettled Tells entries (xs ++ ys)
+  pub settled_then : (entries : List (List ℕ)) (xs ys : List (ℕ × Answer))
+      → AreSettled Tells entries xs → AreSettled Tells entries ys → AreSettled Tells entries (xs ++ ys)
   settled_then entries xs ys one two = both (IsSettledAt Tells entries) xs ys one two

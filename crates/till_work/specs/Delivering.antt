@@ -12,9 +12,11 @@ use Rattle.till_client.specs.Replies.{seen_answer, answer_bytes}
 use Rattle.till_client.specs.Exchanges.{FailsToAsk}
 use Rattle.till_client.specs.declared.replies.Answer.{Answer as Read}
 use Rattle.till_work.specs.declared.fault.DeskFault.{DeskFault}
-use Rattle.till_work.specs.declared.fault.DeskFault.TheVariants.{Book, Full, Memory, NoCommand, OtherKey, NotLater, OtherBook, NoEntry, Unopened, Unanswered, NotNow, NotKnown}
+use Rattle.till_work.specs.declared.fault.DeskFault.TheVariants.{Book, Full, Memory, NoCommand, OtherKey, NotLater, OtherBook, NoEntry, Unopened, Unanswered}
+use Rattle.till_work.specs.declared.fault.DeskFault.TheVariants.{NotNow, NotKnown}
 
--- That entry was written whole, and the reply was read whole. The reply is recorded for that entry and no other, on the disk too. It says neither that the store
+-- That entry was written whole, and the reply was read whole. The reply is recorded for that entry and no other, on the disk too. It says neither that the
+-- store
 -- couldn't do its part nor that the server doesn't know who asks.
 pub record DeliversOne (journal : Journal) (answer : Answer) (new : State) (input left output written : Option (List ℕ)) : Type 0 where
   pub request : List ℕ
@@ -42,7 +44,8 @@ Delivers n None old new input left output written =
 abbrev pub OfOldest : Journal → (List ℕ → Type 0) → Type 0
 OfOldest journal Known = (request : List ℕ) × (waiting journal ≡ Some request) × Known request
 
--- If no reply came, or none that counts, the entry stays without one, and the fault says how much of it was written. If the book failed, nothing was written or the
+-- If no reply came, or none that counts, the entry stays without one, and the fault says how much of it was written. If the book failed, nothing was written or
+-- the
 -- whole entry, and the book is to be opened anew. Other faults never come.
 abbrev pub FailsToDeliver : ℕ → DeskFault → State → State → Option (List ℕ) → Option (List ℕ) → Type 0
 FailsToDeliver n (Unanswered why) old new output written =

@@ -31,7 +31,8 @@ pub record IsAt (mark : Text) (place : Place) (s : State) (journal : Journal) (c
   pub entries : place.entries ≡ length journal.entries
   pub replies : place.replies ≡ length journal.replies
 
--- What was entered, recorded and settled is a front part of the new journal. Each later reply is the reply to the entry of its own place, one after another, and each
+-- What was entered, recorded and settled is a front part of the new journal. Each later reply is the reply to the entry of its own place, one after another,
+-- and each
 -- later settlement is a reply to the entry of its number.
 pub record Extends (Tells : List ℕ → Answer → Type 0) (old new : Journal) : Type 0 where
   pub entries : (more : List (List ℕ)) × (new.entries ≡ old.entries ++ more)
@@ -95,7 +96,8 @@ pub record AreSent (Tells : List ℕ → Answer → Type 0) (answers : List Answ
   pub has : HasPlace place s (with_replies answers old)
   pub told : AreTold Tells old.entries (length old.replies) answers
 
--- Why the oldest entry without a reply got none: no connection was opened, or over streams that were opened no answer came, or the server did nothing. Or each entry
+-- Why the oldest entry without a reply got none: no connection was opened, or over streams that were opened no answer came, or the server did nothing. Or each
+-- entry
 -- has its reply, or there is no number for one more. Of a book that failed nothing is said.
 abbrev pub IsWhy : {R W : Type 0} → Type 0 → (R → W → Type 0) → (W → Option (List ℕ)) → Place → Journal → DeskFault → Type 0
 IsWhy refuses opens contents place journal fault.Book = ⊤
@@ -130,7 +132,8 @@ TellsLast Tells last before old after new =
     (journal : Journal) → HasPlace before old journal → (answers : List Answer) × AreSent Tells answers after new journal × IsLastOf last answers
 
 -- Some of what waited was sent, and that is why the next got no reply. Of a book that failed nothing is said.
-abbrev pub FailsToSend : {R W : Type 0} → (List ℕ → Answer → Type 0) → Type 0 → (R → W → Type 0) → (W → Option (List ℕ)) → Place → State → Place → State → DeskFault → Type 0
+abbrev pub FailsToSend : {R W : Type 0} → (List ℕ → Answer → Type 0) → Type 0 → (R → W → Type 0)
+    → (W → Option (List ℕ)) → Place → State → Place → State → DeskFault → Type 0
 FailsToSend Tells refuses opens contents before old after new it =
     it ≢ fault.Book → (journal : Journal) → HasPlace before old journal
     → (answers : List Answer) × AreSent Tells answers after new journal × IsWhy refuses opens contents after (with_replies answers journal) it

@@ -9,7 +9,8 @@ use Rattle.till_book.specs.Saying.{Say}
 use Rattle.till_book.specs.Journal.{Journal, with_entry}
 use Rattle.till_book.specs.Steps.{Rests, Stays, IsNext, IsEntered}
 use Rattle.till_work.specs.declared.fault.DeskFault.{DeskFault}
-use Rattle.till_work.specs.declared.fault.DeskFault.TheVariants.{Book, Full, Memory, NoCommand, OtherKey, NotLater, OtherBook, NoEntry, Unopened, Unanswered, NotNow, NotKnown}
+use Rattle.till_work.specs.declared.fault.DeskFault.TheVariants.{Book, Full, Memory, NoCommand, OtherKey, NotLater, OtherBook, NoEntry, Unopened, Unanswered}
+use Rattle.till_work.specs.declared.fault.DeskFault.TheVariants.{NotNow, NotKnown}
 
 -- ---- the book
 
@@ -57,7 +58,8 @@ IsUnfit mark token n NotKnown request = ⊥
 abbrev pub FindsNoLast : ℕ → DeskFault → State → State → Type 0
 FindsNoLast n Book old new = ⊤
 FindsNoLast n Memory old new = Stays old new
-FindsNoLast n OtherBook old new = Stays old new × ((journal : Journal) (commands : List Command) → Rests old journal → IsNext n journal → ¬ (Say journal.entries commands))
+FindsNoLast n OtherBook old new =
+    Stays old new × ((journal : Journal) (commands : List Command) → Rests old journal → IsNext n journal → ¬ (Say journal.entries commands))
 FindsNoLast n Full old new = ⊥
 FindsNoLast n NoCommand old new = ⊥
 FindsNoLast n OtherKey old new = ⊥
@@ -76,7 +78,8 @@ FailsToEnter mark token n NoCommand request old new = Stays old new × IsUnfit m
 FailsToEnter mark token n OtherKey request old new = Stays old new × IsUnfit mark token n OtherKey request
 FailsToEnter mark token n NotLater request old new =
     Stays old new
-    × ((journal : Journal) (commands : List Command) (command : Command) → Rests old journal → IsNext n journal → Say journal.entries commands → SaysCommand request token command
+    × ((journal : Journal) (commands : List Command) (command : Command) → Rests old journal
+    → IsNext n journal → Say journal.entries commands → SaysCommand request token command
     → ¬ (IsAfterLast commands command.moment))
 FailsToEnter mark token n OtherBook request old new =
     Stays old new × ((journal : Journal) (commands : List Command) → Rests old journal → IsNext n journal → ¬ (Say journal.entries commands))

@@ -11,7 +11,8 @@ use Rattle.till_model.specs.Laws.{entries_of, served_over, IsWitnessed}
 use Rattle.till_book.specs.Journal.{Journal}
 use Rattle.till_work.specs.Entering.{IsTillsBook}
 
--- Of a till's book, over any lives of a chain from books with nothing kept under its mark: what its entries say acts at most once, in the order of entering, and
+-- Of a till's book, over any lives of a chain from books with nothing kept under its mark: what its entries say acts at most once, in the order of entering,
+-- and
 -- what it shows as accepted acted once, with that reply.
 abbrev pub TillsBookActsOnce : Type 0
 TillsBookActsOnce =

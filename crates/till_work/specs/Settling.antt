@@ -13,7 +13,8 @@ use Rattle.till_client.specs.Exchanges.{FailsToAsk}
 use Rattle.till_work.specs.declared.settling.Settled.{Settled}
 use Rattle.till_work.specs.declared.settling.Settled.TheVariants.{Acted, Never, Open}
 use Rattle.till_work.specs.declared.fault.DeskFault.{DeskFault}
-use Rattle.till_work.specs.declared.fault.DeskFault.TheVariants.{Book, Full, Memory, NoCommand, OtherKey, NotLater, OtherBook, NoEntry, Unopened, Unanswered, NotNow, NotKnown}
+use Rattle.till_work.specs.declared.fault.DeskFault.TheVariants.{Book, Full, Memory, NoCommand, OtherKey, NotLater, OtherBook, NoEntry, Unopened, Unanswered}
+use Rattle.till_work.specs.declared.fault.DeskFault.TheVariants.{NotNow, NotKnown}
 
 -- accepted; refused for its moment; neither
 abbrev pub IsSettledBy : Answer → Settled → Type 0
@@ -59,7 +60,8 @@ Settles n settled old new input left output written =
     (journal : Journal) → Rests old journal
     → WasSettled n settled journal new input left output written ⊎ IsSettled n settled journal new input left output written
 
--- Without a result the book stays, and the fault says how much of the entry was written. If there is no such entry, nothing was. If the book failed, nothing was written
+-- Without a result the book stays, and the fault says how much of the entry was written. If there is no such entry, nothing was. If the book failed, nothing
+-- was written
 -- or the whole entry, and the book is to be opened anew. Other faults never come.
 abbrev pub FailsToSettle : ℕ → DeskFault → State → State → Option (List ℕ) → Option (List ℕ) → Type 0
 FailsToSettle n Book old new output written =
@@ -68,7 +70,8 @@ FailsToSettle n NoEntry old new output written =
     (journal : Journal) → Rests old journal → Rests new journal × Keeps output written × ((i : ℕ) → n ≡ i + 1 → slice_get journal.entries i ≡ None)
 FailsToSettle n (Unanswered why) old new output written =
     (journal : Journal) → Rests old journal → Rests new journal × OfEntry n journal (λ request. FailsToAsk why request output written)
-FailsToSettle n NotNow old new output written = (journal : Journal) → Rests old journal → Rests new journal × OfEntry n journal (λ request. Appends output written request)
+FailsToSettle n NotNow old new output written =
+    (journal : Journal) → Rests old journal → Rests new journal × OfEntry n journal (λ request. Appends output written request)
 FailsToSettle n Full old new output written = ⊥
 FailsToSettle n Memory old new output written = ⊥
 FailsToSettle n NoCommand old new output written = ⊥

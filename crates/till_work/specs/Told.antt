@@ -9,9 +9,12 @@ use Rattle.till_client.specs.Replies.{answer_bytes}
 use Rattle.till_client.specs.Exchanges.{FailsToAsk}
 use Rattle.till_client.specs.declared.exchange.AskFault.{AskFault}
 
--- Over streams that were opened, the request was written whole and the answer was read whole. The answer is neither a 503 nor `no_counter`. The streams are values:
+-- Over streams that were opened, the request was written whole and the answer was read whole. The answer is neither a 503 nor `no_counter`. The streams are
+-- values:
 -- `reader` and `writer` as they were opened, `read` and `written` after that.
-pub record IsTold {R W : Type 0} (opens : R → W → Type 0) (remaining : R → Option (List ℕ)) (contents : W → Option (List ℕ)) (request : List ℕ) (answer : Answer) : Type 0 where
+pub record IsTold {R W : Type 0} (opens : R → W → Type 0) (remaining : R → Option (List ℕ))
+    (contents : W → Option (List ℕ)) (request : List ℕ) (answer : Answer) :
+    Type 0 where
   pub reader : R
   pub writer : W
   pub read : R

@@ -1,5 +1,11 @@
 -- The lines of actors, in the order of their join.
-use Rattle.shop_schema.proofs.Common.{◌≡◌, ◌==◌, ◌&&◌, ◌<◌, ◌+◌, ℕ, false, filter, List, [], ◌∷◌, map, Option, Some, None, refl, sym, ap, ◌∙◌, arith, is_eq, is_lt, inl, inr, Less, Equal, Greater, Ordering, ◌⊎◌, flat_map, AllByRecursion, nat_cmp, ordering_then, ordering_reverse, slice_cmp, tied_itself, nat_cmp_total, nat_list_cmp_total, or_null, State, value_cmp, value_cmp-Text, then-Equal, IsAscending, Output, output_cmp, map-map, map-flat_map, IsPermutation-same, ascending-map, ascending_weaker, ascending-append, ascending-filter, all-map, all-flat_map, all_weaker, number_value, answers, number_cmp, joined_rows, Climbs, numbered, numbered_from, NamesRowsOf, Actor, Film, Catalogue, Books, is_cast, films_of, categories_by_name, shop_schema, IsShop, StandsFor, actor_columns}
+use Rattle.shop_schema.proofs.Common.{◌≡◌, ◌==◌, ◌&&◌, ◌<◌, ◌+◌, ℕ, false, filter, List, [], ◌∷◌, map, Option, Some, None, refl, sym, ap, ◌∙◌, arith, is_eq}
+use Rattle.shop_schema.proofs.Common.{is_lt, inl, inr, Less, Equal, Greater, Ordering, ◌⊎◌, flat_map, AllByRecursion, nat_cmp, ordering_then, ordering_reverse}
+use Rattle.shop_schema.proofs.Common.{slice_cmp, tied_itself, nat_cmp_total, nat_list_cmp_total, or_null, State, value_cmp, value_cmp-Text, then-Equal}
+use Rattle.shop_schema.proofs.Common.{IsAscending, Output, output_cmp, map-map, map-flat_map, IsPermutation-same, ascending-map, ascending_weaker}
+use Rattle.shop_schema.proofs.Common.{ascending-append, ascending-filter, all-map, all-flat_map, all_weaker, number_value, answers, number_cmp, joined_rows}
+use Rattle.shop_schema.proofs.Common.{Climbs, numbered, numbered_from, NamesRowsOf, Actor, Film, Catalogue, Books, is_cast, films_of, categories_by_name}
+use Rattle.shop_schema.proofs.Common.{shop_schema, IsShop, StandsFor, actor_columns}
 use Rattle.sqlite.specs.declared.types.Value.TheVariants.{Text}
 use Rattle.sqlite.specs.State.{Shown}
 use Rattle.sqlite_value.specs.Order as sql
@@ -44,12 +50,16 @@ first_decides Greater p r h = absurd cc
 
 films_less : (x y : FilmIn) → Comes x y → film_order (Some x) (Some y) ≡ Less
 films_less x y comes =
-    (λ i. ordering_then (value_cmp-Text x.0.1 y.0.1 i) (ordering_then (number_cmp x.0.0 y.0.0 i) (ordering_then (value_cmp-Text x.1.1.title y.1.1.title i) (then-Equal (number_cmp x.1.0 y.1.0 i) i)))) ∙ go comes
+    (λ i.
+    ordering_then (value_cmp-Text x.0.1 y.0.1 i)
+    (ordering_then (number_cmp x.0.0 y.0.0 i) (ordering_then (value_cmp-Text x.1.1.title y.1.1.title i) (then-Equal (number_cmp x.1.0 y.1.0 i) i))))
+    ∙ go comes
   where
     go : Comes x y → ordering_then (slice_cmp nat_cmp x.0.1 y.0.1) (ordering_then (nat_cmp x.0.0 y.0.0) (by_text title_of x.1 y.1)) ≡ Less
     go (inl h) = first_decides (slice_cmp nat_cmp x.0.1 y.0.1) (nat_cmp x.0.0 y.0.0) (by_text title_of x.1 y.1) h
     go (inr h) =
-        let names : slice_cmp nat_cmp x.0.1 y.0.1 ≡ Equal = ap (λ (c : ℕ × model.Text). slice_cmp nat_cmp x.0.1 c.1) (sym h.0) ∙ tied_itself nat_list_cmp_total x.0.1 in
+        let names : slice_cmp nat_cmp x.0.1 y.0.1 ≡ Equal =
+        ap (λ (c : ℕ × model.Text). slice_cmp nat_cmp x.0.1 c.1) (sym h.0) ∙ tied_itself nat_list_cmp_total x.0.1 in
         let numbers : nat_cmp x.0.0 y.0.0 ≡ Equal = ap (λ (c : ℕ × model.Text). nat_cmp x.0.0 c.0) (sym h.0) ∙ tied_itself nat_cmp_total x.0.0 in
         (λ i. ordering_then (names i) (ordering_then (numbers i) (by_text title_of x.1 y.1))) ∙ h.1
 
@@ -70,17 +80,20 @@ climbs a b later =
 
 -- ---- all lines rise
 
-groups_up : (films : ℕ × model.Text → List (ℕ × Film)) → ((c : ℕ × model.Text) → IsAscending (λ f g. by_text title_of f g ≡ Less) (films c)) → (cs : List (ℕ × model.Text)) → IsAscending (λ c d. by_text name_of c d ≡ Less) cs
+groups_up : (films : ℕ × model.Text → List (ℕ × Film)) → ((c : ℕ × model.Text) → IsAscending (λ f g. by_text title_of f g ≡ Less) (films c))
+    → (cs : List (ℕ × model.Text)) → IsAscending (λ c d. by_text name_of c d ≡ Less) cs
     → IsAscending Comes (flat_map (λ (c : ℕ × model.Text). map (λ (film : ℕ × Film). (c, film)) (films c)) cs)
 groups_up films each [] up = tt
 groups_up films each (c ∷ cs) up =
     let behind : (d : ℕ × model.Text) → ℕ × Film → FilmIn = λ d film. (d, film) in
     ascending-append Comes (map (behind c) (films c)) (flat_map (λ d. map (behind d) (films d)) cs)
-    (ascending-map Comes (behind c) (films c) (ascending_weaker (λ f g. by_text title_of f g ≡ Less) (λ f g. Comes (behind c f) (behind c g)) (λ f g h. inr (refl, h)) (films c) (each c)))
+    (ascending-map Comes (behind c) (films c)
+    (ascending_weaker (λ f g. by_text title_of f g ≡ Less) (λ f g. Comes (behind c f) (behind c g)) (λ f g h. inr (refl, h)) (films c) (each c)))
     (groups_up films each cs up.1)
     (all-map (λ x. AllByRecursion (Comes x) (flat_map (λ d. map (behind d) (films d)) cs)) (behind c)
     (λ f. all-flat_map (Comes (behind c f)) (λ d. map (behind d) (films d)) cs
-    (all_weaker (λ d. by_text name_of c d ≡ Less) (λ d. AllByRecursion (Comes (behind c f)) (map (behind d) (films d))) (λ d h. all-map (Comes (behind c f)) (behind d) (λ g. inl h) (films d)) cs up.0))
+    (all_weaker (λ d. by_text name_of c d ≡ Less) (λ d. AllByRecursion (Comes (behind c f)) (map (behind d) (films d)))
+    (λ d h. all-map (Comes (behind c f)) (behind d) (λ g. inl h) (films d)) cs up.0))
     (films c))
 
 films_up : (catalogue : Catalogue) (actor : ℕ) → IsAscending Comes (films_by_category catalogue actor)
@@ -88,9 +101,12 @@ films_up catalogue actor =
     groups_up (λ c. films_of catalogue actor c.0)
     (λ c. let chosen = filter (λ (it : ℕ × Film). it.1.category == c.0 && is_cast catalogue it.0 actor) (numbered catalogue.films) in
     ascending_weaker (Rises title_of) (λ f g. by_text title_of f g ≡ Less) (λ f g h. h.0) (films_of catalogue actor c.0)
-    (sorted_up title_of chosen (ascending-filter (λ (a b : ℕ × Film). a.0 < b.0) (λ (it : ℕ × Film). it.1.category == c.0 && is_cast catalogue it.0 actor) (numbered catalogue.films) (numbered_rise 1 catalogue.films))))
+    (sorted_up title_of chosen
+    (ascending-filter (λ (a b : ℕ × Film). a.0 < b.0) (λ (it : ℕ × Film). it.1.category == c.0 && is_cast catalogue it.0 actor)
+    (numbered catalogue.films) (numbered_rise 1 catalogue.films))))
     (categories_by_name catalogue)
-    (ascending_weaker (Rises name_of) (λ c d. by_text name_of c d ≡ Less) (λ c d h. h.0) (categories_by_name catalogue) (sorted_up name_of (numbered catalogue.categories) (numbered_rise 1 catalogue.categories)))
+    (ascending_weaker (Rises name_of) (λ c d. by_text name_of c d ≡ Less) (λ c d h. h.0) (categories_by_name catalogue)
+    (sorted_up name_of (numbered catalogue.categories) (numbered_rise 1 catalogue.categories)))
 
 lines_up : (actor : ℕ × Actor) (l : List FilmIn) → IsAscending Comes l → IsAscending Later (lines_with actor l)
 lines_up actor [] up = (tt, tt)
@@ -101,17 +117,22 @@ of_actor : (actor : ℕ × Actor) (l : List FilmIn) (P : ActorLine → Type 0) �
 of_actor actor [] P h = (h None, tt)
 of_actor actor (it ∷ l) P h = all-map P (λ film. (actor, Some film)) (λ film. h (Some film)) (it ∷ l)
 
-actors_up : (catalogue : Catalogue) (k : ℕ) (actors : List Actor) → IsAscending Later (flat_map (λ (actor : ℕ × Actor). lines_with actor (films_by_category catalogue actor.0)) (numbered_from k actors))
+actors_up : (catalogue : Catalogue) (k : ℕ) (actors : List Actor)
+    → IsAscending Later (flat_map (λ (actor : ℕ × Actor). lines_with actor (films_by_category catalogue actor.0)) (numbered_from k actors))
 actors_up catalogue k [] = tt
 actors_up catalogue k (actor ∷ actors) =
     let films = films_by_category catalogue k in
     ascending-append Later (lines_with (k, actor) films) _ (lines_up (k, actor) films (films_up catalogue k)) (actors_up catalogue (k + 1) actors)
-    (of_actor (k, actor) films _ (λ film. all-flat_map (λ line. Later ((k, actor), film) line) (λ (it : ℕ × Actor). lines_with it (films_by_category catalogue it.0)) (numbered_from (k + 1) actors)
-    (all_weaker (λ (it : ℕ × Actor). k < it.0) _ (λ it h. of_actor it (films_by_category catalogue it.0) _ (λ other. inl h)) (numbered_from (k + 1) actors) (above_from (k + 1) actors k (omega arith)))))
+    (of_actor (k, actor) films _ (λ film.
+    all-flat_map (λ line. Later ((k, actor), film) line)
+    (λ (it : ℕ × Actor). lines_with it (films_by_category catalogue it.0)) (numbered_from (k + 1) actors)
+    (all_weaker (λ (it : ℕ × Actor). k < it.0) _ (λ it h. of_actor it (films_by_category catalogue it.0) _ (λ other. inl h))
+    (numbered_from (k + 1) actors) (above_from (k + 1) actors k (omega arith)))))
 
 -- ---- the rows
 
-pub shows_actors : (old new : State) (rows : List sql.Row) (books : Books) → IsShop old → Shown SELECT_ACTORS.now [] old new rows → StandsFor old.now.trees books → AreApart books.catalogue.casts → NamesRowsOf books.catalogue books.catalogue
+pub shows_actors : (old new : State) (rows : List sql.Row) (books : Books) → IsShop old → Shown SELECT_ACTORS.now [] old new rows
+    → StandsFor old.now.trees books → AreApart books.catalogue.casts → NamesRowsOf books.catalogue books.catalogue
     → rows ≡ map shown_actor (actor_lines books.catalogue)
 shows_actors old new rows books shop h s apart names =
     let catalogue = books.catalogue in
@@ -122,5 +143,7 @@ shows_actors old new rows books shop h s apart names =
     (λ actor. map actor_output (lines_with actor (films_by_category catalogue actor.0)))
     (λ actor. actor_brings catalogue names.film_categories db s.categories s.casts s.films apart (films_there catalogue catalogue.casts names.cast_films) actor)
     rows (answers shop_schema SELECT_ACTORS.now actors_query [] old new shop actors_mean rows h)
-    (map actor_output (actor_lines catalogue)) (IsPermutation-same _ _ (sym (map-flat_map actor_output (λ (actor : ℕ × Actor). lines_with actor (films_by_category catalogue actor.0)) (numbered catalogue.actors)))) up
+    (map actor_output (actor_lines catalogue)) (IsPermutation-same _ _
+    (sym (map-flat_map actor_output (λ (actor : ℕ × Actor). lines_with actor (films_by_category catalogue actor.0)) (numbered catalogue.actors))))
+    up
     ∙ map-map (λ (o : Output). o.1) actor_output (actor_lines catalogue)

@@ -1,5 +1,8 @@
 -- Numbered rows in the byte order of a text. Rows with the same text stay in the order of their numbers.
-use Rattle.shop_schema.proofs.Common.{◌≡◌, ◌==◌, ◌<◌, ℕ, Bool, true, false, cond, true≢false, List, [], ◌∷◌, refl, sym, ap, ◌∙◌, arith, Less, Equal, Greater, Ordering, IsPermutation, is_le, nat_cmp, ordering_then, ordering_reverse, IsTotalOrder, slice_cmp, AllByRecursion, nat_tests, on_total, then_total, nat_cmp_total, nat_list_cmp_total, IsPermutation-refl, IsPermutation-trans, IsPermutation-cons, IsPermutation-middle, IsAscending, all_both, Text, is_before_text, insert_by, sorted_by}
+use Rattle.shop_schema.proofs.Common.{◌≡◌, ◌==◌, ◌<◌, ℕ, Bool, true, false, cond, true≢false, List, [], ◌∷◌, refl, sym, ap, ◌∙◌, arith, Less, Equal, Greater}
+use Rattle.shop_schema.proofs.Common.{Ordering, IsPermutation, is_le, nat_cmp, ordering_then, ordering_reverse, IsTotalOrder, slice_cmp, AllByRecursion}
+use Rattle.shop_schema.proofs.Common.{nat_tests, on_total, then_total, nat_cmp_total, nat_list_cmp_total, IsPermutation-refl, IsPermutation-trans}
+use Rattle.shop_schema.proofs.Common.{IsPermutation-cons, IsPermutation-middle, IsAscending, all_both, Text, is_before_text, insert_by, sorted_by}
 use Rattle.view_texts.proofs.Orders.{less}
 
 -- ---- any order
@@ -8,7 +11,10 @@ module _ {X : Type 0} (first : X → X → Bool) where
   all-insert : (P : X → Type 0) (x : X) (ys : List X) → P x → AllByRecursion P ys → AllByRecursion P (insert_by first x ys)
   all-insert P x [] h all = (h, tt)
   all-insert P x (y ∷ ys) h all =
-      elim (first x y) as (λ b. AllByRecursion P (cond b (x ∷ y ∷ ys) (y ∷ insert_by first x ys))) [ true ↦ (h, all) | false ↦ (all.0, all-insert P x ys h all.1) ]
+      elim (first x y) as (λ b. AllByRecursion P (cond b (x ∷ y ∷ ys) (y ∷ insert_by first x ys))) [
+        | true ↦ (h, all)
+        | false ↦ (all.0, all-insert P x ys h all.1)
+      ]
 
   all-sorted : (P : X → Type 0) (xs : List X) → AllByRecursion P xs → AllByRecursion P (sorted_by first xs)
   all-sorted P [] all = tt
@@ -57,7 +63,8 @@ module _ {A : Type 0} (text : ℕ × A → Text) where
 
   comes_later : (x y : ℕ × A) → x.0 < y.0 → before x y ≡ false → by_text y x ≡ Less
   comes_later x y low is =
-      by_text_total.antisymm y x ∙ ap ordering_reverse (ap (ordering_then (slice_cmp nat_cmp (text x) (text y))) (less x.0 y.0 low) ∙ go (slice_cmp nat_cmp (text x) (text y)) is)
+      by_text_total.antisymm y x
+      ∙ ap ordering_reverse (ap (ordering_then (slice_cmp nat_cmp (text x) (text y))) (less x.0 y.0 low) ∙ go (slice_cmp nat_cmp (text x) (text y)) is)
     where
       go : (o : Ordering) → is_le o ≡ false → ordering_then o Less ≡ Greater
       go Less h = absurd (true≢false h)
@@ -71,7 +78,10 @@ module _ {A : Type 0} (text : ℕ × A → Text) where
       go : (b : Bool) → before x y ≡ b → IsAscending Rises (insert_by before x ys) → IsAscending Rises (cond b (x ∷ y ∷ ys) (y ∷ insert_by before x ys))
       go true is more =
           let here = comes_first x y low.0 is in (
-            ((here, other_up x.0 y.0 low.0), all_both (λ (z : ℕ × A). x.0 < z.0) (Rises y) (Rises x) (λ z h r. (by_text_total.trans x y z here r.0, other_up x.0 z.0 h)) ys low.1 up.0),
+            (
+              (here, other_up x.0 y.0 low.0),
+              all_both (λ (z : ℕ × A). x.0 < z.0) (Rises y) (Rises x) (λ z h r. (by_text_total.trans x y z here r.0, other_up x.0 z.0 h)) ys low.1 up.0,
+            ),
             up,
           )
       go false is more = (all-insert before (Rises y) x ys (comes_later x y low.0 is, other_down x.0 y.0 low.0) up.0, more)

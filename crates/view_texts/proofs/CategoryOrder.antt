@@ -1,5 +1,6 @@
 -- Rows that are put among other rows, one after another.
-use Rattle.shop_schema.proofs.Common.{◌≡◌, ℕ, List, [], ◌∷◌, ◌++◌, map, take, drop, Option, Some, refl, sym, ap, ◌∙◌, option_to_list, map-append, Text, sells_more, insert_by, sorted_by}
+use Rattle.shop_schema.proofs.Common.{◌≡◌, ℕ, List, [], ◌∷◌, ◌++◌, map, take, drop, Option, Some, refl, sym, ap, ◌∙◌, option_to_list, map-append, Text}
+use Rattle.shop_schema.proofs.Common.{sells_more, insert_by, sorted_by}
 use Rattle.shop_views.specs.Sales.{seen_category}
 use Rattle.shop_views.specs.declared.sales.CategoryRow.{CategoryRow}
 use Rattle.shop_schema.proofs.Lists.{flat_map_push}
@@ -38,7 +39,8 @@ module _ (start : List (Text × ℕ)) (sums rest : List CategorySum) (it : Categ
   parts : map seen_sum sums ≡ map seen_sum rest ++ (it.name, it.sum) ∷ []
   parts = ap (map seen_sum) popped ∙ map-append seen_sum rest (it ∷ [])
 
-  pub popped_put : (rows next : List CategoryRow) (total : ℕ) → it.sum ≡ Some total → map seen_category next ≡ insert_by sells_more (it.name, total) (map seen_category rows)
+  pub popped_put : (rows next : List CategoryRow) (total : ℕ) → it.sum ≡ Some total
+      → map seen_category next ≡ insert_by sells_more (it.name, total) (map seen_category rows)
       → start ≡ all_put (sold (map seen_sum sums)) (map seen_category rows) → start ≡ all_put (sold (map seen_sum rest)) (map seen_category next)
   popped_put rows next total some is so_far =
       so_far ∙ ap (λ l. all_put (sold l) (map seen_category rows)) (parts ∙ ap (λ o. map seen_sum rest ++ (it.name, o) ∷ []) some)

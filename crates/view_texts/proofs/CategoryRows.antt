@@ -1,5 +1,7 @@
 -- The rows of the categories: what their text means, and what it shows of the books.
-use Rattle.shop_schema.proofs.Common.{◌≡◌, ℕ, List, [], ◌∷◌, map, refl, ◌∙◌, col, inner, end, Output, State, map-map, IsPermutation-same, answers, joined_rows, numbered, Text, Books, shop_schema, named_columns, IsShop, StandsFor, ascending, Key, Binary, Term, Query, IsQuery, Selects, is_query, joined_query}
+use Rattle.shop_schema.proofs.Common.{◌≡◌, ℕ, List, [], ◌∷◌, map, refl, ◌∙◌, col, inner, end, Output, State, map-map, IsPermutation-same, answers, joined_rows}
+use Rattle.shop_schema.proofs.Common.{numbered, Text, Books, shop_schema, named_columns, IsShop, StandsFor, ascending, Key, Binary, Term, Query, IsQuery}
+use Rattle.shop_schema.proofs.Common.{Selects, is_query, joined_query}
 use Rattle.std.proofs.lemmas.List.Concat.{flat_map_single}
 use Rattle.sqlite_value.specs.Order as sql
 use Rattle.sqlite.specs.State.{Shown}
@@ -30,7 +32,8 @@ unfolding everything
 categories_ask = is_query SELECT_CATEGORIES.now (record { parsed = _; is = refl; selects = refl; untimed = refl })
 
 -- all categories, in the order of their numbers
-pub shows_categories : (old new : State) (rows : List sql.Row) (books : Books) → IsShop old → Shown SELECT_CATEGORIES.now [] old new rows → StandsFor old.now.trees books
+pub shows_categories : (old new : State) (rows : List sql.Row) (books : Books) → IsShop old
+    → Shown SELECT_CATEGORIES.now [] old new rows → StandsFor old.now.trees books
     → rows ≡ map shown_category (numbered books.catalogue.categories)
 shows_categories old new rows books shop h s =
     let all = numbered books.catalogue.categories in
@@ -39,5 +42,6 @@ shows_categories old new rows books shop h s =
     (λ x. output x ∷ []) (λ x. IsPermutation-same _ _ refl)
     rows (answers shop_schema SELECT_CATEGORIES.now categories_query [] old new shop categories_mean rows h)
     (map output all) (IsPermutation-same _ _ (flat_map_single output all))
-    (climb_up (λ (it : ℕ × Text). it.0) shown_category (inner 7 end) [] category_shows (col 1 1) all (counted_rise (λ (it : ℕ × Text). it.0) 1 all (numbered_counted 1 books.catalogue.categories)))
+    (climb_up (λ (it : ℕ × Text). it.0) shown_category (inner 7 end) [] category_shows (col 1 1) all
+    (counted_rise (λ (it : ℕ × Text). it.0) 1 all (numbered_counted 1 books.catalogue.categories)))
     ∙ map-map (λ (o : Output). o.1) output all

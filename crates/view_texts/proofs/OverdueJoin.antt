@@ -1,6 +1,12 @@
 -- The join of the copies that are out: what its text means, and what it shows of the books. It shows each open rental of the branch, with its terms, its
 -- customer and the title of its film.
-use Rattle.shop_schema.proofs.Common.{◌≡◌, ◌≤◌, ◌==◌, ◌&&◌, ℕ, List, [], ◌∷◌, ◌++◌, map, filter, length, true, cond, refl, sym, ap, subst, ◌∙◌, arith, append-nil, append_assoc, is_none, AllByRecursion, flat_map, filter-append, IsPermutation-refl, Value, Null, or_null, column, Trees, col, inner, Output, overlay, State, map-map, all-filter, IsPermutation-same, HasRows, PicksOne, columns_of, number_value, answers, kept_as_map, or_blank, shown_of, equals, left_pair, joined_rows, Row, is_of, is_row, Customer, Film, Rental, Terms, Books, head, same_test, filter_filter, shop_schema, moment_value, customer_table, customer_columns, rental_columns, terms_columns, out_columns, is_open, out_of, IsHeld, StandsFor, Holds, CopyRows, Customers, Rentals, TermRows, ascending, Key, Binary, Term, Query, Join, left, end, IsQuery, Selects, is_query, joined_query, are_equal}
+use Rattle.shop_schema.proofs.Common.{◌≡◌, ◌≤◌, ◌==◌, ◌&&◌, ℕ, List, [], ◌∷◌, ◌++◌, map, filter, length, true, cond, refl, sym, ap, subst, ◌∙◌, arith}
+use Rattle.shop_schema.proofs.Common.{append-nil, append_assoc, is_none, AllByRecursion, flat_map, filter-append, IsPermutation-refl, Value, Null, or_null}
+use Rattle.shop_schema.proofs.Common.{column, Trees, col, inner, Output, overlay, State, map-map, all-filter, IsPermutation-same, HasRows, PicksOne, columns_of}
+use Rattle.shop_schema.proofs.Common.{number_value, answers, kept_as_map, or_blank, shown_of, equals, left_pair, joined_rows, Row, is_of, is_row, Customer}
+use Rattle.shop_schema.proofs.Common.{Film, Rental, Terms, Books, head, same_test, filter_filter, shop_schema, moment_value, customer_table, customer_columns}
+use Rattle.shop_schema.proofs.Common.{rental_columns, terms_columns, out_columns, is_open, out_of, IsHeld, StandsFor, Holds, CopyRows, Customers, Rentals}
+use Rattle.shop_schema.proofs.Common.{TermRows, ascending, Key, Binary, Term, Query, Join, left, end, IsQuery, Selects, is_query, joined_query, are_equal}
 use Rattle.std.specs.Prelude.{Bool}
 use Rattle.std.proofs.lemmas.List.{length-append}
 use Rattle.sqlite.specs.declared.types.Value.TheVariants.{Text}
@@ -79,7 +85,8 @@ module _ {A : Type 0} (all : List (Row A)) (once : (b n : ℕ) → PicksOne (is_
         alone_from (before ++ x ∷ []) rows (is ∙ sym (append_assoc before (x ∷ []) rows)),
       )
 
-each_alike : {X Y : Type 0} (P : X → Type 0) (f g : X → List Y) → ((x : X) → P x → f x ≡ g x) → (xs : List X) → AllByRecursion P xs → flat_map f xs ≡ flat_map g xs
+each_alike : {X Y : Type 0} (P : X → Type 0) (f g : X → List Y) → ((x : X) → P x → f x ≡ g x)
+    → (xs : List X) → AllByRecursion P xs → flat_map f xs ≡ flat_map g xs
 each_alike P f g alike [] all = refl
 each_alike P f g alike (x ∷ xs) all = (λ i. alike x all.0 i ++ each_alike P f g alike xs all.1 i)
 
@@ -100,7 +107,8 @@ rental_title books x = title_of (copy_films books (filter (is_row x.branch x.it.
 -- what is shown of an open rental, with its period, its customer and the title
 abbrev pub shown_with : Row Rental → Value → List Customer → Value → sql.Row
 shown_with x period customers title =
-    moment_value x.it.rented ∷ period ∷ or_null (λ (c : Customer). Text c.person.first) (head customers) ∷ or_null (λ (c : Customer). Text c.person.last) (head customers)
+    moment_value x.it.rented ∷ period ∷ or_null (λ (c : Customer). Text c.person.first) (head customers)
+    ∷ or_null (λ (c : Customer). Text c.person.last) (head customers)
     ∷ or_null (λ (c : Customer). Text c.person.phone) (head customers) ∷ title ∷ []
 
 abbrev pub period_of : List Terms → Value
@@ -128,26 +136,34 @@ module _ (b : ℕ) (books : Books) (held : IsHeld books) (db : Trees) (s : Stand
   abbrev shown_by : sql.Row → sql.Row → Value → sql.Row
   shown_by c3 c4 title = moment_value x.it.rented ∷ column c3 3 ∷ column c4 2 ∷ column c4 3 ∷ column c4 6 ∷ title ∷ []
 
-  copy_brings : (c3 c4 : sql.Row) → shown_of outs_query (overlay db []) with_copy (params ∷ out ∷ rental ∷ (Null ∷ c3) ∷ (Null ∷ c4) ∷ []) ≡ if_mine (shown_by c3 c4 (rental_title books x))
+  copy_brings : (c3 c4 : sql.Row)
+      → shown_of outs_query (overlay db []) with_copy (params ∷ out ∷ rental ∷ (Null ∷ c3) ∷ (Null ∷ c4) ∷ []) ≡ if_mine (shown_by c3 c4 (rental_title books x))
   copy_brings c3 c4 =
       of_copy books db s 1 title_of refl (λ n film. refl)
       (λ r6. cond (equals (number_value x.branch) (number_value b) && true) ((number_value x.number ∷ [], shown_by c3 c4 (column r6 2)) ∷ []) [])
-      (λ title. if_mine (shown_by c3 c4 title)) (λ c. kept_if x.branch b _ _) (λ r. refl) x.branch (picks_row x.branch books.copies (held.numbers.rows CopyRows x.branch)) x.it.copy
+      (λ title. if_mine (shown_by c3 c4 title)) (λ c. kept_if x.branch b _ _) (λ r. refl) x.branch
+      (picks_row x.branch books.copies (held.numbers.rows CopyRows x.branch)) x.it.copy
 
   -- ---- its customer, its terms, and the rental
 
-  customer_brings : (c3 : sql.Row) → shown_of outs_query (overlay db []) with_customer (params ∷ out ∷ rental ∷ (Null ∷ c3) ∷ []) ≡ if_mine (shown_with x (column c3 3) (renters books x) (rental_title books x))
+  customer_brings : (c3 : sql.Row)
+      → shown_of outs_query (overlay db []) with_customer (params ∷ out ∷ rental ∷ (Null ∷ c3) ∷ [])
+      ≡ if_mine (shown_with x (column c3 3) (renters books x) (rental_title books x))
   customer_brings c3 =
-      by_pair (length customer_table.columns) customer_columns (db 23) books.customers s.customers (λ r4. shown_of outs_query (overlay db []) with_copy (params ∷ out ∷ rental ∷ (Null ∷ c3) ∷ r4 ∷ [])) (λ r. refl)
+      by_pair (length customer_table.columns) customer_columns (db 23) books.customers s.customers
+      (λ r4. shown_of outs_query (overlay db []) with_copy (params ∷ out ∷ rental ∷ (Null ∷ c3) ∷ r4 ∷ [])) (λ r. refl)
       (λ row. refl) (λ row. refl) (λ r. refl) (λ r. refl) x.branch (picks_row x.branch books.customers (held.numbers.rows Customers x.branch))
-      (λ rows. if_mine (shown_with x (column c3 3) (map (λ (row : Row Customer). row.it) rows) (rental_title books x))) (copy_brings c3 (columns_of (length customer_table.columns) []))
+      (λ rows. if_mine (shown_with x (column c3 3) (map (λ (row : Row Customer). row.it) rows) (rental_title books x)))
+      (copy_brings c3 (columns_of (length customer_table.columns) []))
       (λ row. copy_brings c3 (customer_columns row)) x.it.customer
 
   terms_bring : shown_of outs_query (overlay db []) with_terms (params ∷ out ∷ rental ∷ []) ≡ if_mine (shown_open books x)
   terms_bring =
-      by_pair 5 terms_columns (db 57) books.terms s.more.rows.0 (λ r3. shown_of outs_query (overlay db []) with_customer (params ∷ out ∷ rental ∷ r3 ∷ [])) (λ r. refl) (λ row. refl) (λ row. refl) (λ r. refl)
+      by_pair 5 terms_columns (db 57) books.terms s.more.rows.0
+      (λ r3. shown_of outs_query (overlay db []) with_customer (params ∷ out ∷ rental ∷ r3 ∷ [])) (λ r. refl) (λ row. refl) (λ row. refl) (λ r. refl)
       (λ r. refl) x.branch (picks_row x.branch books.terms (held.numbers.rows TermRows x.branch))
-      (λ rows. if_mine (shown_with x (period_of (map (λ (row : Row Terms). row.it) rows)) (renters books x) (rental_title books x))) (customer_brings (columns_of 5 [])) (λ row. customer_brings (terms_columns row)) x.number
+      (λ rows. if_mine (shown_with x (period_of (map (λ (row : Row Terms). row.it) rows)) (renters books x) (rental_title books x)))
+      (customer_brings (columns_of 5 [])) (λ row. customer_brings (terms_columns row)) x.number
 
   abbrev brought : List Output
   brought = shown_of outs_query (overlay db []) with_rental (params ∷ out ∷ [])
@@ -155,7 +171,8 @@ module _ (b : ℕ) (books : Books) (held : IsHeld books) (db : Trees) (s : Stand
   -- a rental of the books is its own row
   rental_brings : filter (is_row x.branch x.number) books.rentals ≡ x ∷ [] → brought ≡ if_mine (shown_open books x)
   rental_brings alone =
-      left_pair 7 rental_columns (db 27) books.rentals s.rentals after (λ r. refl) (λ it. it.branch) (λ it. it.number) (λ it. refl) (λ it. refl) (λ r. refl) (λ r. refl) x.branch x.number
+      left_pair 7 rental_columns (db 27) books.rentals s.rentals after (λ r. refl) (λ it. it.branch)
+      (λ it. it.number) (λ it. refl) (λ it. refl) (λ r. refl) (λ r. refl) x.branch x.number
       (picks_row x.branch books.rentals (held.numbers.rows Rentals x.branch) x.number)
       ∙ ap (λ (l : List (Row Rental)). flat_map (λ c2. after (Null ∷ c2)) (or_blank 7 (map rental_columns l))) alone
       ∙ append-nil _ ∙ terms_bring
@@ -171,21 +188,26 @@ opens_of b books = filter (of_which (λ (it : Rental). is_none it.returned) b) b
 abbrev open_output : Books → Row Rental → Output
 open_output books x = (number_value x.number ∷ [], shown_open books x)
 
-pub shows_opens : (old new : State) (b : ℕ) (rows : List sql.Row) (books : Books) → Holds old books → IsHeld books → Shown SELECT_OUTS.now (number_value b ∷ []) old new rows
+pub shows_opens : (old new : State) (b : ℕ) (rows : List sql.Row) (books : Books)
+    → Holds old books → IsHeld books → Shown SELECT_OUTS.now (number_value b ∷ []) old new rows
     → rows ≡ map (shown_open books) (opens_of b books)
 shows_opens old new b rows books holds held h =
     let db = old.now.trees in
     let opened = filter is_open books.rentals in
     let once : (c n : ℕ) → PicksOne (is_row c n) books.rentals = λ c n. picks_row c books.rentals (held.numbers.rows Rentals c) n in
-    let each = all-filter (λ (x : Row Rental). filter (is_row x.branch x.number) books.rentals ≡ x ∷ []) is_open books.rentals (alone_from books.rentals once [] books.rentals refl) in
+    let each =
+    all-filter (λ (x : Row Rental). filter (is_row x.branch x.number) books.rentals ≡ x ∷ []) is_open books.rentals
+    (alone_from books.rentals once [] books.rentals refl) in
     joined_rows 43 with_rental out_tests out_shows out_order (number_value b ∷ []) db 3 (λ row. out_columns (out_of row)) opened
     (subst (HasRows 3 (db 43)) (map-map out_columns out_of opened) holds.stands.outs) refl (λ r. refl)
     (λ x. brought b books held db holds.stands x) (λ x. IsPermutation-refl _)
     rows (answers shop_schema SELECT_OUTS.now outs_query (number_value b ∷ []) old new holds.schema_is outs_mean rows h)
     (map (open_output books) (opens_of b books))
     (IsPermutation-same _ _
-    (each_alike (λ (x : Row Rental). filter (is_row x.branch x.number) books.rentals ≡ x ∷ []) (brought b books held db holds.stands) (λ x. cond (x.branch == b) (open_output books x ∷ []) [])
+    (each_alike (λ (x : Row Rental). filter (is_row x.branch x.number) books.rentals ≡ x ∷ [])
+    (brought b books held db holds.stands) (λ x. cond (x.branch == b) (open_output books x ∷ []) [])
     (rental_brings b books held db holds.stands) opened each
     ∙ kept_as_map (is_of b) (open_output books) opened ∙ ap (map (open_output books)) (filter_filter (is_of b) is_open books.rentals)))
-    (rentals_climb (inner 43 with_rental) out_tests out_shows (col 1 3) (shown_open books) (opens_of b books) (which_rise (λ (it : Rental). is_none it.returned) b books.rentals (held.numbers.rows Rentals b)))
+    (rentals_climb (inner 43 with_rental) out_tests out_shows (col 1 3) (shown_open books) (opens_of b books)
+    (which_rise (λ (it : Rental). is_none it.returned) b books.rentals (held.numbers.rows Rentals b)))
     ∙ map-map (λ (o : Output). o.1) (open_output books) (opens_of b books)

@@ -1,6 +1,10 @@
 -- The payments' join: what its text means, and what it shows of the books. It shows each payment of the branch, with its rental's number and the category of
 -- the rental's film.
-use Rattle.shop_schema.proofs.Common.{◌≡◌, ◌==◌, ◌&&◌, ℕ, List, [], ◌∷◌, map, filter, true, cond, refl, sym, ap, ◌∙◌, append-nil, option_to_list, flat_map, Value, Null, or_null, column, Trees, col, Output, overlay, State, columns_of, number_value, answers, shown_of, equals, Row, is_of, is_row, Film, Rental, Payment, Books, head, HasNumbers, shop_schema, rental_columns, payment_columns, IsShop, StandsFor, CopyRows, Payments, Rentals, ascending, Key, Binary, Term, Query, Join, inner, left, end, IsQuery, Selects, is_query, joined_query, are_equal}
+use Rattle.shop_schema.proofs.Common.{◌≡◌, ◌==◌, ◌&&◌, ℕ, List, [], ◌∷◌, map, filter, true, cond, refl, sym, ap, ◌∙◌, append-nil, option_to_list, flat_map}
+use Rattle.shop_schema.proofs.Common.{Value, Null, or_null, column, Trees, col, Output, overlay, State, columns_of, number_value, answers, shown_of, equals}
+use Rattle.shop_schema.proofs.Common.{Row, is_of, is_row, Film, Rental, Payment, Books, head, HasNumbers, shop_schema, rental_columns, payment_columns, IsShop}
+use Rattle.shop_schema.proofs.Common.{StandsFor, CopyRows, Payments, Rentals, ascending, Key, Binary, Term, Query, Join, inner, left, end, IsQuery, Selects}
+use Rattle.shop_schema.proofs.Common.{is_query, joined_query, are_equal}
 use Rattle.sqlite.specs.State.{Shown}
 use Rattle.shop_schema.proofs.Lists.{picks_row}
 use Rattle.view_texts.specs.Payments.{category_in}
@@ -67,7 +71,9 @@ module _ (b : ℕ) (books : Books) (db : Trees) (s : StandsFor db books) (held :
   its = Null ∷ payment_columns x
 
   abbrev gives : sql.Row → sql.Row → List Output
-  gives c2 r4 = cond (equals (number_value x.branch) (number_value b) && true) ((number_value x.number ∷ [], number_value x.it.amount ∷ column c2 1 ∷ column r4 5 ∷ []) ∷ []) []
+  gives c2 r4 =
+      cond (equals (number_value x.branch) (number_value b) && true)
+      ((number_value x.number ∷ [], number_value x.it.amount ∷ column c2 1 ∷ column r4 5 ∷ []) ∷ []) []
 
   abbrev out : Value → Value → List Output
   out rental category = cond (x.branch == b) ((number_value x.number ∷ [], number_value x.it.amount ∷ rental ∷ category ∷ []) ∷ []) []
@@ -78,9 +84,12 @@ module _ (b : ℕ) (books : Books) (db : Trees) (s : StandsFor db books) (held :
   abbrev after_rental : sql.Row → List Output
   after_rental r2 = shown_of payments_query (overlay db []) with_copy (params ∷ its ∷ r2 ∷ [])
 
-  rental_there : (rental : Row Rental) → after_rental (Null ∷ rental_columns rental) ≡ out (number_value rental.number) (category_of (copy_films books (filter (is_row x.branch rental.it.copy) books.copies)))
+  rental_there : (rental : Row Rental)
+      → after_rental (Null ∷ rental_columns rental)
+      ≡ out (number_value rental.number) (category_of (copy_films books (filter (is_row x.branch rental.it.copy) books.copies)))
   rental_there rental =
-      of_copy books db s 4 category_of refl (λ n film. refl) (gives (rental_columns rental)) (out (number_value rental.number)) (λ c. kept_if x.branch b _ _) (λ r. refl) x.branch
+      of_copy books db s 4 category_of refl (λ n film. refl) (gives (rental_columns rental))
+      (out (number_value rental.number)) (λ c. kept_if x.branch b _ _) (λ r. refl) x.branch
       (picks_row x.branch books.copies (held.rows CopyRows x.branch)) rental.it.copy
 
   no_rental : after_rental (Null ∷ columns_of 7 []) ≡ out Null Null
@@ -91,15 +100,22 @@ module _ (b : ℕ) (books : Books) (db : Trees) (s : StandsFor db books) (held :
 
   pub payment_brings : shown_of payments_query (overlay db []) with_rental (params ∷ its ∷ []) ≡ out_of (rental_rows books x)
   payment_brings =
-      by_pair_option 7 rental_columns (db 27) books.rentals s.rentals after_rental (λ r. refl) (λ it. refl) (λ it. refl) (λ r. refl) (λ r. refl) x.branch (picks_row x.branch books.rentals (held.rows Rentals x.branch))
+      by_pair_option 7 rental_columns (db 27) books.rentals s.rentals after_rental (λ r. refl) (λ it. refl)
+      (λ it. refl) (λ r. refl) (λ r. refl) x.branch (picks_row x.branch books.rentals (held.rows Rentals x.branch))
       out_of no_rental
-      (λ rental. rental_there rental ∙ ap (λ films. out (number_value rental.number) (category_of films)) (sym (append-nil (copy_films books (filter (is_row x.branch rental.it.copy) books.copies))))) x.it.rental
+      (λ rental.
+      rental_there rental
+      ∙ ap (λ films. out (number_value rental.number) (category_of films))
+      (sym (append-nil (copy_films books (filter (is_row x.branch rental.it.copy) books.copies)))))
+      x.it.rental
 
 -- ---- the branch's payments, in the order of their numbers
 
-pub shows_payments : (old new : State) (b : ℕ) (rows : List sql.Row) (books : Books) → IsShop old → Shown SELECT_PAYMENTS.now (number_value b ∷ []) old new rows → StandsFor old.now.trees books → HasNumbers books
+pub shows_payments : (old new : State) (b : ℕ) (rows : List sql.Row) (books : Books) → IsShop old
+    → Shown SELECT_PAYMENTS.now (number_value b ∷ []) old new rows → StandsFor old.now.trees books → HasNumbers books
     → rows ≡ map (shown_payment books) (filter (is_of b) books.payments)
 shows_payments old new b rows books shop h s held =
-    shows_kept (λ x. x.number) (shown_payment books) 30 with_rental payment_tests payment_shows (col 1 2) (number_value b ∷ []) old.now.trees category_tree payment_columns books.payments s.payments refl (λ r. refl)
+    shows_kept (λ x. x.number) (shown_payment books) 30 with_rental payment_tests payment_shows (col 1 2)
+    (number_value b ∷ []) old.now.trees category_tree payment_columns books.payments s.payments refl (λ r. refl)
     (is_of b) (payment_brings b books old.now.trees s held) (counted_rise (λ x. x.number) 1 _ (held.rows Payments b))
     rows (answers shop_schema SELECT_PAYMENTS.now payments_query (number_value b ∷ []) old new shop payments_mean rows h)

@@ -1,5 +1,8 @@
 -- The joins of the lists of people: what their texts mean, and what they show of the books.
-use Rattle.shop_schema.proofs.Common.{◌≡◌, ◌==◌, ℕ, List, [], ◌∷◌, map, filter, length, cond, refl, Value, Null, Trees, col, end, Output, overlay, State, HasRows, number_value, flag_value, answers, shown_of, Row, is_of, numbered, IsCounted, Customer, Staff, Catalogue, Books, shop_schema, customer_table, named_columns, city_columns, customer_columns, staff_columns, IsShop, StandsFor, ascending, Key, Binary, Term, Query, Join, inner, IsQuery, Selects, is_query, joined_query, are_equal}
+use Rattle.shop_schema.proofs.Common.{◌≡◌, ◌==◌, ℕ, List, [], ◌∷◌, map, filter, length, cond, refl, Value, Null, Trees, col, end, Output, overlay, State}
+use Rattle.shop_schema.proofs.Common.{HasRows, number_value, flag_value, answers, shown_of, Row, is_of, numbered, IsCounted, Customer, Staff, Catalogue, Books}
+use Rattle.shop_schema.proofs.Common.{shop_schema, customer_table, named_columns, city_columns, customer_columns, staff_columns, IsShop, StandsFor, ascending}
+use Rattle.shop_schema.proofs.Common.{Key, Binary, Term, Query, Join, inner, IsQuery, Selects, is_query, joined_query, are_equal}
 use Rattle.sqlite.specs.declared.types.Value.TheVariants.{Text}
 use Rattle.sqlite_value.specs.Order as sql
 use Rattle.sqlite.specs.State.{Shown}
@@ -44,7 +47,8 @@ module _ (b : ℕ) (catalogue : Catalogue) (db : Trees) (cities : HasRows 3 (db 
       cond (x.branch == b)
       ((
         number_value x.number ∷ [],
-        number_value x.number ∷ Text x.it.person.first ∷ Text x.it.person.last ∷ Text x.it.person.address ∷ Text x.it.person.postal ∷ Text x.it.person.phone ∷ city ∷ country ∷ flag_value x.it.active ∷ [],
+        number_value x.number ∷ Text x.it.person.first ∷ Text x.it.person.last ∷ Text x.it.person.address
+            ∷ Text x.it.person.postal ∷ Text x.it.person.phone ∷ city ∷ country ∷ flag_value x.it.active ∷ [],
       ) ∷ []) []
 
   customer_brings : shown_of customers_query (overlay db []) with_city ((number_value b ∷ []) ∷ (Null ∷ customer_columns x) ∷ [])
@@ -54,10 +58,12 @@ module _ (b : ℕ) (catalogue : Catalogue) (db : Trees) (cities : HasRows 3 (db 
       (λ r2 r3. kept_if x.branch b (number_value x.number ∷ []) _)
 
 -- the branch's customers, in the order of their numbers
-pub shows_customers : (old new : State) (b : ℕ) (rows : List sql.Row) (books : Books) → IsShop old → Shown SELECT_CUSTOMERS.now (number_value b ∷ []) old new rows → StandsFor old.now.trees books
+pub shows_customers : (old new : State) (b : ℕ) (rows : List sql.Row) (books : Books) → IsShop old
+    → Shown SELECT_CUSTOMERS.now (number_value b ∷ []) old new rows → StandsFor old.now.trees books
     → IsCounted 1 (map (λ row. row.number) (filter (is_of b) books.customers)) → rows ≡ map (shown_customer books.catalogue) (filter (is_of b) books.customers)
 shows_customers old new b rows books shop h s counted =
-    shows_kept (λ x. x.number) (shown_customer books.catalogue) 23 with_city customer_tests customer_shows (col 1 2) (number_value b ∷ []) old.now.trees (length customer_table.columns) customer_columns books.customers s.customers refl (λ r. refl)
+    shows_kept (λ x. x.number) (shown_customer books.catalogue) 23 with_city customer_tests customer_shows (col 1 2)
+    (number_value b ∷ []) old.now.trees (length customer_table.columns) customer_columns books.customers s.customers refl (λ r. refl)
     (is_of b) (customer_brings b books.catalogue old.now.trees s.cities s.countries) (counted_rise (λ x. x.number) 1 _ counted)
     rows (answers shop_schema SELECT_CUSTOMERS.now customers_query (number_value b ∷ []) old new shop customers_mean rows h)
 
@@ -90,17 +96,22 @@ module _ (b : ℕ) (catalogue : Catalogue) (db : Trees) (cities : HasRows 3 (db 
       cond (x.1.branch == b)
       ((
         number_value x.0 ∷ [],
-        number_value x.0 ∷ Text x.1.person.first ∷ Text x.1.person.last ∷ Text x.1.person.address ∷ Text x.1.person.postal ∷ Text x.1.person.phone ∷ city ∷ country ∷ [],
+        number_value x.0 ∷ Text x.1.person.first ∷ Text x.1.person.last ∷ Text x.1.person.address
+            ∷ Text x.1.person.postal ∷ Text x.1.person.phone ∷ city ∷ country ∷ [],
       ) ∷ []) []
 
-  staff_brings : shown_of staff_query (overlay db []) with_city ((number_value b ∷ []) ∷ (Null ∷ staff_columns x) ∷ []) ≡ cond (x.1.branch == b) ((number_value x.0 ∷ [], shown_staff catalogue x) ∷ []) []
+  staff_brings : shown_of staff_query (overlay db []) with_city ((number_value b ∷ []) ∷ (Null ∷ staff_columns x) ∷ [])
+      ≡ cond (x.1.branch == b) ((number_value x.0 ∷ [], shown_staff catalogue x) ∷ []) []
   staff_brings =
-      person_brings 8 end staff_query catalogue db cities countries (number_value b ∷ []) (Null ∷ staff_columns x) x.1.person.city refl staff_out (λ r2 r3. kept_if x.1.branch b (number_value x.0 ∷ []) _)
+      person_brings 8 end staff_query catalogue db cities countries (number_value b ∷ [])
+      (Null ∷ staff_columns x) x.1.person.city refl staff_out (λ r2 r3. kept_if x.1.branch b (number_value x.0 ∷ []) _)
 
 -- the branch's staff, in the order of their numbers
-pub shows_staff : (old new : State) (b : ℕ) (rows : List sql.Row) (books : Books) → IsShop old → Shown SELECT_STAFF.now (number_value b ∷ []) old new rows → StandsFor old.now.trees books
+pub shows_staff : (old new : State) (b : ℕ) (rows : List sql.Row) (books : Books) → IsShop old
+    → Shown SELECT_STAFF.now (number_value b ∷ []) old new rows → StandsFor old.now.trees books
     → rows ≡ map (shown_staff books.catalogue) (filter (λ (it : ℕ × Staff). it.1.branch == b) (numbered books.catalogue.staff))
 shows_staff old new b rows books shop h s =
-    shows_kept (λ it. it.0) (shown_staff books.catalogue) 21 with_city staff_tests staff_shows (col 1 1) (number_value b ∷ []) old.now.trees 9 staff_columns (numbered books.catalogue.staff) s.staff refl (λ r. refl)
+    shows_kept (λ it. it.0) (shown_staff books.catalogue) 21 with_city staff_tests staff_shows (col 1 1)
+    (number_value b ∷ []) old.now.trees 9 staff_columns (numbered books.catalogue.staff) s.staff refl (λ r. refl)
     (λ it. it.1.branch == b) (staff_brings b books.catalogue old.now.trees s.cities s.countries) (numbered_up (λ it. it.1.branch == b) books.catalogue.staff)
     rows (answers shop_schema SELECT_STAFF.now staff_query (number_value b ∷ []) old new shop staff_mean rows h)

@@ -1,5 +1,7 @@
 -- The names of a row's city and country, as they are joined.
-use Rattle.shop_schema.proofs.Common.{◌≡◌, ◌&&◌, ℕ, List, [], ◌∷◌, map, filter, true, refl, sym, ap, ◌∙◌, append-nil, flat_map, Value, Null, column, Trees, Query, Join, left, col, are_equal, or_nulls, Output, overlay, flat_map_same_on, HasRows, columns_of, number_value, shown_of, equals, at, numbered, City, Catalogue, named_columns, city_columns}
+use Rattle.shop_schema.proofs.Common.{◌≡◌, ◌&&◌, ℕ, List, [], ◌∷◌, map, filter, true, refl, sym, ap, ◌∙◌, append-nil, flat_map, Value, Null, column, Trees}
+use Rattle.shop_schema.proofs.Common.{Query, Join, left, col, are_equal, or_nulls, Output, overlay, flat_map_same_on, HasRows, columns_of, number_value}
+use Rattle.shop_schema.proofs.Common.{shown_of, equals, at, numbered, City, Catalogue, named_columns, city_columns}
 use Rattle.sqlite.specs.declared.types.Value.TheVariants.{Text}
 use Rattle.sqlite_value.specs.Order as sql
 use Rattle.view_texts.specs.Shown.{name_or_null}
@@ -15,9 +17,11 @@ abbrev pub city_then : ℕ → Join → Join
 city_then at more = left city_tree (are_equal (col 2 1) (col 1 at) ∷ []) (country_then more)
 
 -- `its` is the row, with the city's number in the column `place`; `more` is joined after the country; `out` is what the query shows with the two names
-module _ (place : ℕ) (more : Join) (q : Query) (catalogue : Catalogue) (db : Trees) (cities : HasRows 3 (db 10) (map city_columns (numbered catalogue.cities))) (countries : HasRows 2 (db 1) (map named_columns (numbered catalogue.countries)))
+module _ (place : ℕ) (more : Join) (q : Query) (catalogue : Catalogue) (db : Trees) (cities : HasRows 3 (db 10) (map city_columns (numbered catalogue.cities)))
+    (countries : HasRows 2 (db 1) (map named_columns (numbered catalogue.countries)))
     (params its : sql.Row) (n : ℕ) (city : column its place ≡ number_value n)
-    (out : Value → Value → List Output) (ends : (r2 r3 : sql.Row) → shown_of q (overlay db []) more (params ∷ its ∷ r2 ∷ r3 ∷ []) ≡ out (column r2 2) (column r3 2)) where
+    (out : Value → Value → List Output)
+    (ends : (r2 r3 : sql.Row) → shown_of q (overlay db []) more (params ∷ its ∷ r2 ∷ r3 ∷ []) ≡ out (column r2 2) (column r3 2)) where
   abbrev last : sql.Row → sql.Row → List Output
   last r2 r3 = shown_of q (overlay db []) more (params ∷ its ∷ r2 ∷ r3 ∷ [])
 
@@ -34,8 +38,10 @@ module _ (place : ℕ) (more : Join) (q : Query) (catalogue : Catalogue) (db : T
 
   city_there : (m : ℕ) (c : City) → shows (Null ∷ city_columns (m, c)) ≡ out (Text c.name) (name_or_null (at c.country catalogue.countries))
   city_there m c =
-      by_number 2 named_columns (db 1) catalogue.countries countries (λ it. refl) (λ r. refl) (last (Null ∷ city_columns (m, c))) (only (Null ∷ city_columns (m, c))) c.country
-      (λ l given. given ≡ out (Text c.name) (name_or_null l)) (ends (Null ∷ city_columns (m, c)) (Null ∷ columns_of 2 [])) (λ name. ends (Null ∷ city_columns (m, c)) (Null ∷ named_columns (c.country, name)))
+      by_number 2 named_columns (db 1) catalogue.countries countries (λ it. refl) (λ r. refl)
+      (last (Null ∷ city_columns (m, c))) (only (Null ∷ city_columns (m, c))) c.country
+      (λ l given. given ≡ out (Text c.name) (name_or_null l)) (ends (Null ∷ city_columns (m, c)) (Null ∷ columns_of 2 []))
+      (λ name. ends (Null ∷ city_columns (m, c)) (Null ∷ named_columns (c.country, name)))
 
   city_missing : shows (Null ∷ columns_of 3 []) ≡ out Null Null
   city_missing =
@@ -43,9 +49,11 @@ module _ (place : ℕ) (more : Join) (q : Query) (catalogue : Catalogue) (db : T
       ∙ append-nil _ ∙ ends (Null ∷ columns_of 3 []) (Null ∷ columns_of 2 [])
 
   pub person_brings : shown_of q (overlay db []) (city_then place more) (params ∷ its ∷ [])
-      ≡ out (name_or_null (map (λ (it : City). it.name) (at n catalogue.cities))) (name_or_null (flat_map (λ (it : City). at it.country catalogue.countries) (at n catalogue.cities)))
+      ≡ out (name_or_null (map (λ (it : City). it.name) (at n catalogue.cities)))
+      (name_or_null (flat_map (λ (it : City). at it.country catalogue.countries) (at n catalogue.cities)))
   person_brings =
       ap (λ v. flat_map shows (or_nulls (filter (λ r. equals (column r 1) v && true) (db 10)))) city
       ∙ by_number 3 city_columns (db 10) catalogue.cities cities (λ it. refl) (λ r. refl) shows same_city n
-      (λ l given. given ≡ out (name_or_null (map (λ (it : City). it.name) l)) (name_or_null (flat_map (λ (it : City). at it.country catalogue.countries) l))) city_missing
+      (λ l given. given ≡ out (name_or_null (map (λ (it : City). it.name) l)) (name_or_null (flat_map (λ (it : City). at it.country catalogue.countries) l)))
+      city_missing
       (λ c. city_there n c ∙ ap (λ l. out (Text c.name) (name_or_null l)) (sym (append-nil (at c.country catalogue.countries))))

@@ -1,5 +1,6 @@
 -- A row of the people's joins, read and listed.
-use Rattle.shop_schema.proofs.Common.{◌≡◌, ◌+◌, ℕ, List, [], ◌∷◌, ◌++◌, map, refl, sym, ap, ◌∙◌, append-nil, ◌⊎◌, flat_map, column, Row, at, numbered_from, IsCounted, Person, City, Customer, Catalogue, PersonRow, full_name, city_name, country_name, person_row, at_one}
+use Rattle.shop_schema.proofs.Common.{◌≡◌, ◌+◌, ℕ, List, [], ◌∷◌, ◌++◌, map, refl, sym, ap, ◌∙◌, append-nil, ◌⊎◌, flat_map, column, Row, at, numbered_from}
+use Rattle.shop_schema.proofs.Common.{IsCounted, Person, City, Customer, Catalogue, PersonRow, full_name, city_name, country_name, person_row, at_one}
 use Rattle.sqlite.specs.declared.types.Value.TheVariants.{Text}
 use Rattle.sqlite_value.specs.Order as sql
 use Rattle.shop_model.specs.Values as model
@@ -16,15 +17,21 @@ name_read = one_at_most (λ l. text_or_empty (name_or_null l) ≡ flat_map (λ (
 
 pub city_read : (catalogue : Catalogue) (n : ℕ) → text_or_empty (name_or_null (map (λ (it : City). it.name) (at n catalogue.cities))) ≡ city_name catalogue n
 city_read catalogue n =
-    one_at_most (λ l. text_or_empty (name_or_null (map (λ (it : City). it.name) l)) ≡ flat_map (λ (it : City). it.name) l) refl (λ city. sym (append-nil city.name))
+    one_at_most (λ l. text_or_empty (name_or_null (map (λ (it : City). it.name) l)) ≡ flat_map (λ (it : City). it.name) l) refl
+    (λ city. sym (append-nil city.name))
     (at n catalogue.cities) (at_one n catalogue.cities)
 
-pub country_read : (catalogue : Catalogue) (n : ℕ) → text_or_empty (name_or_null (flat_map (λ (it : City). at it.country catalogue.countries) (at n catalogue.cities))) ≡ country_name catalogue n
+pub country_read : (catalogue : Catalogue) (n : ℕ)
+    → text_or_empty (name_or_null (flat_map (λ (it : City). at it.country catalogue.countries) (at n catalogue.cities))) ≡ country_name catalogue n
 country_read catalogue n =
     one_at_most
-    (λ l. text_or_empty (name_or_null (flat_map (λ (it : City). at it.country catalogue.countries) l)) ≡ flat_map (λ (it : City). flat_map (λ (name : model.Text). name) (at it.country catalogue.countries)) l) refl
+    (λ l.
+    text_or_empty (name_or_null (flat_map (λ (it : City). at it.country catalogue.countries) l))
+    ≡ flat_map (λ (it : City). flat_map (λ (name : model.Text). name) (at it.country catalogue.countries)) l)
+    refl
     (λ city. let countries = at city.country catalogue.countries in
-    ap (λ k. text_or_empty (name_or_null k)) (append-nil countries) ∙ name_read countries (at_one city.country catalogue.countries) ∙ sym (append-nil (flat_map (λ (name : model.Text). name) countries)))
+    ap (λ k. text_or_empty (name_or_null k)) (append-nil countries) ∙ name_read countries (at_one city.country catalogue.countries)
+    ∙ sym (append-nil (flat_map (λ (name : model.Text). name) countries)))
     (at n catalogue.cities) (at_one n catalogue.cities)
 
 -- ---- a row
@@ -32,9 +39,11 @@ country_read catalogue n =
 pub same_words : (s t : model.Text) → Text s ≡ Text t → s ≡ t
 same_words s t e = cc
 
-pub person_is : (row : sql.Row) (it : ListedPerson) (branch : ℕ) → it.branch ≡ branch → column row 1 ≡ Text it.name.first → column row 2 ≡ Text it.name.last → column row 3 ≡ Text it.address
+pub person_is : (row : sql.Row) (it : ListedPerson) (branch : ℕ) → it.branch ≡ branch
+    → column row 1 ≡ Text it.name.first → column row 2 ≡ Text it.name.last → column row 3 ≡ Text it.address
     → column row 4 ≡ Text it.postal → column row 5 ≡ Text it.phone → it.city ≡ text_or_empty (column row 6) → it.country ≡ text_or_empty (column row 7)
-    → (catalogue : Catalogue) (n : ℕ) (person : Person) (rest : sql.Row) → row ≡ shown_person catalogue n person ++ rest → seen_person n it ≡ person_row catalogue branch n person
+    → (catalogue : Catalogue) (n : ℕ) (person : Person) (rest : sql.Row)
+    → row ≡ shown_person catalogue n person ++ rest → seen_person n it ≡ person_row catalogue branch n person
 person_is row it branch mine first last address postal phone city country catalogue n person rest is =
     let firsts : it.name.first ≡ person.first = same_words _ _ (sym first ∙ ap (λ r. column r 1) is) in
     let lasts : it.name.last ≡ person.last = same_words _ _ (sym last ∙ ap (λ r. column r 2) is) in
@@ -61,7 +70,8 @@ numbered_person m n it row same is = ap (λ k. seen_person k it) same ∙ is
 -- ---- the whole list
 
 pub customers_are : (branch : ℕ) (catalogue : Catalogue) (k : ℕ) (mine : List (Row Customer)) → IsCounted k (map (λ row. row.number) mine)
-    → map (listed_customer branch catalogue) mine ≡ map (λ (it : ℕ × Customer). (person_row catalogue branch it.0 it.1.person, it.1.active)) (numbered_from k (map (λ row. row.it) mine))
+    → map (listed_customer branch catalogue) mine
+    ≡ map (λ (it : ℕ × Customer). (person_row catalogue branch it.0 it.1.person, it.1.active)) (numbered_from k (map (λ row. row.it) mine))
 customers_are branch catalogue k [] counted = refl
 customers_are branch catalogue k (x ∷ mine) counted =
     (λ i. (person_row catalogue branch (counted.0 i) x.it.person, x.it.active) ∷ customers_are branch catalogue (k + 1) mine counted.1 i)

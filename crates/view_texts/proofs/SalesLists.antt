@@ -1,5 +1,7 @@
 -- Branches that are listed one after the other.
-use Rattle.shop_schema.proofs.Common.{◌≡◌, ◌==◌, ◌+◌, ◌-◌, ℕ, List, [], ◌∷◌, ◌++◌, map, true, false, Bool, not, length, cond, Option, Some, None, refl, sym, ap, subst, ◌∙◌, arith, append-nil, if◌then◌else◌, flat_map, nat_tests, map-append, at, is_empty, lacks, numbered, Text, Branch, Rental, Payment, Books, head, shop_of, StoreRow, paid_rentals, takings, found_none, found_some, numbered_push}
+use Rattle.shop_schema.proofs.Common.{◌≡◌, ◌==◌, ◌+◌, ◌-◌, ℕ, List, [], ◌∷◌, ◌++◌, map, true, false, Bool, not, length, cond, Option, Some, None, refl, sym, ap}
+use Rattle.shop_schema.proofs.Common.{subst, ◌∙◌, arith, append-nil, if◌then◌else◌, flat_map, nat_tests, map-append, at, is_empty, lacks, numbered, Text}
+use Rattle.shop_schema.proofs.Common.{Branch, Rental, Payment, Books, head, shop_of, StoreRow, paid_rentals, takings, found_none, found_some, numbered_push}
 use Rattle.shop_model.specs.Views.{listed_store}
 use Rattle.std.proofs.lemmas.List.{append_assoc}
 use Rattle.shop_schema.proofs.Lists.{flat_map_push}
@@ -29,7 +31,8 @@ no_sale books b none = go (paid_rentals (shop_of b books)) none
     go [] e = refl
     go (it ∷ pairs) e = absurd cc
 
-one_sale : (books : Books) (b total : ℕ) (row : StoreRow) → Some row ≡ head (map (store_with books.catalogue 0) (at b books.catalogue.branches)) → Some total ≡ rental_sum (shop_of b books)
+one_sale : (books : Books) (b total : ℕ) (row : StoreRow)
+    → Some row ≡ head (map (store_with books.catalogue 0) (at b books.catalogue.branches)) → Some total ≡ rental_sum (shop_of b books)
     → sales_of_branch books b ≡ record row { total = total } ∷ []
 one_sale books b total row there sum = go (paid_rentals (shop_of b books)) sum
   where
@@ -44,18 +47,24 @@ one_sale books b total row there sum = go (paid_rentals (shop_of b books)) sum
 nothing_more : (page : Page) (texts : List Text) (rows : List StoreRow) → rows ≡ [] → HasTexts page texts → HasTexts page (texts ++ map listed_store rows)
 nothing_more page texts rows none has = subst (HasTexts page) (sym (append-nil texts) ∙ ap (λ l. texts ++ map listed_store l) (sym none)) has
 
-pub absent_added : (books : Books) (b : ℕ) (page : Page) (texts : List Text) → None ≡ head (map (store_with books.catalogue 0) (at b books.catalogue.branches)) → HasTexts page texts
+pub absent_added : (books : Books) (b : ℕ) (page : Page) (texts : List Text)
+    → None ≡ head (map (store_with books.catalogue 0) (at b books.catalogue.branches)) → HasTexts page texts
     → HasTexts page (texts ++ map listed_store (sales_of_branch books b))
-absent_added books b page texts none = nothing_more page texts (sales_of_branch books b) (no_branch books b (found_none (store_with books.catalogue 0) b books.catalogue.branches none))
+absent_added books b page texts none =
+    nothing_more page texts (sales_of_branch books b) (no_branch books b (found_none (store_with books.catalogue 0) b books.catalogue.branches none))
 
-pub unsold_added : (books : Books) (b : ℕ) (page : Page) (texts : List Text) → None ≡ rental_sum (shop_of b books) → HasTexts page texts → HasTexts page (texts ++ map listed_store (sales_of_branch books b))
+pub unsold_added : (books : Books) (b : ℕ) (page : Page) (texts : List Text) → None ≡ rental_sum (shop_of b books)
+    → HasTexts page texts → HasTexts page (texts ++ map listed_store (sales_of_branch books b))
 unsold_added books b page texts none = nothing_more page texts (sales_of_branch books b) (no_sale books b none)
 
-pub store_added : (books : Books) (b total : ℕ) (row : StoreRow) (page : Page) (texts : List Text) → Some row ≡ head (map (store_with books.catalogue 0) (at b books.catalogue.branches))
-    → Some total ≡ rental_sum (shop_of b books) → HasTexts page (texts ++ listed_store (record row { total = total }) ∷ []) → HasTexts page (texts ++ map listed_store (sales_of_branch books b))
+pub store_added : (books : Books) (b total : ℕ) (row : StoreRow) (page : Page) (texts : List Text)
+    → Some row ≡ head (map (store_with books.catalogue 0) (at b books.catalogue.branches))
+    → Some total ≡ rental_sum (shop_of b books) → HasTexts page (texts ++ listed_store (record row { total = total }) ∷ [])
+    → HasTexts page (texts ++ map listed_store (sales_of_branch books b))
 store_added books b total row page texts there sum = subst (HasTexts page) (ap (λ l. texts ++ map listed_store l) (sym (one_sale books b total row there sum)))
 
-pub is_there : (books : Books) (b : ℕ) (row : StoreRow) → Some row ≡ head (map (store_with books.catalogue 0) (at b books.catalogue.branches)) → true ≡ not (lacks books.catalogue.branches b)
+pub is_there : (books : Books) (b : ℕ) (row : StoreRow)
+    → Some row ≡ head (map (store_with books.catalogue 0) (at b books.catalogue.branches)) → true ≡ not (lacks books.catalogue.branches b)
 is_there books b row there = ap (λ (l : List Branch). not (is_empty l)) (sym (found_some (store_with books.catalogue 0) b books.catalogue.branches row there).1)
 
 -- ---- all branches
@@ -99,7 +108,10 @@ module _ (page new : Page) (number : ℕ) (books : Books) (so_far : IsListed pag
             after = more;
             all = so_far.all ∙ ap (λ l. so_far.before ++ l) is ∙ sym (append_assoc so_far.before (x ∷ []) more);
             next = ap (λ n. n + 1) so_far.next ∙ longer so_far.before x;
-            has = subst (HasTexts new) (sym (map-append listed_store (sales_of_first books so_far.before) (sales_of_branch books number)) ∙ ap (map listed_store) (sym rows)) (added _ so_far.has);
+            has =
+                subst (HasTexts new)
+                (sym (map-append listed_store (sales_of_first books so_far.before) (sales_of_branch books number)) ∙ ap (map listed_store) (sym rows))
+                (added _ so_far.has);
           }
         where
           longer : (l : List Branch) (y : Branch) → 1 + length l + 1 ≡ 1 + length (l ++ y ∷ [])
@@ -114,7 +126,8 @@ module _ (page new : Page) (number : ℕ) (books : Books) (so_far : IsListed pag
           let whole : books.catalogue.branches ≡ so_far.before = so_far.all ∙ ap (λ l. so_far.before ++ l) is ∙ append-nil so_far.before in
           subst (HasTexts new)
           (ap (λ l. map listed_store (sales_of_first books so_far.before) ++ map listed_store l) (no_branch books number (found_at [] is))
-          ∙ append-nil (map listed_store (sales_of_first books so_far.before)) ∙ ap (λ l. map listed_store (sales_of_first books l)) (sym whole)) (added _ so_far.has)
+          ∙ append-nil (map listed_store (sales_of_first books so_far.before)) ∙ ap (λ l. map listed_store (sales_of_first books l)) (sym whole))
+          (added _ so_far.has)
       go (x ∷ more) is = absurd (let no : false ≡ true = none ∙ ap (λ (l : List Branch). not (is_empty l)) (found_at (x ∷ more) is) in cc)
 
 pub same_branch : (number branch : ℕ) (found : Option ℕ) → found ≡ (if number == 0 then None else Some number) → found ≡ Some branch → branch ≡ number

@@ -1,5 +1,6 @@
 -- Calls in a row that look and change nothing.
-use Rattle.shop_schema.proofs.Common.{◌≡◌, false, sym, subst, arith, IsTrue, Ghosts, Database, Held, state, State, HasCleanDisk, IsUnchanged, KeepsCommit, Survives, unchanged_then, AreKeyed, survives_more, Books, shop_schema, Holds, StandsFor, IsHeld}
+use Rattle.shop_schema.proofs.Common.{◌≡◌, false, sym, subst, arith, IsTrue, Ghosts, Database, Held, state, State, HasCleanDisk, IsUnchanged, KeepsCommit}
+use Rattle.shop_schema.proofs.Common.{Survives, unchanged_then, AreKeyed, survives_more, Books, shop_schema, Holds, StandsFor, IsHeld}
 use Rattle.sqlite.proofs.InsideLemmas.{keeps_then}
 
 -- tables that are as they were stand for the same books
@@ -29,8 +30,10 @@ module _ {S : Type 0} (g : Ghosts S) where
     pub survives_next : Survives (state g old) (state g new) (λ _. ⊥)
     survives_next = survives_more (state g old) (state g mid) (state g new) so_far.survives survives
 
-    pub kept_next : (HasCleanDisk (state g new) → KeepsCommit (state g mid) (state g new)) → HasCleanDisk (state g new) → KeepsCommit (state g old) (state g new)
-    kept_next kept clean = keeps_then (state g old) (state g mid) (state g new) (so_far.kept (was_clean (state g mid) (state g new) survives clean)) (kept clean)
+    pub kept_next : (HasCleanDisk (state g new) → KeepsCommit (state g mid) (state g new))
+        → HasCleanDisk (state g new) → KeepsCommit (state g old) (state g new)
+    kept_next kept clean =
+        keeps_then (state g old) (state g mid) (state g new) (so_far.kept (was_clean (state g mid) (state g new) survives clean)) (kept clean)
 
     module _ (stays : HasCleanDisk (state g new) → IsUnchanged (state g mid) (state g new)) where
       was_open : HasCleanDisk (state g new) → IsTrue (state g old).is_open
@@ -42,12 +45,15 @@ module _ {S : Type 0} (g : Ghosts S) where
       pub same_next : HasCleanDisk (state g new) → IsUnchanged (state g old) (state g new)
       same_next clean = unchanged_then (state g old) (state g mid) (state g new) (so_far_same clean) (stays clean)
 
-      pub known_next : (Next : Books → Type 0) → (HasCleanDisk (state g new) → (books : Books) → Holds (state g mid) books → IsHeld books → Known books → Next books)
+      pub known_next : (Next : Books → Type 0)
+          → (HasCleanDisk (state g new) → (books : Books) → Holds (state g mid) books → IsHeld books → Known books → Next books)
           → HasCleanDisk (state g new) → (books : Books) → Holds (state g old) books → IsHeld books → Next books
       known_next Next told clean books holds held =
-          told clean books (holds_still (state g old) (state g mid) books (so_far_same clean) holds) held (so_far.known (was_clean (state g mid) (state g new) survives clean) books holds held)
+          told clean books (holds_still (state g old) (state g mid) books (so_far_same clean) holds) held
+          (so_far.known (was_clean (state g mid) (state g new) survives clean) books holds held)
 
-      pub looked_next : (Next : Books → Type 0) → (mid.in_transaction ≡ false → new.in_transaction ≡ false) → (HasCleanDisk (state g new) → KeepsCommit (state g mid) (state g new))
+      pub looked_next : (Next : Books → Type 0) → (mid.in_transaction ≡ false → new.in_transaction ≡ false)
+          → (HasCleanDisk (state g new) → KeepsCommit (state g mid) (state g new))
           → (HasCleanDisk (state g new) → (books : Books) → Holds (state g mid) books → IsHeld books → Known books → Next books) → Looked g old new Next
       looked_next Next mode kept told = record {
         survives = survives_next;

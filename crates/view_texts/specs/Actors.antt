@@ -30,12 +30,14 @@ ActorLine = (ℕ × Actor) × Option FilmIn
 
 abbrev pub shown_actor : ActorLine → sql.Row
 shown_actor line =
-    number_value line.0.0 ∷ Text line.0.1.first ∷ Text line.0.1.last ∷ or_null (λ (it : FilmIn). number_value it.0.0) line.1 ∷ or_null (λ (it : FilmIn). Text it.0.1) line.1
+    number_value line.0.0 ∷ Text line.0.1.first ∷ Text line.0.1.last
+    ∷ or_null (λ (it : FilmIn). number_value it.0.0) line.1 ∷ or_null (λ (it : FilmIn). Text it.0.1) line.1
     ∷ or_null (λ (it : FilmIn). Text it.1.1.title) line.1 ∷ []
 
 -- the films of each category, in the order of the categories' names
 abbrev pub films_by_category : Catalogue → ℕ → List FilmIn
-films_by_category catalogue actor = flat_map (λ (c : ℕ × model.Text). map (λ (film : ℕ × Film). (c, film)) (films_of catalogue actor c.0)) (categories_by_name catalogue)
+films_by_category catalogue actor =
+    flat_map (λ (c : ℕ × model.Text). map (λ (film : ℕ × Film). (c, film)) (films_of catalogue actor c.0)) (categories_by_name catalogue)
 
 -- one line for each film, and one line for an actor without films
 abbrev pub lines_with : ℕ × Actor → List FilmIn → List ActorLine
@@ -131,4 +133,5 @@ runs = run_from ([], None)
 -- the page has the complete actors of the rows, and `actor` is the last actor so far
 abbrev pub HasActors : ActorPage → ActorPage → List sql.Row → Type 0
 HasActors start it given =
-    (lines : List ActorLine) → given ≡ map shown_actor lines → HasTexts it.page (map listed_actor (runs lines).0) × (option_map seen_part it.actor ≡ (runs lines).1)
+    (lines : List ActorLine) → given ≡ map shown_actor lines
+    → HasTexts it.page (map listed_actor (runs lines).0) × (option_map seen_part it.actor ≡ (runs lines).1)

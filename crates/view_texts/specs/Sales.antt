@@ -39,7 +39,8 @@ abbrev pub shown_store : Catalogue → ℕ × Branch → sql.Row
 shown_store catalogue it =
     number_value it.0 ∷ name_or_null (map (λ (city : City). city.name) (at it.1.city catalogue.cities))
     ∷ name_or_null (flat_map (λ (city : City). at city.country catalogue.countries) (at it.1.city catalogue.cities))
-    ∷ or_null (λ (staff : Staff). Text staff.person.first) (manager_of catalogue it.1) ∷ or_null (λ (staff : Staff). Text staff.person.last) (manager_of catalogue it.1) ∷ []
+    ∷ or_null (λ (staff : Staff). Text staff.person.first) (manager_of catalogue it.1)
+    ∷ or_null (λ (staff : Staff). Text staff.person.last) (manager_of catalogue it.1) ∷ []
 
 -- a branch with any sum
 abbrev pub store_with : Catalogue → ℕ → Branch → StoreRow

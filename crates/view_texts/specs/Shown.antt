@@ -61,8 +61,10 @@ FilmLine = (ℕ × Film) × Option (ℕ × Actor)
 
 abbrev pub shown_film : Catalogue → FilmLine → sql.Row
 shown_film catalogue line =
-    number_value line.0.0 ∷ Text line.0.1.title ∷ Text line.0.1.description ∷ name_or_null (at line.0.1.category catalogue.categories) ∷ number_value line.0.1.rate
-    ∷ or_null number_value line.0.1.minutes ∷ Text line.0.1.rating ∷ or_null (λ (it : ℕ × Actor). Text it.1.first) line.1 ∷ or_null (λ (it : ℕ × Actor). Text it.1.last) line.1 ∷ []
+    number_value line.0.0 ∷ Text line.0.1.title ∷ Text line.0.1.description
+    ∷ name_or_null (at line.0.1.category catalogue.categories) ∷ number_value line.0.1.rate
+    ∷ or_null number_value line.0.1.minutes ∷ Text line.0.1.rating
+    ∷ or_null (λ (it : ℕ × Actor). Text it.1.first) line.1 ∷ or_null (λ (it : ℕ × Actor). Text it.1.last) line.1 ∷ []
 
 abbrev pub actors_of : Catalogue → ℕ → List (ℕ × Actor)
 actors_of catalogue film = filter (λ (it : ℕ × Actor). is_cast catalogue film it.0) (numbered catalogue.actors)

@@ -6,7 +6,8 @@ use Rattle.consign_finds.proofs.find_among.Goals.{then-is_sent, else-is_sent}
 use Rattle.consign_finds.proofs.find_among.Goals as goal
 
 pub returns : goal.returns
-returns g c = done (and_then (one_call c.in_ok-sent.ensures) (and_then (one_call c.in_ok-scrapped.ensures) (one_call c.in_ok-out.ensures))) (λ said books holds held.
+returns g c =
+    done (and_then (one_call c.in_ok-sent.ensures) (and_then (one_call c.in_ok-scrapped.ensures) (one_call c.in_ok-out.ensures))) (λ said books holds held.
     let xs = c.args.copies.now in
     let sent = c.in_ok-sent.sent.items in
     let scrapped = c.in_ok-scrapped.scrapped.items in
@@ -17,5 +18,9 @@ returns g c = done (and_then (one_call c.in_ok-sent.ensures) (and_then (one_call
     ] in
     let one = said.0 books holds held in
     let two = said.1.0 books one.0 held in
-    let three = said.1.1 books two.0 held in
-    (three.0, λ known. among_listed c.args.branch xs books sent scrapped c.in_ok-out.out.items c.if-is_sent.result c.has_any.result held.numbers known one.1 two.1 three.1 away c.has_any.ensures))
+    let three = said.1.1 books two.0 held in (
+      three.0,
+      λ known.
+          among_listed c.args.branch xs books sent scrapped c.in_ok-out.out.items c.if-is_sent.result
+          c.has_any.result held.numbers known one.1 two.1 three.1 away c.has_any.ensures,
+    ))

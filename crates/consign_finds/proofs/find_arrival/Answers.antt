@@ -1,4 +1,5 @@
-use Rattle.shop_schema.proofs.Common.{◌≡◌, ◌∙◌, sym, ap, [], ◌∷◌, List, Option, option_map, map, Bool, ℕ, option_to_list, cond_some, and_then, done, Mark, seen_parcel_line}
+use Rattle.shop_schema.proofs.Common.{◌≡◌, ◌∙◌, sym, ap, [], ◌∷◌, List, Option, option_map, map, Bool, ℕ, option_to_list, cond_some, and_then, done, Mark}
+use Rattle.shop_schema.proofs.Common.{seen_parcel_line}
 use Rattle.sql_rows.proofs.Chaining.{one_call}
 use Rattle.consign_store.specs.Parts.{Header}
 use Rattle.consign_store.specs.Seen.{seen_header}

@@ -1,4 +1,5 @@
-use Rattle.shop_schema.proofs.Common.{◌≡◌, ◌∙◌, ◌++◌, ◌∷◌, [], sym, ap, map, not, ℕ, Bool, false, List, Some, take_all, and_then, done, some_calls, Mark, seen_parcel_line, ParcelLine}
+use Rattle.shop_schema.proofs.Common.{◌≡◌, ◌∙◌, ◌++◌, ◌∷◌, [], sym, ap, map, not, ℕ, Bool, false, List, Some, take_all, and_then, done, some_calls, Mark}
+use Rattle.shop_schema.proofs.Common.{seen_parcel_line, ParcelLine}
 use Rattle.std.specs.Prelude.{◌||◌}
 use Rattle.shop_store.specs.Seen.{seen_copy_row}
 use Rattle.branch_core.specs.Marked.{listed_at}
@@ -24,13 +25,15 @@ loop-copy-preserved g c =
       | then-has_out w ↦ w.has_out-is ∙ w.if-has_out.true ∙ sym (ap (λ b. b || out) w.if-has_out.true)
       | else-has_out w ↦ w.has_out-is ∙ sym (ap (λ b. b || out) w.if-has_out.false)
     ] in
-    let pushed : c.push.new.self.items ≡ before ++ copy_parcel row ∷ [] = c.in-Ok.ensures.items ∙ ap (λ (l : ParcelLine). before ++ l ∷ []) c.copy_parcel.ensures in
+    let pushed : c.push.new.self.items ≡ before ++ copy_parcel row ∷ [] =
+    c.in-Ok.ensures.items ∙ ap (λ (l : ParcelLine). before ++ l ∷ []) c.copy_parcel.ensures in
     done (and_then (some_calls c.loop-copy.invariant) (some_calls c.in_ok-row.ensures)) (λ said books holds held.
     let were = said.0 books holds held in
     let read = said.1 books were.0 held in (
       read.0,
       (λ j. let p : Bool × Bool × Bool × List (ℕ × Mark) = (false, away j, outs j, map seen_parcel_line (pushed j)) in p)
-          ∙ one_listed c.args.branch xs i x books row c.loop-copy.has_away c.loop-copy.has_out out before c.loop-copy-test.true c.copy-item.is were.1 read.1.0 read.1.1,
+          ∙ one_listed c.args.branch xs i x books row c.loop-copy.has_away c.loop-copy.has_out
+          out before c.loop-copy-test.true c.copy-item.is were.1 read.1.0 read.1.1,
     ))
 
 pub returns : goal.returns

@@ -11,7 +11,10 @@ returns-clause-migrated g c clean =
     let added = c.in_ok-add_tables.ensures.added clean_1 in
     let put = c.in_ok-put_terms.ensures.put clean_2 in
     let ruled = c.in_ok-put_rule.ensures.put clean_3 in
-    on_ok_then c.set_version.result (λ set rules books sound holds. all_migrated _ rules books sound holds.stands.more.1 (set _ _ books (ruled _ books (put rules books sound (added books holds))))) (c.set_version.ensures.set clean)
+    on_ok_then c.set_version.result
+    (λ set rules books sound holds.
+    all_migrated _ rules books sound holds.stands.more.1 (set _ _ books (ruled _ books (put rules books sound (added books holds)))))
+    (c.set_version.ensures.set clean)
 
 pub returns-clause-shop : goal.returns-clause-shop
 returns-clause-shop g c clean =
@@ -60,5 +63,9 @@ returns-clause-stood g c clean =
     let t0 = s0.now.trees in
     let still = tells_still t0 s1.now.trees s2.now.trees s3.now.trees s4.now.trees added filled ruled token tells in
     let left = set three (c.in_ok-put_rule.ensures.keyed clean_3 two keyed_2) token still in
-    record { schema_is = first; keyed = keyed; stands = stood t0 s1.now.trees s2.now.trees s3.now.trees s4.now.trees added filled ruled token left tells books holds.stands })
+    record {
+      schema_is = first;
+      keyed = keyed;
+      stands = stood t0 s1.now.trees s2.now.trees s3.now.trees s4.now.trees added filled ruled token left tells books holds.stands;
+    })
     (c.set_version.ensures.tables clean)

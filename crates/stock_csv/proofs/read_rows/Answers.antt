@@ -30,7 +30,8 @@ loop-line-preserved c =
     let good : is_ok c.push.result ≡ true = search rules in
     let items = rw good at c.push.ensures.items in
     record {
-      going = λ s rest at. rw items (goes_on _ _ _ _ _ c.next.new.reader (fields_of c.next.new.fields) (c.loop-line.invariant.going s rest at) (omega arith) found
+      going =
+          λ s rest at. rw items (goes_on _ _ _ _ _ c.next.new.reader (fields_of c.next.new.fields) (c.loop-line.invariant.going s rest at) (omega arith) found
           c.in-Some.row c.from-copies.result c.from-copies.ensures c.in-Some.ensures (omega arith) (omega arith));
       few = omega arith;
     }
@@ -39,7 +40,8 @@ pub returns-then-branch-clause-fault : goal.returns-then-branch-clause-fault
 returns-then-branch-clause-fault c s rest at =
     let found = rw c.if-branch.true at c.in_ok-next-2.ensures.found in
     let last : c.loop-line.line ≡ 502 = omega arith in
-    is_past _ _ _ _ _ c.next-2.new.reader (fields_of c.next-2.new.fields) (c.loop-line.invariant.going s rest at) (omega arith) found (omega arith) ∙ ap Err last
+    is_past _ _ _ _ _ c.next-2.new.reader (fields_of c.next-2.new.fields) (c.loop-line.invariant.going s rest at) (omega arith) found (omega arith)
+    ∙ ap Err last
 
 pub returns-else-branch-clause-rows : goal.returns-else-branch-clause-rows
 returns-else-branch-clause-rows c s rest at =

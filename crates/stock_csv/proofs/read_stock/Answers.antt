@@ -21,16 +21,22 @@ pub returns-clause-rows : goal.returns-clause-rows
 returns-clause-rows c =
     let found = rw c.if-not-branch.false at c.in_ok-next.ensures.found in
     let f = found st.StartRecord (strip_bom c.args.text.now) c.start-reader.ensures in
-    IfOk-weaker c.read_rows.result _ _ (λ v h. under_header _ f.0 (fields_of c.next.new.fields) f.1 f.2 c.if-not-is_header.ensures (Ok v.items) (h f.0.1 f.0.2 f.3)) c.read_rows.ensures.rows
+    IfOk-weaker c.read_rows.result _ _
+    (λ v h. under_header _ f.0 (fields_of c.next.new.fields) f.1 f.2 c.if-not-is_header.ensures (Ok v.items) (h f.0.1 f.0.2 f.3)) c.read_rows.ensures.rows
 
 pub returns-clause-limits : goal.returns-clause-limits
 returns-clause-limits c =
     let found = rw c.if-not-branch.false at c.in_ok-next.ensures.found in
     let f = found st.StartRecord (strip_bom c.args.text.now) c.start-reader.ensures in
-    IfOk-weaker c.read_rows.result _ _ (λ v h. rows_are_stock c.args.text.now v.items (under_header _ f.0 (fields_of c.next.new.fields) f.1 f.2 c.if-not-is_header.ensures (Ok v.items) (h f.0.1 f.0.2 f.3))) c.read_rows.ensures.rows
+    IfOk-weaker c.read_rows.result _ _
+    (λ v h.
+    rows_are_stock c.args.text.now v.items
+    (under_header _ f.0 (fields_of c.next.new.fields) f.1 f.2 c.if-not-is_header.ensures (Ok v.items) (h f.0.1 f.0.2 f.3)))
+    c.read_rows.ensures.rows
 
 pub returns-clause-fault : goal.returns-clause-fault
 returns-clause-fault c =
     let found = rw c.if-not-branch.false at c.in_ok-next.ensures.found in
     let f = found st.StartRecord (strip_bom c.args.text.now) c.start-reader.ensures in
-    IfErr-weaker c.read_rows.result _ _ (λ e h. fault_under_header _ f.0 (fields_of c.next.new.fields) f.1 f.2 c.if-not-is_header.ensures e (h f.0.1 f.0.2 f.3)) c.read_rows.ensures.fault
+    IfErr-weaker c.read_rows.result _ _
+    (λ e h. fault_under_header _ f.0 (fields_of c.next.new.fields) f.1 f.2 c.if-not-is_header.ensures e (h f.0.1 f.0.2 f.3)) c.read_rows.ensures.fault

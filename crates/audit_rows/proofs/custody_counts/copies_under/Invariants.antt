@@ -5,6 +5,7 @@ use Rattle.audit_rows.proofs.custody_counts.copies_under.Given as goal
 
 abbrev pub invariant-loop-row : goal.invariant-loop-row
 invariant-loop-row l = record {
-  counted : l.found + rows_in (seen_state l.state) any_mark (map seen_copy (drop l.row-index l.copies)) ≡ rows_in (seen_state l.state) any_mark (map seen_copy l.copies);
+  counted : l.found + rows_in (seen_state l.state) any_mark (map seen_copy (drop l.row-index l.copies))
+      ≡ rows_in (seen_state l.state) any_mark (map seen_copy l.copies);
   fits : l.found ≤ l.row-index;
 }

@@ -5,6 +5,7 @@ use Rattle.audit_rows.proofs.custody_counts.lines_under.Given as goal
 
 abbrev pub invariant-loop-row : goal.invariant-loop-row
 invariant-loop-row l = record {
-  counted : l.found + lines_in (seen_line_state l.state) any_mark (map seen_line (drop l.row-index l.lines)) ≡ lines_in (seen_line_state l.state) any_mark (map seen_line l.lines);
+  counted : l.found + lines_in (seen_line_state l.state) any_mark (map seen_line (drop l.row-index l.lines))
+      ≡ lines_in (seen_line_state l.state) any_mark (map seen_line l.lines);
   fits : l.found ≤ l.row-index;
 }

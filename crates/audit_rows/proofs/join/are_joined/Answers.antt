@@ -11,10 +11,16 @@ returns-then-not-are_counted c =
     let h = c.header-item.result in
     let key : c.as_slice.result.now ≡ header_key (seen_header h) = search rules in
     let hs = map seen_header (drop (c.loop-header.header-index + 1) c.args.headers.now) in
-    let front = c.split_group.ensures.front ∙ ap (λ (k : List ℕ). front_of (λ (row : CheckedLine). bytes_eq (row.source ∷ row.addressee ∷ row.number ∷ []) k) c.loop-header.rest.now) key in
-    let back = c.split_group.ensures.back ∙ ap (λ (k : List ℕ). back_of (λ (row : CheckedLine). bytes_eq (row.source ∷ row.addressee ∷ row.number ∷ []) k) c.loop-header.rest.now) key in
-    sym (typed_step seen_placed (seen_header h) hs c.loop-header.rest.now c.split_group.result.0.now c.split_group.result.1.now false front back (sym c.if-not-are_counted.ensures))
-    ∙ sym (ap (λ hs. is_some (join hs (map seen_placed c.loop-header.rest.now))) (header_next seen_header c.args.headers.now c.loop-header.header-index h c.loop-header-test.true c.header-item.is))
+    let front =
+    c.split_group.ensures.front
+    ∙ ap (λ (k : List ℕ). front_of (λ (row : CheckedLine). bytes_eq (row.source ∷ row.addressee ∷ row.number ∷ []) k) c.loop-header.rest.now) key in
+    let back =
+    c.split_group.ensures.back
+    ∙ ap (λ (k : List ℕ). back_of (λ (row : CheckedLine). bytes_eq (row.source ∷ row.addressee ∷ row.number ∷ []) k) c.loop-header.rest.now) key in
+    sym (typed_step seen_placed (seen_header h) hs c.loop-header.rest.now c.split_group.result.0.now
+    c.split_group.result.1.now false front back (sym c.if-not-are_counted.ensures))
+    ∙ sym (ap (λ hs. is_some (join hs (map seen_placed c.loop-header.rest.now)))
+    (header_next seen_header c.args.headers.now c.loop-header.header-index h c.loop-header-test.true c.header-item.is))
     ∙ c.loop-header.invariant
 
 pub loop-header-preserved : goal.loop-header-preserved
@@ -22,8 +28,14 @@ loop-header-preserved c =
     let h = c.header-item.result in
     let key : c.as_slice.result.now ≡ header_key (seen_header h) = search rules in
     let hs = map seen_header (drop (c.loop-header.header-index + 1) c.args.headers.now) in
-    let front = c.split_group.ensures.front ∙ ap (λ (k : List ℕ). front_of (λ (row : CheckedLine). bytes_eq (row.source ∷ row.addressee ∷ row.number ∷ []) k) c.loop-header.rest.now) key in
-    let back = c.split_group.ensures.back ∙ ap (λ (k : List ℕ). back_of (λ (row : CheckedLine). bytes_eq (row.source ∷ row.addressee ∷ row.number ∷ []) k) c.loop-header.rest.now) key in
-    sym (typed_step seen_placed (seen_header h) hs c.loop-header.rest.now c.split_group.result.0.now c.split_group.result.1.now true front back (sym c.if-not-are_counted.ensures))
-    ∙ sym (ap (λ hs. is_some (join hs (map seen_placed c.loop-header.rest.now))) (header_next seen_header c.args.headers.now c.loop-header.header-index h c.loop-header-test.true c.header-item.is))
+    let front =
+    c.split_group.ensures.front
+    ∙ ap (λ (k : List ℕ). front_of (λ (row : CheckedLine). bytes_eq (row.source ∷ row.addressee ∷ row.number ∷ []) k) c.loop-header.rest.now) key in
+    let back =
+    c.split_group.ensures.back
+    ∙ ap (λ (k : List ℕ). back_of (λ (row : CheckedLine). bytes_eq (row.source ∷ row.addressee ∷ row.number ∷ []) k) c.loop-header.rest.now) key in
+    sym (typed_step seen_placed (seen_header h) hs c.loop-header.rest.now c.split_group.result.0.now
+    c.split_group.result.1.now true front back (sym c.if-not-are_counted.ensures))
+    ∙ sym (ap (λ hs. is_some (join hs (map seen_placed c.loop-header.rest.now)))
+    (header_next seen_header c.args.headers.now c.loop-header.header-index h c.loop-header-test.true c.header-item.is))
     ∙ c.loop-header.invariant

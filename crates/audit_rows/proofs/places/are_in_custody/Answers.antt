@@ -1,4 +1,5 @@
-use Rattle.shop_types.proofs.Common.{◌≡◌, ◌∙◌, ◌&&◌, ◌++◌, List, ap, sym, map, true≢false, true, false, list_any, list_all, bytes_eq, Row, BookCopy, Line, seen_mark}
+use Rattle.shop_types.proofs.Common.{◌≡◌, ◌∙◌, ◌&&◌, ◌++◌, List, ap, sym, map, true≢false, true, false, list_any, list_all, bytes_eq, Row, BookCopy, Line}
+use Rattle.shop_types.proofs.Common.{seen_mark}
 use Rattle.audit_rows.specs.Lists.{Key}
 use Rattle.audit_rows.specs.Seen.{seen_copy, seen_line}
 use Rattle.audit_rows.specs.Marked.{film_key, mark_key, made_keys, places_are_single, rows_placed, lines_placed}
@@ -13,7 +14,8 @@ returns-then-not-branch c =
     let copies : List (Row BookCopy) = map seen_copy c.args.copies.now in
     let lines : List Line = map seen_line c.args.lines.now in
     let keys : List Key = rows_placed copies ++ lines_placed lines in
-    let is : map (λ (row : MarkedFilm). film_key row.film (seen_mark row.mark)) c.add_lines_placed.new.placed.items ≡ keys = c.in_ok-add_lines_placed.ensures ∙ ap (λ ks. ks ++ lines_placed lines) c.in_ok-placed.ensures in
+    let is : map (λ (row : MarkedFilm). film_key row.film (seen_mark row.mark)) c.add_lines_placed.new.placed.items ≡ keys =
+    c.in_ok-add_lines_placed.ensures ∙ ap (λ ks. ks ++ lines_placed lines) c.in_ok-placed.ensures in
     let single : c.in_ok-have_one_place.field-0 ≡ places_are_single (made_keys copies) (map cut keys) =
     c.in_ok-have_one_place.ensures
     ∙ (λ i. places_are_single (made_keys copies) (map (λ (row : MarkedFilm). mark_key (seen_mark row.mark)) (c.as_slice.ensures.value i)))
@@ -26,16 +28,19 @@ returns c =
     let copies : List (Row BookCopy) = map seen_copy c.args.copies.now in
     let lines : List Line = map seen_line c.args.lines.now in
     let keys : List Key = rows_placed copies ++ lines_placed lines in
-    let is : map (λ (row : MarkedFilm). film_key row.film (seen_mark row.mark)) c.add_lines_placed.new.placed.items ≡ keys = c.in_ok-add_lines_placed.ensures ∙ ap (λ ks. ks ++ lines_placed lines) c.in_ok-placed.ensures in
+    let is : map (λ (row : MarkedFilm). film_key row.film (seen_mark row.mark)) c.add_lines_placed.new.placed.items ≡ keys =
+    c.in_ok-add_lines_placed.ensures ∙ ap (λ ks. ks ++ lines_placed lines) c.in_ok-placed.ensures in
     let single : c.in_ok-have_one_place.field-0 ≡ places_are_single (made_keys copies) (map cut keys) =
     c.in_ok-have_one_place.ensures
     ∙ (λ i. places_are_single (made_keys copies) (map (λ (row : MarkedFilm). mark_key (seen_mark row.mark)) (c.as_slice.ensures.value i)))
     ∙ ap (places_are_single (made_keys copies)) (cut_rows (λ (row : MarkedFilm). row.film) (λ (row : MarkedFilm). seen_mark row.mark) _ keys is) in
     let passed : c.in_ok-have_one_place.field-0 ≡ true = c.if-not-branch.false in
     let key = λ (row : MarkedFilm). film_key row.film (seen_mark row.mark) in
-    let found : (k : Key) → list_any (bytes_eq k) (map key c.sort_rows.new.rows.items) ≡ list_any (bytes_eq k) keys = any_sorted key _ _ keys is c.sort_rows.ensures.permutation in
+    let found : (k : Key) → list_any (bytes_eq k) (map key c.sort_rows.new.rows.items) ≡ list_any (bytes_eq k) keys =
+    any_sorted key _ _ keys is c.sort_rows.ensures.permutation in
     let rows : c.copies_among.result ≡ list_all (λ (row : Row BookCopy). list_any (bytes_eq (film_key row.it.film row.it.mark)) keys) copies =
-    c.copies_among.ensures ∙ (λ i. list_all (λ (row : Row BookCopy). list_any (bytes_eq (film_key row.it.film row.it.mark)) (map key (c.as_slice-2.ensures.value i))) copies)
+    c.copies_among.ensures
+    ∙ (λ i. list_all (λ (row : Row BookCopy). list_any (bytes_eq (film_key row.it.film row.it.mark)) (map key (c.as_slice-2.ensures.value i))) copies)
     ∙ all_congr _ _ (λ (row : Row BookCopy). found (film_key row.it.film row.it.mark)) copies in
     let result : c.if-copies_among.result ≡ (rows_found copies lines && lines_found copies lines) = elim c.if-copies_among.branch [
       | then-copies_among w ↦

@@ -4,4 +4,5 @@ use Rattle.audit_rows.specs.Lists.{rises_from}
 use Rattle.audit_rows.proofs.shop.rentals_rise.Given as goal
 
 abbrev pub invariant-loop-row : goal.invariant-loop-row
-invariant-loop-row l = rises_from l.last (map (λ row. seconds_of row.it.rented) (drop l.row-index l.rentals)) ≡ rises_from 0 (map (λ row. seconds_of row.it.rented) l.rentals)
+invariant-loop-row l =
+    rises_from l.last (map (λ row. seconds_of row.it.rented) (drop l.row-index l.rentals)) ≡ rises_from 0 (map (λ row. seconds_of row.it.rented) l.rentals)

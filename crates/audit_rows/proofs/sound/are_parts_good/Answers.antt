@@ -15,17 +15,27 @@ loop-row-init c =
 pub returns-then-not-branch : goal.returns-then-not-branch
 returns-then-not-branch c =
     let loop = c.loop-row in
-    let part = next_part c.args.books.now loop.row-index loop.branch loop.invariant.branch loop.rest loop.invariant.rest (rows_of c.take_branch.result.0) c.take_branch.ensures.part in
-    let step = good_step c.args.books.now loop.branch loop.row-index c.as_slice-row-items.result.now c.row-item.result (rows_of c.take_branch.result.0) false c.loop-row-test.true c.row-item.is part (sym c.if-not-branch.true ∙ c.in_ok-is_good.ensures) in
+    let part =
+    next_part c.args.books.now loop.row-index loop.branch loop.invariant.branch loop.rest loop.invariant.rest
+    (rows_of c.take_branch.result.0) c.take_branch.ensures.part in
+    let step =
+    good_step c.args.books.now loop.branch loop.row-index c.as_slice-row-items.result.now c.row-item.result
+    (rows_of c.take_branch.result.0) false c.loop-row-test.true c.row-item.is part (sym c.if-not-branch.true ∙ c.in_ok-is_good.ensures) in
     sym step ∙ loop.invariant.good ∙ ap (are_good_from c.args.books.now 1) c.as_slice-row-items.ensures.value
 
 pub loop-row-preserved : goal.loop-row-preserved
 loop-row-preserved c =
     let loop = c.loop-row in
-    let part = next_part c.args.books.now loop.row-index loop.branch loop.invariant.branch loop.rest loop.invariant.rest (rows_of c.take_branch.result.0) c.take_branch.ensures.part in
-    let step = good_step c.args.books.now loop.branch loop.row-index c.as_slice-row-items.result.now c.row-item.result (rows_of c.take_branch.result.0) true c.loop-row-test.true c.row-item.is part (sym c.if-not-branch.false ∙ c.in_ok-is_good.ensures) in
+    let part =
+    next_part c.args.books.now loop.row-index loop.branch loop.invariant.branch loop.rest loop.invariant.rest
+    (rows_of c.take_branch.result.0) c.take_branch.ensures.part in
+    let step =
+    good_step c.args.books.now loop.branch loop.row-index c.as_slice-row-items.result.now c.row-item.result
+    (rows_of c.take_branch.result.0) true c.loop-row-test.true c.row-item.is part (sym c.if-not-branch.false ∙ c.in_ok-is_good.ensures) in
     record {
       branch = ap (λ n. n + 1) loop.invariant.branch;
       good = sym step ∙ loop.invariant.good;
-      rest = next_rests c.args.books.now loop.row-index loop.branch loop.invariant.branch loop.rest loop.invariant.rest c.take_branch.result.1 c.take_branch.ensures.more;
+      rest =
+          next_rests c.args.books.now loop.row-index loop.branch loop.invariant.branch
+          loop.rest loop.invariant.rest c.take_branch.result.1 c.take_branch.ensures.more;
     }

@@ -17,4 +17,12 @@ returns c =
     let days = month_days_are c.args.year c.args.month c.unwrap-first.result c.last_of_month-last.result is y m parts.2 c.last_of_month-last.ensures in
     let first_fits : FitsSigned w32 c.to_unix_epoch_day.result = omega (arith, signed_arith) in
     let last_fits : FitsSigned w32 c.to_unix_epoch_day-2.result = omega (arith, signed_arith) in
-    rw (to_z-of_z w32 c.to_unix_epoch_day.result first_fits, to_z-of_z w32 c.to_unix_epoch_day-2.result last_fits, c.to_unix_epoch_day.ensures.value, c.to_unix_epoch_day-2.ensures.value, c.to_plain.ensures, c.to_plain-2.ensures) days
+    rw (
+      to_z-of_z w32 c.to_unix_epoch_day.result first_fits,
+      to_z-of_z w32 c.to_unix_epoch_day-2.result last_fits,
+      c.to_unix_epoch_day.ensures.value,
+      c.to_unix_epoch_day-2.ensures.value,
+      c.to_plain.ensures,
+      c.to_plain-2.ensures,
+    )
+    days

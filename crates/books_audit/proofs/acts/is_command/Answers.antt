@@ -6,7 +6,9 @@ pub returns-in_default : goal.returns-in_default
 returns-in_default c = (λ h. absurd (true≢false (sym h)), λ h. absurd (no_staff c.args.bytes.now c.in_default.ensures.none h))
 
 pub returns-in_default-skip : goal.returns-in_default-skip
-returns-in_default-skip c = let f = c.in-Some.ensures.found in (λ h. absurd (true≢false (sym h)), λ h. absurd (no_moment c.args.bytes.now c.in-Some.rest.now f.0 f.1 f.2 c.in_default-skip.ensures.none h))
+returns-in_default-skip c =
+    let f = c.in-Some.ensures.found in
+    (λ h. absurd (true≢false (sym h)), λ h. absurd (no_moment c.args.bytes.now c.in-Some.rest.now f.0 f.1 f.2 c.in_default-skip.ensures.none h))
 
 pub returns : goal.returns
 returns c =

@@ -3,7 +3,8 @@ use Rattle.books_audit.proofs.TripleLemmas.{not_wanted, rows_from_counts, counts
 use Rattle.books_audit.proofs.counts.has_rows.Goals as goal
 
 pub returns-in_default : goal.returns-in_default
-returns-in_default c = (λ h. absurd (true≢false (sym h)), λ h. absurd (not_wanted c.args.rows.now c.args.wanted.items (rw c.in_default.is at c.in_ok-found.ensures.none) h))
+returns-in_default c =
+    (λ h. absurd (true≢false (sym h)), λ h. absurd (not_wanted c.args.rows.now c.args.wanted.items (rw c.in_default.is at c.in_ok-found.ensures.none) h))
 
 pub returns : goal.returns
 returns c =

@@ -20,6 +20,12 @@ returns c =
     let pairs = rw (c.of-2.ensures, pair_rows c.in_ok-pairs.pairs.items _ c.in_ok-pairs.ensures, c.as_slice.ensures.value) at c.in_ok-has_rows-2.ensures in
     if_ok_then c.has_rows-3.result (λ (b : Bool) is.
     let counters = rw (c.of-3.ensures, c.in_ok-counters.ensures) at is in (
-      λ h. record { counters = counters.0 h; outs = outs.0 c.if-not-branch.false; pairs = pairs.0 c.if-not-branch-2.false; terms = sym termed ∙ c.if-not-are_termed.false },
+      λ h.
+          record {
+            counters = counters.0 h;
+            outs = outs.0 c.if-not-branch.false;
+            pairs = pairs.0 c.if-not-branch-2.false;
+            terms = sym termed ∙ c.if-not-are_termed.false;
+          },
       λ h. counters.1 h.counters,
     )) c.has_rows-3.ensures

@@ -1,4 +1,5 @@
-use Rattle.shop_schema.proofs.Common.{ap, subst, ◌∙◌, map, IsPermutation, columns_of, clean_before, inside_as, inside_then, within_of, copy_table, consignment_line_table}
+use Rattle.shop_schema.proofs.Common.{ap, subst, ◌∙◌, map, IsPermutation, columns_of, clean_before, inside_as, inside_then, within_of, copy_table}
+use Rattle.shop_schema.proofs.Common.{consignment_line_table}
 use Rattle.books_audit.proofs.Places.{copies, lines}
 use Rattle.books_audit.proofs.CustodyAudits.{audit_moved}
 use Rattle.books_audit.proofs.custody.audit_custody.Goals as goal

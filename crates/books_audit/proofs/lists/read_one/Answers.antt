@@ -6,4 +6,5 @@ pub returns-then-not-is_empty-clause-none : goal.returns-then-not-is_empty-claus
 returns-then-not-is_empty-clause-none g c e h =
     let popped : c.in-Some.all.items ≡ c.pop.new.self.items ++ c.in-Some-pop.one ∷ [] = search rules in
     let some : ¬ (length c.pop.new.self.items ≡ 0) = search rules in
-    not_one_row g.T.Listed.is_row c.in-Some.all.items c.pop.new.self.items c.in-Some-pop.one _ (rw (c.of.ensures, c.in-Some.is) at c.in_ok-all.ensures.found) popped some h.one
+    not_one_row g.T.Listed.is_row c.in-Some.all.items c.pop.new.self.items c.in-Some-pop.one _
+    (rw (c.of.ensures, c.in-Some.is) at c.in_ok-all.ensures.found) popped some h.one

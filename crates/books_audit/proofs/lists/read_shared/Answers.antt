@@ -6,7 +6,10 @@ use Rattle.audit_rows.proofs.Tests.{counted_is, is_counted}
 pub returns-then-not-are_placed-clause-none : goal.returns-then-not-are_placed-clause-none
 returns-then-not-are_placed-clause-none g c e h =
     let is = c.are_placed.ensures ∙ ap (λ xs. counts_from 1 (map g.T.Shared.place xs)) c.as_slice.ensures.value in
-    true≢false (sym (is_counted 1 _ (h.counted c.in-Some.all.items _ (rw (c.of-rows.ensures, c.in-Some.is) at c.in_ok-all.ensures.found) c.sort_places.ensures.permutation c.sort_places.ensures.sorted)) ∙ sym is ∙ c.if-not-are_placed.true)
+    true≢false (sym (is_counted 1 _
+    (h.counted c.in-Some.all.items _ (rw (c.of-rows.ensures, c.in-Some.is) at c.in_ok-all.ensures.found)
+    c.sort_places.ensures.permutation c.sort_places.ensures.sorted))
+    ∙ sym is ∙ c.if-not-are_placed.true)
 
 pub returns-clause-read : goal.returns-clause-read
 returns-clause-read g c =

@@ -3,6 +3,7 @@ use Rattle.books_audit.proofs.ordered.audit_ordered.Goals as goal
 
 pub returns : goal.returns
 returns c = record {
-  sound = λ rules whole has. subst (λ (b : Bool). IsTrue b ↔ IsSound (widest rules) whole) (sym c.counted.ensures.sound) (c.in_ok-sound.ensures rules whole has);
+  sound =
+      λ rules whole has. subst (λ (b : Bool). IsTrue b ↔ IsSound (widest rules) whole) (sym c.counted.ensures.sound) (c.in_ok-sound.ensures rules whole has);
   counts = rw (c.as_slice-copies.ensures.value, c.as_slice-lines.ensures.value) at c.counted.ensures.counts;
 }

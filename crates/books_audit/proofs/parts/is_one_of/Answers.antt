@@ -7,7 +7,10 @@ pub returns-in_default : goal.returns-in_default
 returns-in_default c = (λ h. absurd (true≢false (sym h)), λ f. absurd (empty_none _ c.args.bytes.now c.in_default.ensures.cases f))
 
 pub returns-then-tag-eq0 : goal.returns-then-tag-eq0
-returns-then-tag-eq0 c = (λ h. absurd (true≢false (sym h)), λ f. absurd (zero_none _ c.args.bytes.now c.in-Some.rest.now c.in-Some.tag.now c.if-tag-eq0.true c.in-Some.ensures.cases.0 f))
+returns-then-tag-eq0 c = (
+  λ h. absurd (true≢false (sym h)),
+  λ f. absurd (zero_none _ c.args.bytes.now c.in-Some.rest.now c.in-Some.tag.now c.if-tag-eq0.true c.in-Some.ensures.cases.0 f),
+)
 
 pub returns-in-Some-get : goal.returns-in-Some-get
 returns-in-Some-get c =
@@ -23,5 +26,7 @@ pub returns-in-None : goal.returns-in-None
 returns-in-None c =
     let forms = c.args.forms.now in
     let place = c.in-Some.tag.now - 1 in
-    let such : slice_get forms place ≡ None = slice_get_past forms place c.in-None.ensures.lookup.3 in
-    (λ h. absurd (true≢false (sym h)), λ f. absurd (found_none forms c.args.bytes.now c.in-Some.rest.now c.in-Some.tag.now place (omega arith) such c.in-Some.ensures.cases.0 f))
+    let such : slice_get forms place ≡ None = slice_get_past forms place c.in-None.ensures.lookup.3 in (
+      λ h. absurd (true≢false (sym h)),
+      λ f. absurd (found_none forms c.args.bytes.now c.in-Some.rest.now c.in-Some.tag.now place (omega arith) such c.in-Some.ensures.cases.0 f),
+    )

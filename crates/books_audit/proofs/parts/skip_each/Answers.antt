@@ -3,12 +3,15 @@ use Rattle.books_audit.proofs.Ends.{EachLeft, each_step, each_begins, each_fails
 use Rattle.books_audit.proofs.parts.skip_each.Goals as goal
 
 pub loop-init : goal.loop-init
-loop-init c left h = let same : c.args.count ≡ left = omega (arith, h) in subst (EachLeft c.args.bytes.now c.args.count c.args.bytes.now) same (each_begins c.args.bytes.now c.args.count)
+loop-init c left h =
+    let same : c.args.count ≡ left = omega (arith, h) in
+    subst (EachLeft c.args.bytes.now c.args.count c.args.bytes.now) same (each_begins c.args.bytes.now c.args.count)
 
 pub returns-in_err-rest-clause-none : goal.returns-in_err-rest-clause-none
 returns-in_err-rest-clause-none c =
     rw c.from_residual.ensures
-    (each_fails c.args.bytes.now c.args.count c.loop.rest.now (c.args.count - c.loop.counter - 1) (c.loop.invariant (suc (c.args.count - c.loop.counter - 1)) (omega arith)) c.in_err-rest.ensures.none)
+    (each_fails c.args.bytes.now c.args.count c.loop.rest.now (c.args.count - c.loop.counter - 1)
+    (c.loop.invariant (suc (c.args.count - c.loop.counter - 1)) (omega arith)) c.in_err-rest.ensures.none)
 
 pub loop-preserved : goal.loop-preserved
 loop-preserved c left h =

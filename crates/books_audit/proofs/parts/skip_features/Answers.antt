@@ -3,7 +3,8 @@ use Rattle.books_audit.proofs.Ends.{same_text}
 use Rattle.books_audit.proofs.parts.skip_features.Goals as goal
 
 pub returns-then-are_features-clause-found : goal.returns-then-are_features-clause-found
-returns-then-are_features-clause-found c = (text_form c.in_ok-text.text.now, (c.in_ok-text.text.now, c.are_features.ensures.0 c.if-are_features.true, refl), c.in_ok-text.ensures.found)
+returns-then-are_features-clause-found c =
+    (text_form c.in_ok-text.text.now, (c.in_ok-text.text.now, c.are_features.ensures.0 c.if-are_features.true, refl), c.in_ok-text.ensures.found)
 
 pub returns-else-are_features-clause-none : goal.returns-else-are_features-clause-none
 returns-else-are_features-clause-none c piece rest (t, k, e) h =

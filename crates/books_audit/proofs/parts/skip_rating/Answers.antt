@@ -3,7 +3,8 @@ use Rattle.books_audit.proofs.Ends.{same_text}
 use Rattle.books_audit.proofs.parts.skip_rating.Goals as goal
 
 pub returns-then-is_rating-clause-found : goal.returns-then-is_rating-clause-found
-returns-then-is_rating-clause-found c = (text_form c.in_ok-text.text.now, (c.in_ok-text.text.now, c.is_rating.ensures.0 c.if-is_rating.true, refl), c.in_ok-text.ensures.found)
+returns-then-is_rating-clause-found c =
+    (text_form c.in_ok-text.text.now, (c.in_ok-text.text.now, c.is_rating.ensures.0 c.if-is_rating.true, refl), c.in_ok-text.ensures.found)
 
 pub returns-else-is_rating-clause-none : goal.returns-else-is_rating-clause-none
 returns-else-is_rating-clause-none c piece rest (t, k, e) h =

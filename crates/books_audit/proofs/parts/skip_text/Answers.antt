@@ -14,5 +14,8 @@ returns-then-not-is_utf8-clause-none c piece rest (t, k, e) h =
     true≢false (sym (c.if-not-is_utf8.ensures.1 (subst IsUtf8 same k.1)))
 
 pub returns-clause-found : goal.returns-clause-found
-returns-clause-found c =
-    (text_form c.in_ok-text.text.now, (c.in_ok-text.text.now, (sym c.if-not-is_text.ensures, c.if-not-is_utf8.ensures.0 refl), refl), c.in_ok-text.ensures.found)
+returns-clause-found c = (
+  text_form c.in_ok-text.text.now,
+  (c.in_ok-text.text.now, (sym c.if-not-is_text.ensures, c.if-not-is_utf8.ensures.0 refl), refl),
+  c.in_ok-text.ensures.found,
+)

@@ -9,7 +9,8 @@ some_of (Some x) h = (x, refl)
 
 pub returns-clause-read : goal.returns-clause-read
 returns-clause-read c =
-    let joins = c.are_joined.ensures ∙ (λ i. is_some (join (map seen_header (c.as_slice.ensures.value i)) (map seen_placed (c.as_slice-2.ensures.value i)))) in record {
+    let joins = c.are_joined.ensures ∙ (λ i. is_some (join (map seen_header (c.as_slice.ensures.value i)) (map seen_placed (c.as_slice-2.ensures.value i)))) in
+    record {
       chain = c.in_ok-chain.ensures.read;
       rule_row = c.in_ok-read_one.field-0;
       rule = c.in_ok-read_one.ensures.read;

@@ -1,4 +1,5 @@
-use Rattle.shop_schema.proofs.Common.{Bor, List, ℕ, [], sym, ap, subst, ◌∙◌, ◌+◌, map, drop, arith, drop_all, map_push, state, next_of, and_then, done, some_calls}
+use Rattle.shop_schema.proofs.Common.{Bor, List, ℕ, [], sym, ap, subst, ◌∙◌, ◌+◌, map, drop, arith, drop_all, map_push, state, next_of, and_then, done}
+use Rattle.shop_schema.proofs.Common.{some_calls}
 use Rattle.sql_rows.proofs.Chaining.{one_call}
 use Rattle.books_audit.specs.Tables.{AreRowsOf}
 use Rattle.books_audit.proofs.Told.{SoFar, next_table, one_more, all_read}
@@ -14,13 +15,20 @@ loop-text-preserved g c = done (and_then (some_calls c.loop-text.invariant) (one
     let before = said.0 has ts h in
     let so = subst (λ texts. SoFar trees texts read ts) next before.0 in
     let told = said.1 (ap (λ d. d.schema) before.1 ∙ has) in
-    let t = next_table so in
-    (subst (λ all. SoFar trees left all ts) (sym pushed) (one_more trees _ left read ts c.in_ok-rows.rows.items so (λ t means. subst (λ d. AreRowsOf t d.trees c.in_ok-rows.rows.items) before.1 (told t means).0)), (told t.0 t.1).1 ∙ before.1))
+    let t = next_table so in (
+      subst (λ all. SoFar trees left all ts) (sym pushed)
+          (one_more trees _ left read ts c.in_ok-rows.rows.items so
+          (λ t means. subst (λ d. AreRowsOf t d.trees c.in_ok-rows.rows.items) before.1 (told t means).0)),
+      (told t.0 t.1).1 ∙ before.1,
+    ))
 
 pub returns : goal.returns
 returns g c = done (some_calls c.loop-text.invariant) (λ said has ts h.
-    let none = ap (λ (texts : List (Bor (List ℕ))). map (λ t. t.now) texts) (drop_all c.loop-text.text-index c.args.texts.now (omega (arith, c.loop-text-test.false))) in
+    let none =
+    ap (λ (texts : List (Bor (List ℕ))). map (λ t. t.now) texts)
+    (drop_all c.loop-text.text-index c.args.texts.now (omega (arith, c.loop-text-test.false))) in
     let trees = (state g.S.Store c.args.tx.now.conn.now).now.trees in
     let read = said has ts h in
-    let so : SoFar trees [] (map (λ rows. rows.items) c.loop-text.all.items) ts = subst (λ left. SoFar trees left (map (λ rows. rows.items) c.loop-text.all.items) ts) none read.0 in
+    let so : SoFar trees [] (map (λ rows. rows.items) c.loop-text.all.items) ts =
+    subst (λ left. SoFar trees left (map (λ rows. rows.items) c.loop-text.all.items) ts) none read.0 in
     (all_read trees _ ts so, read.1))

@@ -13,6 +13,9 @@ returns g c = record {
       let rest = c.in_ok-all.ensures.says clean (ap (λ d. d.schema) first.1 ∙ has) behind others in
       let lists = map (λ rows. rows.items) c.in_ok-all.all.items in
       let trees = (state g.S.Store c.args.tx.now.conn.now).now.trees in
-      let read = subst (λ d. HaveRows behind d.trees lists) first.1 rest.0 in
-      (at_places trees (record { all = c.insert.new.self }) shop_schema.tables (c.in_ok-chain.chain.items ∷ lists) (ap (map (λ rows. rows.items)) c.in_ok-insert.ensures.items) (first.0, read), rest.1 ∙ first.1);
+      let read = subst (λ d. HaveRows behind d.trees lists) first.1 rest.0 in (
+        at_places trees (record { all = c.insert.new.self }) shop_schema.tables (c.in_ok-chain.chain.items ∷ lists)
+            (ap (map (λ rows. rows.items)) c.in_ok-insert.ensures.items) (first.0, read),
+        rest.1 ∙ first.1,
+      );
 }

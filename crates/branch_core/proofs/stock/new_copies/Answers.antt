@@ -9,4 +9,5 @@ use Rattle.branch_core.proofs.stock.new_copies.Goals as goal
 
 pub returns-in-Ok-clause-value : goal.returns-in-Ok-clause-value
 returns-in-Ok-clause-value c =
-    c.copies_in.ensures ∙ ap copies_of c.as_slice.ensures.value ∙ sym (length_films c.in-Ok.rows) ∙ ap (λ (stock : Result (List StockFound) BadCsv). new_in (seen_stock stock)) (sym c.in-Ok.is)
+    c.copies_in.ensures ∙ ap copies_of c.as_slice.ensures.value ∙ sym (length_films c.in-Ok.rows)
+    ∙ ap (λ (stock : Result (List StockFound) BadCsv). new_in (seen_stock stock)) (sym c.in-Ok.is)

@@ -6,7 +6,10 @@ use Rattle.branch_finds.proofs.Stocks.{row_found, row_listed}
 use Rattle.branch_finds.proofs.commands.find_films.Goals as goal
 
 pub loop-row-init : goal.loop-row-init
-loop-row-init g c = (record { inside = within_none; says = λ clean books holds held. (holds, λ known. (c.new-found.ensures.items, known)) }, ap (map as_listed) c.new-found.ensures.items)
+loop-row-init g c = (
+  record { inside = within_none; says = λ clean books holds held. (holds, λ known. (c.new-found.ensures.items, known)) },
+  ap (map as_listed) c.new-found.ensures.items,
+)
 
 pub loop-row-preserved : goal.loop-row-preserved
 loop-row-preserved g c =
@@ -15,7 +18,8 @@ loop-row-preserved g c =
     let before = c.loop-row.found.items in
     let row = c.row-item.result in
     let withdrawn = c.in_ok-withdrawn.withdrawn in
-    let pushed : c.push.new.self.items ≡ before ++ told_row row withdrawn ∷ [] = c.in_ok-push.ensures.items ∙ ap (λ (r : StockFound). before ++ r ∷ []) c.told_row.ensures in (
+    let pushed : c.push.new.self.items ≡ before ++ told_row row withdrawn ∷ [] =
+    c.in_ok-push.ensures.items ∙ ap (λ (r : StockFound). before ++ r ∷ []) c.told_row.ensures in (
       done (and_then (some_calls c.loop-row.invariant.0) (some_calls c.in_ok-withdrawn.ensures)) (λ said books holds held.
           let first = said.0 books holds held in
           let next = said.1 books first.0 held in (
@@ -30,5 +34,11 @@ loop-row-preserved g c =
 
 pub returns-clause-does : goal.returns-clause-does
 returns-clause-does g c = done (some_calls c.loop-row.invariant.0) (λ said books holds held.
-    let all = said books holds held in
-    (all.0, λ known. ((all.1 known).0 ∙ ap (λ (rs : List StockRow). map (found_row books.catalogue) rs) (take_all c.loop-row.row-index c.args.rows.now c.loop-row-test.false), (all.1 known).1)))
+    let all = said books holds held in (
+      all.0,
+      λ known. (
+        (all.1 known).0
+            ∙ ap (λ (rs : List StockRow). map (found_row books.catalogue) rs) (take_all c.loop-row.row-index c.args.rows.now c.loop-row-test.false),
+        (all.1 known).1,
+      ),
+    ))

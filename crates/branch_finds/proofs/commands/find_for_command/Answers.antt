@@ -8,6 +8,8 @@ returns g c = done (and_then (one_call c.in_ok-staff.ensures) (some_calls c.in_o
     let rows = said.1 books staff.0 held in (
       rows.0,
       λ known.
-          let it = rows.1 known in
-          (((λ rules reads kept stands. record { kept = kept; keys = stands.keys; last = stands.last; staff = staff.1; act = it.0.0 rules reads }), it.0.1), it.1),
+          let it = rows.1 known in (
+            ((λ rules reads kept stands. record { kept = kept; keys = stands.keys; last = stands.last; staff = staff.1; act = it.0.0 rules reads }), it.0.1),
+            it.1,
+          ),
     ))

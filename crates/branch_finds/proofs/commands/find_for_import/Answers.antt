@@ -3,7 +3,9 @@ use Rattle.sql_rows.proofs.Chaining.{one_call}
 use Rattle.branch_finds.proofs.commands.find_for_import.Goals as goal
 
 pub returns : goal.returns
-returns g c = done (and_then (one_call c.in_ok-copies.ensures.does) (and_then (one_call c.in_ok-has_lot.ensures) (some_calls c.in_ok-stock.ensures.does))) (λ said at books holds held.
+returns g c =
+    done (and_then (one_call c.in_ok-copies.ensures.does) (and_then (one_call c.in_ok-has_lot.ensures) (some_calls c.in_ok-stock.ensures.does)))
+    (λ said at books holds held.
     let count = said.0 books holds held in
     let lot = said.1.0 books count.0 held in
     let stock = said.1.1 books lot.0 held in (

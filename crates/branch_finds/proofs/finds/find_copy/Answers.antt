@@ -1,4 +1,5 @@
-use Rattle.shop_schema.proofs.Common.{◌≡◌, ◌∙◌, [], ◌∷◌, sym, ap, Bool, List, not, Option, Some, option_map, option_to_list, and_then, done, some_calls, within_none, at, Copy, Terms, in_stock, shop_of, seen_terms}
+use Rattle.shop_schema.proofs.Common.{◌≡◌, ◌∙◌, [], ◌∷◌, sym, ap, Bool, List, not, Option, Some, option_map, option_to_list, and_then, done, some_calls}
+use Rattle.shop_schema.proofs.Common.{within_none, at, Copy, Terms, in_stock, shop_of, seen_terms}
 use Rattle.sql_rows.proofs.Chaining.{one_call}
 use Rattle.chain_caches.specs.declared.films.KnownFilm.{KnownFilm}
 use Rattle.shop_store.specs.Seen.{seen_copy_now}

@@ -8,6 +8,10 @@ returns g c = done (one_call c.in_ok-out.ensures) (λ said books holds held.
     let out = said books holds held in (
       out.0,
       λ i.
-          let shown : ℕ × Bool × Bool = (c.args.row.number, c.is_here.ensures c.args.row.film i, stock_of_out c.args.row.number (shop_of c.args.branch books).rentals c.in_ok-out.out _ c.is_none.ensures out.1 i) in
+          let shown : ℕ × Bool × Bool = (
+            c.args.row.number,
+            c.is_here.ensures c.args.row.film i,
+            stock_of_out c.args.row.number (shop_of c.args.branch books).rentals c.in_ok-out.out _ c.is_none.ensures out.1 i,
+          ) in
           shown,
     ))

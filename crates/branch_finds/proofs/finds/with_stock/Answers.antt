@@ -20,5 +20,9 @@ loop-row-preserved g c = done (and_then (some_calls c.loop-row.invariant) (some_
 
 pub returns : goal.returns
 returns g c = done (some_calls c.loop-row.invariant) (λ said books holds held.
-    let all = said books holds held in
-    (all.0, all.1 ∙ ap (λ (rs : List CopyRow). map (copy_shown (shop_of c.args.branch books).rentals) rs) (take_all c.loop-row.row-index c.args.rows.now c.loop-row-test.false)))
+    let all = said books holds held in (
+      all.0,
+      all.1
+          ∙ ap (λ (rs : List CopyRow). map (copy_shown (shop_of c.args.branch books).rentals) rs)
+          (take_all c.loop-row.row-index c.args.rows.now c.loop-row-test.false),
+    ))

@@ -14,11 +14,18 @@ returns-in-Some g c = record {
 
 pub returns-in_default-2 : goal.returns-in_default-2
 returns-in_default-2 g c = done (one_call c.in_ok-row.ensures) (λ said books holds held.
-    let row = said books holds held in
-    (row.0, λ rows. (ap (option_map (λ (it : FilmRow). known_of (seen_film_row it))) (sym c.in_default-2.is) ∙ head_of seen_film_row known_of _ _ row.1, c.known.ensures.kept books.catalogue.films rows)))
+    let row = said books holds held in (
+      row.0,
+      λ rows. (
+        ap (option_map (λ (it : FilmRow). known_of (seen_film_row it))) (sym c.in_default-2.is) ∙ head_of seen_film_row known_of _ _ row.1,
+        c.known.ensures.kept books.catalogue.films rows,
+      ),
+    ))
 
 pub returns : goal.returns
 returns g c = done (one_call c.in_ok-row.ensures) (λ said books holds held.
     let row = said books holds held in
-    let told = ap Some c.known_in-film.ensures ∙ ap (option_map (λ (it : FilmRow). known_of (seen_film_row it))) (sym c.in-Some-2.is) ∙ head_of seen_film_row known_of _ _ row.1 in
+    let told =
+    ap Some c.known_in-film.ensures ∙ ap (option_map (λ (it : FilmRow). known_of (seen_film_row it))) (sym c.in-Some-2.is)
+    ∙ head_of seen_film_row known_of _ _ row.1 in
     (row.0, λ rows. (told, c.put.ensures books.catalogue.films (c.known.ensures.kept books.catalogue.films rows) told)))

@@ -11,8 +11,11 @@ use Rattle.branch_looks.proofs.answering.answer_view.Goals as goal
 
 pub returns-in-None-clause-does : goal.returns-in-None-clause-does
 returns-in-None-clause-does g c = done_inside c.in_ok-standing_at.ensures.does (λ standing books holds held.
-    let found = standing books holds held in
-    (found.0, nobody_answered c.args.branch (OneView (seen_view c.args.view)) books c.no_counter.result (subst (IsStanding c.args.branch books) c.in-None.is found.1) c.no_counter.ensures.reply c.no_counter.ensures.same))
+    let found = standing books holds held in (
+      found.0,
+      nobody_answered c.args.branch (OneView (seen_view c.args.view)) books c.no_counter.result
+          (subst (IsStanding c.args.branch books) c.in-None.is found.1) c.no_counter.ensures.reply c.no_counter.ensures.same,
+    ))
 
 pub returns-in-Some-clause-does : goal.returns-in-Some-clause-does
 returns-in-Some-clause-does g c = done_inside c.in_ok-standing_at.ensures.does (λ standing books holds held.

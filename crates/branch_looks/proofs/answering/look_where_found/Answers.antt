@@ -9,8 +9,11 @@ use Rattle.branch_looks.proofs.answering.look_where_found.Goals as goal
 
 pub returns-in_default-clause-does : goal.returns-in_default-clause-does
 returns-in_default-clause-does g c = done_inside c.in_ok-standing_at.ensures.does (λ standing books holds held.
-    let found = standing books holds held in
-    (found.0, nobody_answered c.args.branch (seen_ask c.args.ask) books c.no_counter.result (subst (IsStanding c.args.branch books) c.in_default.is found.1) c.no_counter.ensures.reply c.no_counter.ensures.same))
+    let found = standing books holds held in (
+      found.0,
+      nobody_answered c.args.branch (seen_ask c.args.ask) books c.no_counter.result
+          (subst (IsStanding c.args.branch books) c.in_default.is found.1) c.no_counter.ensures.reply c.no_counter.ensures.same,
+    ))
 
 pub returns-clause-does : goal.returns-clause-does
 returns-clause-does g c =

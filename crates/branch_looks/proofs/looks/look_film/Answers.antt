@@ -1,4 +1,5 @@
-use Rattle.shop_schema.proofs.Common.{◌∙◌, refl, sym, ap, List, Option, option_map, option_to_list, Film, NoFilm, Decision, given, FilmIs, answer_of, accepted_answer}
+use Rattle.shop_schema.proofs.Common.{◌∙◌, refl, sym, ap, List, Option, option_map, option_to_list, Film, NoFilm, Decision, given, FilmIs, answer_of}
+use Rattle.shop_schema.proofs.Common.{accepted_answer}
 use Rattle.shop_store.specs.SharedSeen.{seen_film_row}
 use Rattle.shop_store.specs.declared.films.FilmRow.{FilmRow}
 use Rattle.sql_rows.proofs.Chaining.{done_inside}
@@ -10,8 +11,11 @@ listed o = option_to_list (option_map seen_film_row o)
 
 pub returns-in_ok-film_text-in-Some-clause-does : goal.returns-in_ok-film_text-in-Some-clause-does
 returns-in_ok-film_text-in-Some-clause-does g c = done_inside c.in_ok-row.ensures (λ row books holds held.
-    let found = row books holds held in
-    (found.0, c.accepted.ensures ∙ ap accepted_answer c.in_ok-film_text-in-Some.ensures ∙ ap (λ (rows : List Film). answer_of (given NoFilm (FilmIs c.args.number) rows)) (ap listed (sym c.in-Some.is) ∙ found.1)))
+    let found = row books holds held in (
+      found.0,
+      c.accepted.ensures ∙ ap accepted_answer c.in_ok-film_text-in-Some.ensures
+          ∙ ap (λ (rows : List Film). answer_of (given NoFilm (FilmIs c.args.number) rows)) (ap listed (sym c.in-Some.is) ∙ found.1),
+    ))
 
 pub returns-in-None-clause-does : goal.returns-in-None-clause-does
 returns-in-None-clause-does g c = done_inside c.in_ok-row.ensures (λ row books holds held.

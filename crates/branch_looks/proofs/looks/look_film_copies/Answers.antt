@@ -1,4 +1,5 @@
-use Rattle.shop_schema.proofs.Common.{◌≡◌, ◌∙◌, refl, sym, ap, subst, ℕ, true, false, Bool, map, Some, None, some_calls, NoFilm, Decision, Catalogue, Shop, CopiesAre, Sorry, Shows, look, answer_of, accepted_answer, head, shop_of, at, film_in_stock, film_not_in_stock}
+use Rattle.shop_schema.proofs.Common.{◌≡◌, ◌∙◌, refl, sym, ap, subst, ℕ, true, false, Bool, map, Some, None, some_calls, NoFilm, Decision, Catalogue, Shop}
+use Rattle.shop_schema.proofs.Common.{CopiesAre, Sorry, Shows, look, answer_of, accepted_answer, head, shop_of, at, film_in_stock, film_not_in_stock}
 use Rattle.shop_store.specs.SharedSeen.{withdrawn_of}
 use Rattle.branch_core.specs.Agreed.{AreOfFilm}
 use Rattle.branch_looks.specs.Looks.{stock_asked, stock_listed}
@@ -7,11 +8,13 @@ use Rattle.branch_reports.proofs.Given.{given_none, given_some}
 use Rattle.branch_reports.proofs.Decisions.{accepted_told, refused_told}
 use Rattle.branch_looks.proofs.looks.look_film_copies.Goals as goal
 
-no_film : (is_in : Bool) (b film : ℕ) (catalogue : Catalogue) (shop : Shop) → None ≡ head (map withdrawn_of (at film catalogue.films)) → look b catalogue shop (stock_asked is_in film) ≡ Sorry NoFilm
+no_film : (is_in : Bool) (b film : ℕ) (catalogue : Catalogue) (shop : Shop)
+    → None ≡ head (map withdrawn_of (at film catalogue.films)) → look b catalogue shop (stock_asked is_in film) ≡ Sorry NoFilm
 no_film true b film catalogue shop is = given_none NoFilm _ withdrawn_of (at film catalogue.films) is
 no_film false b film catalogue shop is = given_none NoFilm _ withdrawn_of (at film catalogue.films) is
 
-film_shown : (is_in : Bool) (b film : ℕ) (catalogue : Catalogue) (shop : Shop) (w : Bool) → Some w ≡ head (map withdrawn_of (at film catalogue.films)) → look b catalogue shop (stock_asked is_in film) ≡ Shows (CopiesAre (stock_listed is_in film shop))
+film_shown : (is_in : Bool) (b film : ℕ) (catalogue : Catalogue) (shop : Shop) (w : Bool) → Some w ≡ head (map withdrawn_of (at film catalogue.films))
+    → look b catalogue shop (stock_asked is_in film) ≡ Shows (CopiesAre (stock_listed is_in film shop))
 film_shown true b film catalogue shop w is = given_some NoFilm (CopiesAre (film_in_stock film shop)) withdrawn_of (at film catalogue.films) w is
 film_shown false b film catalogue shop w is = given_some NoFilm (CopiesAre (film_not_in_stock film shop)) withdrawn_of (at film catalogue.films) w is
 
@@ -24,7 +27,8 @@ returns-in-Ok-clause-does g c = first_done c.in_ok-film_withdrawn.ensures (some_
     let copies = said books found.0 held in
     let are : AreOfFilm film shop c.as_slice.result.now = subst (AreOfFilm film shop) (sym c.as_slice.ensures.value) copies.1 in (
       copies.0,
-      c.accepted.ensures ∙ ap accepted_answer (c.in-Ok.ensures film shop are) ∙ ap answer_of (sym (film_shown c.args.is_in b film books.catalogue shop _ (sym c.in-Some.is ∙ found.1))),
+      c.accepted.ensures ∙ ap accepted_answer (c.in-Ok.ensures film shop are)
+          ∙ ap answer_of (sym (film_shown c.args.is_in b film books.catalogue shop _ (sym c.in-Some.is ∙ found.1))),
     ))
 
 pub returns-in_default-clause-does : goal.returns-in_default-clause-does

@@ -1,4 +1,5 @@
-use Rattle.shop_schema.proofs.Common.{◌∙◌, ◌∷◌, refl, sym, ap, ℕ, [], codes, List, Option, option_map, option_to_list, some_calls, Copy, Text, NoCopy, Decision, held_by, object, given, HolderIs, Reply, answer_of, accepted_answer, holder_text, shop_of}
+use Rattle.shop_schema.proofs.Common.{◌∙◌, ◌∷◌, refl, sym, ap, ℕ, [], codes, List, Option, option_map, option_to_list, some_calls, Copy, Text, NoCopy, Decision}
+use Rattle.shop_schema.proofs.Common.{held_by, object, given, HolderIs, Reply, answer_of, accepted_answer, holder_text, shop_of}
 use Rattle.shop_store.specs.Seen.{seen_copy_now}
 use Rattle.shop_store.specs.declared.copies.CopyNow.{CopyNow}
 use Rattle.branch_looks.proofs.Shows.{first_holder}

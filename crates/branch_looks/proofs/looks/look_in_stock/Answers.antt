@@ -1,4 +1,5 @@
-use Rattle.shop_schema.proofs.Common.{◌≡◌, ◌∙◌, refl, sym, ap, Bool, List, Option, option_map, option_to_list, Copy, NoCopy, Decision, in_stock, given, InStockIs, Reply, Shows, answer_of, accepted_answer, shop_of}
+use Rattle.shop_schema.proofs.Common.{◌≡◌, ◌∙◌, refl, sym, ap, Bool, List, Option, option_map, option_to_list, Copy, NoCopy, Decision, in_stock, given}
+use Rattle.shop_schema.proofs.Common.{InStockIs, Reply, Shows, answer_of, accepted_answer, shop_of}
 use Rattle.shop_store.specs.Seen.{seen_copy_now}
 use Rattle.shop_store.specs.declared.copies.CopyNow.{CopyNow}
 use Rattle.branch_finds.proofs.Shows.{stock_of_out}
@@ -16,7 +17,8 @@ pub returns-in_ok-in_stock_text-in-Some-clause-does : goal.returns-in_ok-in_stoc
 returns-in_ok-in_stock_text-in-Some-clause-does g c = done_inside c.in_ok-found.ensures (λ row books holds held.
     let rentals = (shop_of c.args.branch books).rentals in
     let found = row books holds held in
-    let is_in : c.is_none.result ≡ in_stock c.args.copy rentals = stock_of_out c.args.copy rentals c.in-Some.found.out _ c.is_none.ensures (rw c.in-Some.is at found.1.1) in
+    let is_in : c.is_none.result ≡ in_stock c.args.copy rentals =
+    stock_of_out c.args.copy rentals c.in-Some.found.out _ c.is_none.ensures (rw c.in-Some.is at found.1.1) in
     let shows : Bool → Reply = λ b. Shows (InStockIs b) in (
       found.0,
       c.accepted.ensures ∙ ap accepted_answer c.in_ok-in_stock_text-in-Some.ensures ∙ ap (λ (b : Bool). answer_of (shows b)) is_in
@@ -25,8 +27,12 @@ returns-in_ok-in_stock_text-in-Some-clause-does g c = done_inside c.in_ok-found.
 
 pub returns-in-None-clause-does : goal.returns-in-None-clause-does
 returns-in-None-clause-does g c = done_inside c.in_ok-found.ensures (λ row books holds held.
-    let found = row books holds held in
-    (found.0, c.refused.ensures ∙ ap (λ (copies : List Copy). answer_of (told (in_stock c.args.copy (shop_of c.args.branch books).rentals) copies)) (ap listed (sym c.in-None.is) ∙ found.1.0)))
+    let found = row books holds held in (
+      found.0,
+      c.refused.ensures
+          ∙ ap (λ (copies : List Copy). answer_of (told (in_stock c.args.copy (shop_of c.args.branch books).rentals) copies))
+          (ap listed (sym c.in-None.is) ∙ found.1.0),
+    ))
 
 pub returns-in_ok-in_stock_text-in-Some-clause-decided : goal.returns-in_ok-in_stock_text-in-Some-clause-decided
 returns-in_ok-in_stock_text-in-Some-clause-decided g c = accepted_told _ _ c.accepted.ensures

@@ -1,4 +1,5 @@
-use Rattle.shop_schema.proofs.Common.{◌≡◌, ◌∙◌, ◌+◌, ◌++◌, ◌∷◌, [], List, take, map, sym, ap, take_more, take_all, map-append, done, map-map, Payment, seen_payment}
+use Rattle.shop_schema.proofs.Common.{◌≡◌, ◌∙◌, ◌+◌, ◌++◌, ◌∷◌, [], List, take, map, sym, ap, take_more, take_all, map-append, done, map-map, Payment}
+use Rattle.shop_schema.proofs.Common.{seen_payment}
 use Rattle.sql_rows.proofs.Chaining.{one_call}
 use Rattle.shop_store.specs.declared.payments.PaymentRow.{PaymentRow}
 use Rattle.balance_rule.specs.declared.rows.Paid.{Paid}
@@ -17,8 +18,10 @@ loop-row-preserved g c =
     let rows = c.deref-row-items.result.now in
     let it = c.row-item.result in
     let more : map paid (take (i + 1) rows) ≡ map paid (take i rows) ++ paid it ∷ [] =
-    ap (map paid) (take_more rows i it c.loop-row-test.true ∙ ap (λ (x : PaymentRow). take i rows ++ x ∷ []) (sym c.row-item.is)) ∙ map-append paid (take i rows) (it ∷ []) in
-    c.in_ok-push.ensures.items ∙ ap (λ (p : Paid). c.loop-row.payments.items ++ p ∷ []) c.paid_by.ensures ∙ ap (λ (rs : List Paid). rs ++ paid it ∷ []) c.loop-row.invariant ∙ sym more
+    ap (map paid) (take_more rows i it c.loop-row-test.true ∙ ap (λ (x : PaymentRow). take i rows ++ x ∷ []) (sym c.row-item.is))
+    ∙ map-append paid (take i rows) (it ∷ []) in
+    c.in_ok-push.ensures.items ∙ ap (λ (p : Paid). c.loop-row.payments.items ++ p ∷ []) c.paid_by.ensures
+    ∙ ap (λ (rs : List Paid). rs ++ paid it ∷ []) c.loop-row.invariant ∙ sym more
 
 pub returns : goal.returns
 returns g c = done (one_call c.in_ok-rows.ensures) (λ said books holds held.

@@ -14,5 +14,6 @@ returns g c = done (one_call c.in_ok-rows.ensures) (λ said books holds held.
     let found = said books holds held in
     let rows = c.in_ok-rows.rows.items in
     let all : c.loop-row.terms.items ≡ map charged rows =
-    c.loop-row.invariant ∙ ap (map charged) (take_all c.loop-row.row-index c.deref-row-items.result.now c.loop-row-test.false ∙ c.deref-row-items.ensures.value) in
+    c.loop-row.invariant
+    ∙ ap (map charged) (take_all c.loop-row.row-index c.deref-row-items.result.now c.loop-row-test.false ∙ c.deref-row-items.ensures.value) in
     (found.0, all ∙ sym (map-map terms_of seen_termed rows) ∙ ap (λ (ts : List (Rental × Terms)). map terms_of ts) found.1))

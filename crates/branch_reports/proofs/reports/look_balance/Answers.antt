@@ -1,4 +1,5 @@
-use Rattle.shop_schema.proofs.Common.{◌∙◌, refl, sym, ap, subst, ℤ, and_then, some_calls, Customer, Rule, NoCustomer, Decision, balance, BalanceIs, Reply, Shows, answer_of, accepted_answer, shop_of}
+use Rattle.shop_schema.proofs.Common.{◌∙◌, refl, sym, ap, subst, ℤ, and_then, some_calls, Customer, Rule, NoCustomer, Decision, balance, BalanceIs, Reply}
+use Rattle.shop_schema.proofs.Common.{Shows, answer_of, accepted_answer, shop_of}
 use Rattle.sql_rows.proofs.Chaining.{one_call, first_done, done_inside}
 use Rattle.balance_rule.specs.Balance.{AreTermsOf, ArePaidBy}
 use Rattle.branch_reports.proofs.Given.{given_none, given_some}
@@ -23,7 +24,9 @@ returns-clause-does g c = first_done c.in_ok-active_at.ensures
     let shows : ℤ → Reply = λ owed. Shows (BalanceIs owed) in (
       payments.0,
       c.accepted.ensures ∙ ap accepted_answer c.in_ok-balance_text.ensures ∙ ap (λ (owed : ℤ). answer_of (shows owed)) cents
-          ∙ ap answer_of (sym (given_some NoCustomer (BalanceIs (balance books.catalogue.rule shop customer c.args.at)) (λ (it : Customer). it.active) _ _ (sym c.in-Some.is ∙ found.1))),
+          ∙ ap answer_of
+          (sym (given_some NoCustomer (BalanceIs (balance books.catalogue.rule shop customer c.args.at))
+          (λ (it : Customer). it.active) _ _ (sym c.in-Some.is ∙ found.1))),
     ))
 
 pub returns-in_default-clause-does : goal.returns-in_default-clause-does

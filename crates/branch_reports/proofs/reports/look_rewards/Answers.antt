@@ -8,7 +8,8 @@ returns-clause-does g c = done (some_calls c.in_ok-customers.ensures) (λ said b
     let b = c.args.branch in
     let found = said books holds held in (
       found.0,
-      rewards_told b books.catalogue (shop_of b books) c.args.at c.args.purchases c.args.cents c.in_ok-customers.customers.items c.as_slice.result.now _ _ c.if-purchases-eq0.false c.if-cents-eq0.false
+      rewards_told b books.catalogue (shop_of b books) c.args.at c.args.purchases c.args.cents
+          c.in_ok-customers.customers.items c.as_slice.result.now _ _ c.if-purchases-eq0.false c.if-cents-eq0.false
           c.as_slice.ensures.value found.1 c.in_ok-rewards_text.ensures c.accepted.ensures,
     ))
 

@@ -9,7 +9,11 @@ use Rattle.branch_reports.proofs.rewards.find_rewarded.Goals as goal
 pub returns-in_default : goal.returns-in_default
 returns-in_default g c = record {
   inside = within_none;
-  says = λ clean books holds held. (holds, c.new.ensures.items ∙ no_month (month_before c.args.at) (shop_of c.args.branch books) c.args.purchases c.args.cents (sym c.in_default.is ∙ c.last_month.ensures));
+  says = λ clean books holds held. (
+    holds,
+    c.new.ensures.items
+        ∙ no_month (month_before c.args.at) (shop_of c.args.branch books) c.args.purchases c.args.cents (sym c.in_default.is ∙ c.last_month.ensures),
+  );
 }
 
 pub returns : goal.returns
@@ -28,7 +32,9 @@ returns g c =
           let rows = said.1 books customers.0 held in (
             rows.0,
             found_are month days (shop_of b books) c.args.purchases c.args.cents _ _ numbers.items are customers.1
-                (ap (λ (rows : List PaymentRow). payments_of rows) c.as_slice.ensures.value ∙ rows.1 ∙ of_the_month b month days bounds.0 bounds.1 are c.last_month_bounds-start.ensures books held) among,
+                (ap (λ (rows : List PaymentRow). payments_of rows) c.as_slice.ensures.value ∙ rows.1
+                ∙ of_the_month b month days bounds.0 bounds.1 are c.last_month_bounds-start.ensures books held)
+                among,
           ))
           c.rewarded_among.ensures;
     }

@@ -17,7 +17,8 @@ loop-index-preserved c =
           rw w.numbers-is (w.in_ok-push.ensures.items ∙ ap (λ (ns : List ℕ). ns ++ customer ∷ []) before
           ∙ sym (rewarded_more c.args.month c.args.purchases c.args.cents i customer payments number (sym told ∙ w.if-passes_for.true)))
       | else-passes_for w ↦
-          rw w.numbers-is (before ∙ sym (rewarded_same c.args.month c.args.purchases c.args.cents i customer payments number (sym told ∙ w.if-passes_for.false)))
+          rw w.numbers-is
+          (before ∙ sym (rewarded_same c.args.month c.args.purchases c.args.cents i customer payments number (sym told ∙ w.if-passes_for.false)))
     ]
 
 pub returns : goal.returns

@@ -29,7 +29,9 @@ loop-row-preserved c =
           })
       | else-is_on w ↦
           rw w.sums-is (record {
-            summed = subst (λ (ps : List Payment). AreSummed month c.loop-row.sums ps) (sym next) (sums_same month c.loop-row.sums before (seen row) inv.summed (told ∙ w.if-is_on.false));
+            summed =
+                subst (λ (ps : List Payment). AreSummed month c.loop-row.sums ps) (sym next)
+                (sums_same month c.loop-row.sums before (seen row) inv.summed (told ∙ w.if-is_on.false));
             small = search rules;
           })
     ]

@@ -8,7 +8,8 @@ use Rattle.branch_work.proofs.adding.add_payment.Goals as goal
 use Rattle.shop_schema.specs.Counts.{payments_kind}
 
 pub returns : goal.returns
-returns g c = λ found. carried_out (and_then (some_calls c.in_ok-number.ensures) (one_call c.in_ok-put_payment.ensures)) (λ said rules books holds held agrees marked.
+returns g c =
+    λ found. carried_out (and_then (some_calls c.in_ok-number.ensures) (one_call c.in_ok-put_payment.ensures)) (λ said rules books holds held agrees marked.
     let b = c.args.branch in
     let low : 1 ≤ b = omega arith in
     let n = c.in_ok-number.number in

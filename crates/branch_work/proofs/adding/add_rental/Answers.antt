@@ -1,4 +1,5 @@
-use Rattle.shop_schema.proofs.Common.{◌≡◌, ◌≤◌, ◌+◌, ◌∷◌, [], None, ℕ, refl, ap, subst, arith, and_then, some_calls, next, terms_now, shop_of, seen_terms, counts_of, raise}
+use Rattle.shop_schema.proofs.Common.{◌≡◌, ◌≤◌, ◌+◌, ◌∷◌, [], None, ℕ, refl, ap, subst, arith, and_then, some_calls, next, terms_now, shop_of, seen_terms}
+use Rattle.shop_schema.proofs.Common.{counts_of, raise}
 use Rattle.sql_rows.proofs.Chaining.{one_call}
 use Rattle.shop_ledger.specs.declared.counts.CountKind.TheVariants as kind
 use Rattle.shop_ledger.proofs.CountsOf.{beside, held_once, told_more}
@@ -23,6 +24,12 @@ returns g c = carried_out
     let is : n ≡ next b books.rentals = told_more b 2 1 books n low taken.1 in
     let out = said.1.1.1 counts _ (said.1.1.0 counts _ (said.1.0 counts books taken.0 tt) tt) tt in
     let terms = seen_terms c.in-Some.found.terms in
-    let now : terms_now books.catalogue (shop_of b books) c.args.copy ≡ terms ∷ [] = subst (HasTermsNow books.catalogue (shop_of b books) c.args.copy) c.in-Some.is agrees.terms in
-    let termed : next b books.terms ≡ next b books.rentals = ap (λ (m : ℕ). m + 1) (held.termed b) in
-    (rental_added _ b books low holds.stands.more.termed n (record { rented = c.args.command.now.at; copy = c.args.copy; customer = c.args.customer; returned = None; staff = c.args.command.now.staff }) terms _ refl is termed now out.0, rw is at c.in_ok-number_text.ensures, tt))
+    let now : terms_now books.catalogue (shop_of b books) c.args.copy ≡ terms ∷ [] =
+    subst (HasTermsNow books.catalogue (shop_of b books) c.args.copy) c.in-Some.is agrees.terms in
+    let termed : next b books.terms ≡ next b books.rentals = ap (λ (m : ℕ). m + 1) (held.termed b) in (
+      rental_added _ b books low holds.stands.more.termed n
+          (record { rented = c.args.command.now.at; copy = c.args.copy; customer = c.args.customer; returned = None; staff = c.args.command.now.staff })
+          terms _ refl is termed now out.0,
+      rw is at c.in_ok-number_text.ensures,
+      tt,
+    ))

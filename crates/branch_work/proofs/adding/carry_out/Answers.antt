@@ -16,10 +16,14 @@ pub returns-in-Import : goal.returns-in-Import
 returns-in-Import g c = by_name (ap seen_act c.in-Import.is) (c.import.ensures _ _)
 
 pub returns-in-Dispatch : goal.returns-in-Dispatch
-returns-in-Dispatch g c = by_name (ap seen_act c.in-Dispatch.is ∙ ap (λ (xs : List ℕ). model.Dispatch c.in-Dispatch.to xs) (sym c.as_slice.ensures.value)) (c.dispatch.ensures _)
+returns-in-Dispatch g c =
+    by_name (ap seen_act c.in-Dispatch.is ∙ ap (λ (xs : List ℕ). model.Dispatch c.in-Dispatch.to xs) (sym c.as_slice.ensures.value)) (c.dispatch.ensures _)
 
 pub returns-in-Receive : goal.returns-in-Receive
-returns-in-Receive g c = by_name (ap seen_act c.in-Receive.is ∙ ap (λ (xs : List ℕ). model.Receive c.in-Receive.from c.in-Receive.number xs) (sym c.as_slice-in-Receive.ensures.value)) (c.receive.ensures _)
+returns-in-Receive g c =
+    by_name
+    (ap seen_act c.in-Receive.is ∙ ap (λ (xs : List ℕ). model.Receive c.in-Receive.from c.in-Receive.number xs) (sym c.as_slice-in-Receive.ensures.value))
+    (c.receive.ensures _)
 
 pub returns-in-Scrap : goal.returns-in-Scrap
 returns-in-Scrap g c = by_name (ap seen_act c.in-Scrap.is) (c.scrap.ensures _ _)

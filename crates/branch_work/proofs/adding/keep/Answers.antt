@@ -6,7 +6,8 @@ use Rattle.branch_work.proofs.adding.keep.Goals as goal
 use Rattle.shop_schema.specs.Counts.{kept_kind}
 
 pub returns : goal.returns
-returns g c = and_last (and_then (one_call c.in_ok-take_numbers.ensures.does) (one_call c.in_ok-put_kept.ensures)) c.set_last.ensures.inside c.set_last.ensures.says
+returns g c =
+    and_last (and_then (one_call c.in_ok-take_numbers.ensures.does) (one_call c.in_ok-put_kept.ensures)) c.set_last.ensures.inside c.set_last.ensures.says
     (λ said y last books holds once.
     let b = c.args.branch in
     let low : 1 ≤ b = omega arith in

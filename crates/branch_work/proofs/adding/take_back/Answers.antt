@@ -15,5 +15,9 @@ returns g c = carried_out (and_then (one_call c.in_ok-set_returned.ensures) (one
     let m = c.args.command.now.at in
     let set = said.0 (counts_of books) books (beside _ books holds) held in
     let copy = copy_found b r c.in-Some.found books held (ap (option_map seen_rental) (sym c.in-Some.is) ∙ agrees.rental) in
-    let dropped = said.1 (counts_of books) _ set (out_once b r x books copy) in
-    (agreed _ _ (drop_out b x r (counts_of books)) (returned_counted b r x m books (its_rentals b r x books.rentals copy)) (set_termed b r (λ (it : Rental). record it { returned = Some m }) books holds.stands.more.termed) dropped.0, c.in_ok-number_text.ensures, tt))
+    let dropped = said.1 (counts_of books) _ set (out_once b r x books copy) in (
+      agreed _ _ (drop_out b x r (counts_of books)) (returned_counted b r x m books (its_rentals b r x books.rentals copy))
+          (set_termed b r (λ (it : Rental). record it { returned = Some m }) books holds.stands.more.termed) dropped.0,
+      c.in_ok-number_text.ensures,
+      tt,
+    ))

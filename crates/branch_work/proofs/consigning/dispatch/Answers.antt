@@ -1,4 +1,5 @@
-use Rattle.shop_schema.proofs.Common.{◌≡◌, ◌∙◌, ◌+◌, ℕ, List, [], Option, length, map, filter, ap, sym, subst, IfSome, state, and_then, some_calls, between, is_consignment, ParcelLine, seen_parcel_line, add_pair, counts_of, Holds, CopyRows}
+use Rattle.shop_schema.proofs.Common.{◌≡◌, ◌∙◌, ◌+◌, ℕ, List, [], Option, length, map, filter, ap, sym, subst, IfSome, state, and_then, some_calls, between}
+use Rattle.shop_schema.proofs.Common.{is_consignment, ParcelLine, seen_parcel_line, add_pair, counts_of, Holds, CopyRows}
 use Rattle.sql_rows.proofs.Chaining.{one_call}
 use Rattle.shop_ledger.proofs.CountsOf.{beside}
 use Rattle.consign_store.proofs.PairCounts.{next_is_new, pair_last, pairs_once}
@@ -33,7 +34,8 @@ returns g c = λ command. carried_out
     let set = said.1.1.1 counts _ (said.1.1.0 counts books taken.0 new) (held.numbers.rows CopyRows b) in
     let are : map seen_parcel_line lines ≡ parts_at b xs books =
     subst (λ (it : Option (List ParcelLine)). IfSome it (λ ls. map seen_parcel_line ls ≡ parts_at b xs books)) c.in-Some.is marked in (
-      subst (Holds s) (dispatch_acted rules b command to xs lines books held.numbers are) (dispatch_added s b to xs lines n place books next behind holds.stands.more.termed set),
+      subst (Holds s) (dispatch_acted rules b command to xs lines books held.numbers are)
+          (dispatch_added s b to xs lines n place books next behind holds.stands.more.termed set),
       c.in_ok-object_text.ensures ∙ (λ i. dispatch_text ((c.get.ensures.value ∙ next) i) (c.get-2.ensures.value i)) ∙ dispatch_told rules b to xs books,
       tt,
     ))

@@ -11,7 +11,8 @@ loop-line-init g c = (
   omega (arith, c.get-number.ensures.value),
   record {
     inside = within_none;
-    says = λ clean counts books holds given. subst (HoldsWith counts (state g.S.Store c.args.tx.now.conn.now)) (sym (none_come c.args.branch c.args.first c.args.come.now books)) holds;
+    says = λ clean counts books holds given.
+        subst (HoldsWith counts (state g.S.Store c.args.tx.now.conn.now)) (sym (none_come c.args.branch c.args.first c.args.come.now books)) holds;
   },
 )
 
@@ -26,8 +27,11 @@ loop-line-preserved g c =
     c.come_copy.ensures ∙ ap (λ (n : ℕ). record { branch = b; number = n; it = come_copy line n }) inv.0 in (
       omega (arith, inv.0),
       done (and_then (some_calls inv.1) (one_call c.in_ok-put_copy.ensures)) (λ said.
-          writes_as _ _ _ _ (λ books. one_come b first i c.args.come.now line c.come_copy.result books c.loop-line-test.true c.line-item.is row) (writes_then _ _ _ _ _ said.0 said.1)),
+          writes_as _ _ _ _ (λ books. one_come b first i c.args.come.now line c.come_copy.result books c.loop-line-test.true c.line-item.is row)
+          (writes_then _ _ _ _ _ said.0 said.1)),
     )
 
 pub returns : goal.returns
-returns g c = done (some_calls c.loop-line.invariant.1) (λ said. writes_as _ _ _ _ (λ books. all_come c.args.branch c.args.first c.loop-line.line-index c.args.come.now books c.loop-line-test.false) said)
+returns g c =
+    done (some_calls c.loop-line.invariant.1)
+    (λ said. writes_as _ _ _ _ (λ books. all_come c.args.branch c.args.first c.loop-line.line-index c.args.come.now books c.loop-line-test.false) said)

@@ -7,4 +7,5 @@ use Rattle.branch_work.proofs.consigning.put_come.Given as goal
 abbrev pub invariant-loop-line : goal.invariant-loop-line
 invariant-loop-line g l =
     (l.number ≡ l.fn.first + l.line-index)
-    × DoesWithin {X = ⊤} {E = StoreFault} g.S.Store l.fn.tx.conn l.tx.conn (Ok tt) (λ _. Stores (λ _. ⊤) (with_copies (come_rows l.branch l.fn.first (take l.line-index l.come))))
+    × DoesWithin {X = ⊤} {E = StoreFault} g.S.Store l.fn.tx.conn l.tx.conn (Ok tt)
+    (λ _. Stores (λ _. ⊤) (with_copies (come_rows l.branch l.fn.first (take l.line-index l.come))))

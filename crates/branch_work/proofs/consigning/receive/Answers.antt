@@ -1,4 +1,6 @@
-use Rattle.shop_schema.proofs.Common.{◌≡◌, ◌∙◌, ◌≤◌, ◌++◌, ◌∷◌, [], ℕ, List, Option, Some, length, map, filter, ap, sym, subst, arith, IfSome, state, and_then, some_calls, arrived, next, Consignment, checked, is_consignment, length_map, ParcelLine, counts_of, raise, Holds, HoldsWith}
+use Rattle.shop_schema.proofs.Common.{◌≡◌, ◌∙◌, ◌≤◌, ◌++◌, ◌∷◌, [], ℕ, List, Option, Some, length, map, filter, ap, sym, subst, arith, IfSome, state, and_then}
+use Rattle.shop_schema.proofs.Common.{some_calls, arrived, next, Consignment, checked, is_consignment, length_map, ParcelLine, counts_of, raise, Holds}
+use Rattle.shop_schema.proofs.Common.{HoldsWith}
 use Rattle.sql_rows.proofs.Chaining.{one_call}
 use Rattle.shop_model.specs.Rows.{update_where}
 use Rattle.shop_ledger.specs.declared.counts.CountKind.TheVariants as kind
@@ -50,19 +52,32 @@ returns g c = λ command. carried_out
     let many : map (λ (it : Consignment). length it.lines) (filter (is_consignment source b n) books.consignments) ≡ length c.as_slice-lines.result.now ∷ [] =
     so_many b source n it books known ∙ ap (λ (ls : List ParcelLine). length ls ∷ []) (sym c.as_slice-lines.ensures.value) in
     let received = said.1.1 counts _ (said.1.0 counts books taken.0 tt) many in
-    let rows = subst (λ (ls : List ParcelLine). HoldsWith counts s (record books { copies = books.copies ++ come_rows b first ls; consignments = update_where (is_consignment source b n) (checked missing) books.consignments })) slice received in
+    let rows =
+    subst (λ (ls : List ParcelLine).
+    HoldsWith counts s
+    (record books {
+      copies = books.copies ++ come_rows b first ls;
+      consignments = update_where (is_consignment source b n) (checked missing) books.consignments;
+    }))
+    slice received in
     let films : List ℕ = map (λ (line : ParcelLine). line.film) come in
     let films_many : length films ≡ length come = length_map (λ (line : ParcelLine). line.film) come in (
-      subst (Holds s) (receipt_acted rules b source n missing books it known command) (receipt_added b books low s source n first m it.lines missing is all holds.stands.more.termed rows),
-      c.in_ok-counted_text.ensures films (films_many ∙ sym all) ∙ ap (λ (k : ℕ). receipt_text k films) (c.get.ensures.value ∙ is) ∙ receipt_told rules b source n missing books it known held.numbers films films_many,
-      subst (λ (o : Option ArrivalFound). IfSome o (λ it. length it.lines ≤ 100)) (sym c.in-Some.is) (few_lines c.as_slice-lines.result.now it.lines c.as_slice-lines.ensures.value c.as_slice-lines.ensures.few),
+      subst (Holds s) (receipt_acted rules b source n missing books it known command)
+          (receipt_added b books low s source n first m it.lines missing is all holds.stands.more.termed rows),
+      c.in_ok-counted_text.ensures films (films_many ∙ sym all) ∙ ap (λ (k : ℕ). receipt_text k films) (c.get.ensures.value ∙ is)
+          ∙ receipt_told rules b source n missing books it known held.numbers films films_many,
+      subst (λ (o : Option ArrivalFound). IfSome o (λ it. length it.lines ≤ 100)) (sym c.in-Some.is)
+          (few_lines c.as_slice-lines.result.now it.lines c.as_slice-lines.ensures.value c.as_slice-lines.ensures.few),
     ))
 
 pub overflow_cast-count : goal.overflow_cast-count
 overflow_cast-count g c =
-    let few = few_read c.args.missing.now c.as_slice-lines.result.now c.as_slice-come.result.now c.in-Some.arrival.lines (c.as_slice-come.ensures.value ∙ c.in-Ok.ensures) c.as_slice-lines.ensures.value c.as_slice-lines.ensures.few in
+    let few =
+    few_read c.args.missing.now c.as_slice-lines.result.now c.as_slice-come.result.now c.in-Some.arrival.lines
+    (c.as_slice-come.ensures.value ∙ c.in-Ok.ensures) c.as_slice-lines.ensures.value c.as_slice-lines.ensures.few in
     omega (arith, few)
 
 pub put_come-requires-clause-few : goal.put_come-requires-clause-few
 put_come-requires-clause-few g c =
-    few_read c.args.missing.now c.as_slice-lines.result.now c.as_slice-come.result.now c.in-Some.arrival.lines (c.as_slice-come.ensures.value ∙ c.in-Ok.ensures) c.as_slice-lines.ensures.value c.as_slice-lines.ensures.few
+    few_read c.args.missing.now c.as_slice-lines.result.now c.as_slice-come.result.now c.in-Some.arrival.lines
+    (c.as_slice-come.ensures.value ∙ c.in-Ok.ensures) c.as_slice-lines.ensures.value c.as_slice-lines.ensures.few

@@ -11,4 +11,6 @@ loop-copy-preserved g c = done (and_then (some_calls c.loop-copy.invariant) (one
     one_set c.args.branch (put_state Sent) _ _ _ c.args.copies.now c.loop-copy.copy-index c.copy-item.result c.loop-copy-test.true c.copy-item.is said.0 said.1)
 
 pub returns : goal.returns
-returns g c = done (some_calls c.loop-copy.invariant) (λ said. all_set c.args.branch (put_state Sent) _ _ c.args.copies.now c.loop-copy.copy-index c.loop-copy-test.false said)
+returns g c =
+    done (some_calls c.loop-copy.invariant)
+    (λ said. all_set c.args.branch (put_state Sent) _ _ c.args.copies.now c.loop-copy.copy-index c.loop-copy-test.false said)

@@ -1,4 +1,5 @@
-use Rattle.shop_schema.proofs.Common.{◌≡◌, ◌≤◌, ◌+◌, ◌∙◌, ◌++◌, ◌∷◌, [], ℕ, List, codes, decimal, ap, sym, subst, arith, length, map, state, and_then, some_calls, films_in, object, Row, next, of, Text, BookCopy, unmarked, length_map, counts_of, raise, Holds, HoldsWith}
+use Rattle.shop_schema.proofs.Common.{◌≡◌, ◌≤◌, ◌+◌, ◌∙◌, ◌++◌, ◌∷◌, [], ℕ, List, codes, decimal, ap, sym, subst, arith, length, map, state, and_then}
+use Rattle.shop_schema.proofs.Common.{some_calls, films_in, object, Row, next, of, Text, BookCopy, unmarked, length_map, counts_of, raise, Holds, HoldsWith}
 use Rattle.sql_rows.proofs.Chaining.{one_call}
 use Rattle.shop_ledger.specs.declared.counts.CountKind.TheVariants as kind
 use Rattle.shop_store.specs.Seen.{seen_copy_row}
@@ -39,7 +40,9 @@ returns g c = λ command file. carried_out
     let rows : map seen_copy_row c.as_slice.result.now ≡ copies_from b first films = ap (map seen_copy_row) c.as_slice.ensures.value ∙ c.in_ok-copies.ensures in (
       subst (λ (fs : List ℕ). Holds s (with_import b fs c.args.lot.now books)) same
           (import_added s b books low holds.stands.more.termed first m films c.args.lot.now is all
-          (subst (λ (rs : List (Row BookCopy)). HoldsWith counts s (record books { copies = books.copies ++ rs; lots = books.lots ++ record { owner = b; it = c.args.lot.now } ∷ [] })) rows lot)),
+          (subst (λ (rs : List (Row BookCopy)).
+          HoldsWith counts s (record books { copies = books.copies ++ rs; lots = books.lots ++ record { owner = b; it = c.args.lot.now } ∷ [] }))
+          rows lot)),
       c.in_ok-object_text.ensures ∙ (λ i. import_text ((all ∙ ap (λ (fs : List ℕ). length fs) same) i) ((c.get.ensures.value ∙ is ∙ sym next_is) i)),
       tt,
     ))

@@ -15,7 +15,8 @@ loop-row-preserved c =
     let stock = c.args.stock.now in
     let done = take i stock in
     let new = copies_from b (c.args.first + vec_len c.loop-row.copies) (replicate row.copies row.film) in
-    let taken : take (i + 1) stock ≡ done ++ row ∷ [] = take_more stock i row c.loop-row-test.true ∙ ap (λ (x : StockFound). done ++ x ∷ []) (sym c.row-item.is) in
+    let taken : take (i + 1) stock ≡ done ++ row ∷ [] =
+    take_more stock i row c.loop-row-test.true ∙ ap (λ (x : StockFound). done ++ x ∷ []) (sym c.row-item.is) in
     let count : copies_of (take (i + 1) stock) ≡ copies_of done + row.copies = ap copies_of taken ∙ sum_by_push (λ (it : StockFound). it.copies) done row in
     let rows : map seen_copy_row c.push_copies.new.copies.items ≡ copies_from b c.args.first (films_of (take (i + 1) stock)) =
     c.in_ok-push_copies.ensures.rows ∙ ap (λ (rs : List (Row BookCopy)). rs ++ new) inv.1 ∙ row_more b c.args.first done row (vec_len c.loop-row.copies) inv.0

@@ -6,4 +6,5 @@ use Rattle.branch_work.proofs.importing.new_copies.Given as goal
 
 abbrev pub invariant-loop-row : goal.invariant-loop-row
 invariant-loop-row l =
-    (vec_len l.copies ≡ copies_of (take l.row-index l.stock)) × (map seen_copy_row l.copies.items ≡ copies_from l.branch l.first (films_of (take l.row-index l.stock)))
+    (vec_len l.copies ≡ copies_of (take l.row-index l.stock))
+    × (map seen_copy_row l.copies.items ≡ copies_from l.branch l.first (films_of (take l.row-index l.stock)))

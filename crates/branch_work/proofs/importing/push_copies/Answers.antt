@@ -1,4 +1,5 @@
-use Rattle.shop_schema.proofs.Common.{◌≡◌, ◌∙◌, ap, ℕ, ◌+◌, List, [], ◌∷◌, ◌++◌, map, replicate, append_assoc, arith, vec_len, map-append, Row, BookCopy, imported}
+use Rattle.shop_schema.proofs.Common.{◌≡◌, ◌∙◌, ap, ℕ, ◌+◌, List, [], ◌∷◌, ◌++◌, map, replicate, append_assoc, arith, vec_len, map-append, Row, BookCopy}
+use Rattle.shop_schema.proofs.Common.{imported}
 use Rattle.shop_store.specs.Seen.{seen_copy_row}
 use Rattle.branch_work.specs.Added.{copies_from}
 use Rattle.branch_work.proofs.CopyLemmas.{copy_more}

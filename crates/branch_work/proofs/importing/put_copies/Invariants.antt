@@ -5,4 +5,5 @@ use Rattle.branch_work.proofs.importing.put_copies.Given as goal
 
 abbrev pub invariant-loop-row : goal.invariant-loop-row
 invariant-loop-row g l =
-    DoesWithin {X = ⊤} {E = StoreFault} g.S.Store l.fn.tx.conn l.tx.conn (Ok tt) (λ _. Stores (λ _. ⊤) (λ books. record books { copies = books.copies ++ map seen_copy_row (take l.row-index l.copies) }))
+    DoesWithin {X = ⊤} {E = StoreFault} g.S.Store l.fn.tx.conn l.tx.conn (Ok tt)
+    (λ _. Stores (λ _. ⊤) (λ books. record books { copies = books.copies ++ map seen_copy_row (take l.row-index l.copies) }))

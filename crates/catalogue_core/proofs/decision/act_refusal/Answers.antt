@@ -10,7 +10,8 @@ pub returns-in-Branch : goal.returns-in-Branch
 returns-in-Branch c = λ catalogue office shares.
     let found = rw c.in-Branch.is at shares in
     let token = c.in-Branch.branch.token in
-    rw c.in-Branch.is (c.branch_refusal.ensures catalogue (seen_branch c.in-Branch.branch) (c.eq.ensures ∙ ap (λ (it : Text). bytes_eq token it) office) found.token found.city)
+    rw c.in-Branch.is
+    (c.branch_refusal.ensures catalogue (seen_branch c.in-Branch.branch) (c.eq.ensures ∙ ap (λ (it : Text). bytes_eq token it) office) found.token found.city)
 
 pub returns-in-Staff : goal.returns-in-Staff
 returns-in-Staff c = λ catalogue office shares.

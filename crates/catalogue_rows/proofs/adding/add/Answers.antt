@@ -1,4 +1,5 @@
-use Rattle.shop_schema.proofs.Common.{◌≡◌, ◌+◌, ◌∙◌, ap, refl, subst, arith, length, string_bytes, state, object, office_told, accepted_answer, Books, seen_office, counts_of, HoldsWith}
+use Rattle.shop_schema.proofs.Common.{◌≡◌, ◌+◌, ◌∙◌, ap, refl, subst, arith, length, string_bytes, state, object, office_told, accepted_answer, Books}
+use Rattle.shop_schema.proofs.Common.{seen_office, counts_of, HoldsWith}
 use Rattle.shop_ledger.specs.Counted.{office_counted}
 use Rattle.shop_ledger.proofs.OfficeCounts.{office_counts_agreed, office_grown_once}
 use Rattle.sql_rows.proofs.Chaining.{then_does, done_inside}
@@ -16,7 +17,9 @@ returns-clause-does g c = done_inside (then_does c.in_ok-number.ensures c.in_ok-
       let told : string_bytes c.in_ok-text.text ≡ object (office_told command.act books.catalogue) = c.in_ok-text.ensures ∙ ap object written.1 in
       let kept = said.1 _ _ written.0 (office_grown_once command.act b books (omega arith) held) in
       let reply : c.as_str.result.now ≡ string_bytes c.in_ok-text.text = c.as_str.ensures.value in
-      let done = subst (λ (it : Books). HoldsWith (office_counted command.act b (counts_of books)) s2 it) (act_kept command c.as_str.result.now books (reply ∙ told)) kept in
+      let done =
+      subst (λ (it : Books). HoldsWith (office_counted command.act b (counts_of books)) s2 it)
+      (act_kept command c.as_str.result.now books (reply ∙ told)) kept in
       (office_counts_agreed s2 command books held.owners holds.stands.more.termed done, c.accepted.ensures ∙ ap accepted_answer told),
 ))
 

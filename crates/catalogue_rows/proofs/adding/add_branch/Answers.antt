@@ -9,7 +9,8 @@ pub returns : goal.returns
 returns g c =
     let next = c.in_ok-number.ensures in
     let first = rw next.1 at c.last_number.ensures in
-    numbered_as c.put_counts.result c.numbered.result _ c.numbered.ensures (then_does (then_does first c.in_ok-put_branch.ensures) c.put_counts.ensures) (λ _ said books holds held.
+    numbered_as c.put_counts.result c.numbered.result _ c.numbered.ensures
+    (then_does (then_does first c.in_ok-put_branch.ensures) c.put_counts.ensures) (λ _ said books holds held.
     let last = said.0.0 books holds held in
     let is : c.in_ok-number.number ≡ length books.catalogue.branches + 1 = next.2 ∙ ap (λ (n : ℕ). n + 1) last.1 in
     let number : c.new_branch.result.number ≡ length books.catalogue.branches + 1 = c.new_branch.ensures.number ∙ is in

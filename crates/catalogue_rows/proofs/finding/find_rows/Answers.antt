@@ -3,25 +3,39 @@ use Rattle.catalogue_rows.proofs.Readings.{of_act, found_of}
 use Rattle.catalogue_rows.proofs.finding.find_rows.Goals as goal
 
 pub returns-in-Country : goal.returns-in-Country
-returns-in-Country g c = found_of (λ rows. rows.is_named) _ c.with_name.result (ap seen_office_act c.in-Country.is ∙ ap AddCountry (sym c.as_str.ensures.value)) (λ rows books is. is) c.with_name.ensures c.is_country.ensures
+returns-in-Country g c =
+    found_of (λ rows. rows.is_named) _ c.with_name.result (ap seen_office_act c.in-Country.is ∙ ap AddCountry (sym c.as_str.ensures.value))
+    (λ rows books is. is) c.with_name.ensures c.is_country.ensures
 
 pub returns-in-Language : goal.returns-in-Language
-returns-in-Language g c = found_of (λ rows. rows.is_named) _ c.with_name-in-Language.result (ap seen_office_act c.in-Language.is ∙ ap AddLanguage (sym c.as_str-in-Language.ensures.value)) (λ rows books is. is) c.with_name-in-Language.ensures c.is_language.ensures
+returns-in-Language g c =
+    found_of (λ rows. rows.is_named) _ c.with_name-in-Language.result
+    (ap seen_office_act c.in-Language.is ∙ ap AddLanguage (sym c.as_str-in-Language.ensures.value))
+    (λ rows books is. is) c.with_name-in-Language.ensures c.is_language.ensures
 
 pub returns-in-Category : goal.returns-in-Category
-returns-in-Category g c = found_of (λ rows. rows.is_named) _ c.with_name-in-Category.result (ap seen_office_act c.in-Category.is ∙ ap AddCategory (sym c.as_str-in-Category.ensures.value)) (λ rows books is. is) c.with_name-in-Category.ensures c.is_category.ensures
+returns-in-Category g c =
+    found_of (λ rows. rows.is_named) _ c.with_name-in-Category.result
+    (ap seen_office_act c.in-Category.is ∙ ap AddCategory (sym c.as_str-in-Category.ensures.value))
+    (λ rows books is. is) c.with_name-in-Category.ensures c.is_category.ensures
 
 pub returns-in-City : goal.returns-in-City
-returns-in-City g c = found_of (λ rows. rows.has_country) _ c.with_country.result (ap seen_office_act c.in-City.is) (λ rows books is. is) c.with_country.ensures c.has_country.ensures
+returns-in-City g c =
+    found_of (λ rows. rows.has_country) _ c.with_country.result (ap seen_office_act c.in-City.is)
+    (λ rows books is. is) c.with_country.ensures c.has_country.ensures
 
 pub returns-in-Price : goal.returns-in-Price
-returns-in-Price g c = found_of (λ rows. rows.film) _ c.with_film.result (ap seen_office_act c.in-Price.is) (λ rows books is. is) c.with_film.ensures c.film_withdrawn.ensures
+returns-in-Price g c =
+    found_of (λ rows. rows.film) _ c.with_film.result (ap seen_office_act c.in-Price.is) (λ rows books is. is) c.with_film.ensures c.film_withdrawn.ensures
 
 pub returns-in-Withdraw : goal.returns-in-Withdraw
-returns-in-Withdraw g c = found_of (λ rows. rows.film) _ c.with_film-in-Withdraw.result (ap seen_office_act c.in-Withdraw.is) (λ rows books is. is) c.with_film-in-Withdraw.ensures c.film_withdrawn-in-Withdraw.ensures
+returns-in-Withdraw g c =
+    found_of (λ rows. rows.film) _ c.with_film-in-Withdraw.result (ap seen_office_act c.in-Withdraw.is)
+    (λ rows books is. is) c.with_film-in-Withdraw.ensures c.film_withdrawn-in-Withdraw.ensures
 
 pub returns-in-Leave : goal.returns-in-Leave
-returns-in-Leave g c = found_of (λ rows. rows.staff) _ c.with_staff.result (ap seen_office_act c.in-Leave.is) (λ rows books is. is) c.with_staff.ensures c.staff_at.ensures
+returns-in-Leave g c =
+    found_of (λ rows. rows.staff) _ c.with_staff.result (ap seen_office_act c.in-Leave.is) (λ rows books is. is) c.with_staff.ensures c.staff_at.ensures
 
 pub returns-in-Film : goal.returns-in-Film
 returns-in-Film g c = of_act (ap seen_office_act c.in-Film.is) c.for_film.ensures

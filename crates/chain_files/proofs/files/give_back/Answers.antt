@@ -6,7 +6,8 @@ pub returns-clause-left : goal.returns-clause-left
 returns-clause-left g c honest =
     let it = c.into_store.result in
     let clean = clean_store it c.close.result c.close.ensures honest in
-    holds_one it c.close.result _ c.close.ensures honest (c.into_store.ensures.numbered clean) (c.into_store.ensures.sound clean) c.into_store.ensures.quiet.outcomes
+    holds_one it c.close.result _ c.close.ensures honest (c.into_store.ensures.numbered clean)
+    (c.into_store.ensures.sound clean) c.into_store.ensures.quiet.outcomes
 
 pub returns-clause-clean : goal.returns-clause-clean
 returns-clause-clean g c honest =

@@ -8,5 +8,6 @@ returns g c = record {
   says = λ clean.
       let tables = c.in_ok-migrate_tables.ensures in
       let clean_mid = clean_before c.in_ok-audit.ensures.inside clean in
-      migrated_inside _ _ _ _ (tables.migrated clean_mid) (tables.stood clean_mid) (λ is. (tables.shop clean_mid is.0, tables.keyed clean_mid is.0 is.1)) (c.in_ok-audit.ensures.says clean);
+      migrated_inside _ _ _ _ (tables.migrated clean_mid) (tables.stood clean_mid)
+      (λ is. (tables.shop clean_mid is.0, tables.keyed clean_mid is.0 is.1)) (c.in_ok-audit.ensures.says clean);
 }

@@ -13,20 +13,27 @@ use Rattle.chain_requests.proofs.answering.branch_inside.Goals as goal
 pub returns-in_ok-done-in-Do-clause-does : goal.returns-in_ok-done-in-Do-clause-does
 returns-in_ok-done-in-Do-clause-does g c = done_inside c.in_ok-done-in-Do.ensures.does (λ works books holds held.
     let it = works books holds (held.0, held.1) in
-    let P : Request → Type 0 = λ request. IsDone c.args.limits (Counter c.args.branch) (seen_request request) c.in_ok-done-in-Do.done (state g.S.Store c.answer_command.new.tx.conn.now) books in
+    let P : Request → Type 0 = λ request.
+    IsDone c.args.limits (Counter c.args.branch) (seen_request request) c.in_ok-done-in-Do.done (state g.S.Store c.answer_command.new.tx.conn.now) books in
     (subst P (sym c.in-Do.is) it.0, rows_by_branch _ (rules_of c.args.limits) c.args.branch (seen_request c.args.request.now) books it.1))
 
 pub returns-in_ok-look-in-Look-clause-does : goal.returns-in_ok-look-in-Look-clause-does
 returns-in_ok-look-in-Look-clause-does g c = done_inside c.in_ok-look-in-Look.ensures.does (λ looks books holds held.
     let found = looks books holds held.0 in
-    let come = look_come c.args.limits c.args.branch books (seen_ask c.in-Look.ask) c.in_ok-look-in-Look.look (state g.S.Store c.answer_look.new.tx.conn.now) (found.1 held.2) found.0 in
+    let come =
+    look_come c.args.limits c.args.branch books (seen_ask c.in-Look.ask) c.in_ok-look-in-Look.look
+    (state g.S.Store c.answer_look.new.tx.conn.now) (found.1 held.2) found.0 in
     (rw (c.in-Look.is, c.for_branch.ensures) come, rows_by_branch _ (rules_of c.args.limits) c.args.branch (seen_request c.args.request.now) books held.1))
 
 pub returns-in_ok-look-in-View-clause-does : goal.returns-in_ok-look-in-View-clause-does
 returns-in_ok-look-in-View-clause-does g c = done_inside c.in_ok-look-in-View.ensures.does (λ looks books holds held.
     let found = looks books holds held.0 in
-    let come = look_come c.args.limits c.args.branch books (OneView (seen_view c.in-View.view)) c.in_ok-look-in-View.look (state g.S.Store c.answer_view.new.tx.conn.now) found.1 found.0 in
-    (rw (c.in-View.is, c.for_branch-in-View.ensures) come, rows_by_branch _ (rules_of c.args.limits) c.args.branch (seen_request c.args.request.now) books held.1))
+    let come =
+    look_come c.args.limits c.args.branch books (OneView (seen_view c.in-View.view)) c.in_ok-look-in-View.look
+    (state g.S.Store c.answer_view.new.tx.conn.now) found.1 found.0 in (
+      rw (c.in-View.is, c.for_branch-in-View.ensures) come,
+      rows_by_branch _ (rules_of c.args.limits) c.args.branch (seen_request c.args.request.now) books held.1,
+    ))
 
 pub returns-in_ok-done-in-Office-clause-does : goal.returns-in_ok-done-in-Office-clause-does
 returns-in_ok-done-in-Office-clause-does g c = done_inside c.in_ok-done-in-Office.ensures.does (λ refuses books holds held.
@@ -41,7 +48,9 @@ returns-in_ok-done-in-Office-clause-does g c = done_inside c.in_ok-done-in-Offic
     (done, rows_by_branch _ (rules_of c.args.limits) c.args.branch (seen_request c.args.request.now) books held.1))
 
 pub returns-in_ok-look-in-Look-clause-decided : goal.returns-in_ok-look-in-Look-clause-decided
-returns-in_ok-look-in-Look-clause-decided g c = rw c.for_branch.ensures (decision_for c.args.branch c.in_ok-look-in-Look.look c.in_ok-look-in-Look.ensures.decided)
+returns-in_ok-look-in-Look-clause-decided g c =
+    rw c.for_branch.ensures (decision_for c.args.branch c.in_ok-look-in-Look.look c.in_ok-look-in-Look.ensures.decided)
 
 pub returns-in_ok-look-in-View-clause-decided : goal.returns-in_ok-look-in-View-clause-decided
-returns-in_ok-look-in-View-clause-decided g c = rw c.for_branch-in-View.ensures (decision_for c.args.branch c.in_ok-look-in-View.look c.in_ok-look-in-View.ensures.decided)
+returns-in_ok-look-in-View-clause-decided g c =
+    rw c.for_branch-in-View.ensures (decision_for c.args.branch c.in_ok-look-in-View.look c.in_ok-look-in-View.ensures.decided)

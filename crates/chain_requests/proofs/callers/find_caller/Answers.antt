@@ -4,8 +4,12 @@ use Rattle.chain_requests.proofs.callers.find_caller.Goals as goal
 
 pub returns-clause-found : goal.returns-clause-found
 returns-clause-found g c =
-    looks_found refl (looks c.args.conn.now c.caller_in-caller.ensures c.transaction-tx.ensures.begun c.transaction-tx.ensures.same_reference c.conn-1.given c.rollback.ensures.survives c.rollback.ensures.undone)
+    looks_found refl
+    (looks c.args.conn.now c.caller_in-caller.ensures c.transaction-tx.ensures.begun
+    c.transaction-tx.ensures.same_reference c.conn-1.given c.rollback.ensures.survives c.rollback.ensures.undone)
 
 pub returns-clause-same : goal.returns-clause-same
 returns-clause-same g c clean books rests held =
-    (looks c.args.conn.now c.caller_in-caller.ensures c.transaction-tx.ensures.begun c.transaction-tx.ensures.same_reference c.conn-1.given c.rollback.ensures.survives c.rollback.ensures.undone).rests clean books rests
+    (looks c.args.conn.now c.caller_in-caller.ensures c.transaction-tx.ensures.begun
+    c.transaction-tx.ensures.same_reference c.conn-1.given c.rollback.ensures.survives c.rollback.ensures.undone).rests
+    clean books rests

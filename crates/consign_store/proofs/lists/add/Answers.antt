@@ -4,4 +4,6 @@ use Rattle.consign_store.proofs.lists.add.Goals as goal
 
 pub returns : goal.returns
 returns c =
-    on_ok_then c.add.result (λ added texts is. subst (λ t. HasTexts c.add.new.self (texts ++ t ∷ [])) c.in_ok-value.ensures.text (added texts c.in_ok-value.ensures.no_float is)) c.add.ensures.added
+    on_ok_then c.add.result
+    (λ added texts is. subst (λ t. HasTexts c.add.new.self (texts ++ t ∷ [])) c.in_ok-value.ensures.text (added texts c.in_ok-value.ensures.no_float is))
+    c.add.ensures.added

@@ -3,7 +3,8 @@ use Rattle.sqlite_value.specs.Order as sql
 use Rattle.consign_store.proofs.PairTexts.{tallies_pair}
 use Rattle.consign_store.proofs.pairs.take_pair.Goals as goal
 
-told_number : {E : Type 0} (rows slice : List sql.Row) (P : ℕ → Type 0) (r : Result ℕ E) → slice ≡ rows → IfOk r (λ n. TellsFirst (λ row m. column row 0 ≡ number_value m) slice (Some n))
+told_number : {E : Type 0} (rows slice : List sql.Row) (P : ℕ → Type 0) (r : Result ℕ E)
+    → slice ≡ rows → IfOk r (λ n. TellsFirst (λ row m. column row 0 ≡ number_value m) slice (Some n))
     → ((row : sql.Row) (n : ℕ) → slice_get rows 0 ≡ Some row → column row 0 ≡ number_value n → P n) → IfOk r P
 told_number rows slice P r same told some = IfOk-weaker r _ P (λ n it. some it.0 n (ap (λ rs. slice_get rs 0) (sym same) ∙ sym it.1) it.2) told
 

@@ -15,7 +15,8 @@ loop-done-preserved g c =
     let i = c.loop-done.done in
     let number : c.unwrap-line.result ≡ i + 1 = number_is (i + 1) c.unwrap-line.result c.new.result (omega arith) c.new.ensures c.unwrap-line.ensures in
     done (and_then (some_calls c.loop-done.invariant) (one_call c.in_ok-set_line.ensures)) (λ said.
-    one_state key.source key.addressee key.number _ _ _ c.args.missing.now i c.unwrap-line.result (seen_line_state c.state_after.result) number c.state_after.ensures said.0 said.1)
+    one_state key.source key.addressee key.number _ _ _ c.args.missing.now i c.unwrap-line.result
+    (seen_line_state c.state_after.result) number c.state_after.ensures said.0 said.1)
 
 pub returns : goal.returns
 returns g c = done (some_calls c.loop-done.invariant) (λ said.

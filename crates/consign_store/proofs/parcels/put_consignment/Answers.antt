@@ -9,5 +9,6 @@ returns g c = record {
   says = λ clean. on_ok_then c.put_lines.result (λ lines.
       let key = c.args.key.now in
       let header = c.in_ok-put_header.ensures.says (clean_within c.put_lines.ensures.inside clean) in
-      whole key.source key.addressee key.number _ _ _ c.args.place (map sent_line c.args.lines.now) header (rw c.as_slice.ensures.value at lines)) (c.put_lines.ensures.says clean);
+      whole key.source key.addressee key.number _ _ _ c.args.place (map sent_line c.args.lines.now) header (rw c.as_slice.ensures.value at lines))
+      (c.put_lines.ensures.says clean);
 }

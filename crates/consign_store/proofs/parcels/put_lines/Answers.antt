@@ -5,7 +5,8 @@ use Rattle.consign_store.proofs.ParcelSteps.{number_is, one_line, all_lines}
 use Rattle.consign_store.proofs.parcels.put_lines.Goals as goal
 
 pub loop-line-init : goal.loop-line-init
-loop-line-init g c = let key = c.args.key.now in (refl, record { inside = within_none; says = λ clean. writes_nothing _ _ _ (no_line_put key.source key.addressee key.number) })
+loop-line-init g c =
+    let key = c.args.key.now in (refl, record { inside = within_none; says = λ clean. writes_nothing _ _ _ (no_line_put key.source key.addressee key.number) })
 
 pub loop-line-preserved : goal.loop-line-preserved
 loop-line-preserved g c =
@@ -16,10 +17,12 @@ loop-line-preserved g c =
     let number : c.unwrap.result ≡ i + 1 = number_is c.loop-line.number c.unwrap.result c.new.result low c.new.ensures c.unwrap.ensures ∙ inv.0 in (
       omega (arith, inv.0),
       done (and_then (some_calls inv.1) (one_call c.in_ok-put_line.ensures)) (λ said.
-          one_line key.source key.addressee key.number _ _ _ c.args.lines.now i c.unwrap.result c.line-item.result c.loop-line-test.true c.line-item.is number said.0 said.1),
+          one_line key.source key.addressee key.number _ _ _ c.args.lines.now i c.unwrap.result
+          c.line-item.result c.loop-line-test.true c.line-item.is number said.0 said.1),
     )
 
 pub returns : goal.returns
 returns g c =
     let key = c.args.key.now in
-    done (some_calls c.loop-line.invariant.1) (λ said. all_lines key.source key.addressee key.number _ _ c.args.lines.now c.loop-line.line-index c.loop-line-test.false said)
+    done (some_calls c.loop-line.invariant.1)
+    (λ said. all_lines key.source key.addressee key.number _ _ c.args.lines.now c.loop-line.line-index c.loop-line-test.false said)

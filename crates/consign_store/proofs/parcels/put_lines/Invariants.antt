@@ -7,4 +7,6 @@ abbrev pub invariant-loop-line : goal.invariant-loop-line
 invariant-loop-line g l =
     (l.number ≡ l.line-index + 1)
     × DoesWithin {X = ⊤} {E = StoreFault} g.S.Store l.fn.tx.conn l.tx.conn (Ok tt)
-    (λ _. Stores (HasNoLine l.key.source l.key.addressee l.key.number) (with_lines l.key.source l.key.addressee l.key.number (map sent_line (take l.line-index l.lines))))
+    (λ _.
+    Stores (HasNoLine l.key.source l.key.addressee l.key.number)
+    (with_lines l.key.source l.key.addressee l.key.number (map sent_line (take l.line-index l.lines))))

@@ -30,8 +30,12 @@ returns-in-Some-first_under_way g c = record {
       let copies = said.0 books holds held in
       let lines = said.1 books copies.0 held in
       let none = ap here (sym c.as_slice.ensures.value) ∙ sym c.first_here.ensures ∙ c.in_default.is in
-      let first = ap away (sym c.as_slice-2.ensures.value) ∙ sym c.first_under_way.ensures ∙ c.in-Some-first_under_way.is in
-      (lines.0, λ one. place_under_way (seen_mark c.args.mark.now) books one c.in_ok-copies.copies.items c.in_ok-lines.lines.items copies.1 none lines.1 c.in-Some-first_under_way.line first);
+      let first = ap away (sym c.as_slice-2.ensures.value) ∙ sym c.first_under_way.ensures ∙ c.in-Some-first_under_way.is in (
+        lines.0,
+        λ one.
+            place_under_way (seen_mark c.args.mark.now) books one c.in_ok-copies.copies.items
+            c.in_ok-lines.lines.items copies.1 none lines.1 c.in-Some-first_under_way.line first,
+      );
 }
 
 pub returns : goal.returns

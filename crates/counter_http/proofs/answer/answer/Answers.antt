@@ -30,7 +30,8 @@ returns-in-Ok-clause-taken g c =
     let meaning : Meaning = g.O.OfficeWords.meaning c.args.words.now in
     let message : Message = message_of c.args.message.now in
     takes_then c.in-Ok.ensures.taken c.answer_read-reply.ensures.taken (λ old mid new x y.
-    read_answers meaning message (seen_caller c.in-Ok.caller) c.read-read.result _ old mid new c.read-read.ensures.reading (sent_by message _ _ old (sym c.in-Some.ensures) x.0) x.1 x.2 y)
+    read_answers meaning message (seen_caller c.in-Ok.caller) c.read-read.result _ old mid new c.read-read.ensures.reading
+    (sent_by message _ _ old (sym c.in-Some.ensures) x.0) x.1 x.2 y)
 
 pub returns-in-Err-clause-told : goal.returns-in-Err-clause-told
 returns-in-Err-clause-told g c = inr (seen_refusal c.in-Err.refusal, c.refused.ensures)

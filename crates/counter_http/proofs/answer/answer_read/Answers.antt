@@ -15,7 +15,8 @@ pub returns-in-Ok-Refused-clause-fails : goal.returns-in-Ok-Refused-clause-fails
 returns-in-Ok-Refused-clause-fails g c =
     let refused = rw c.in-Ok-Refused.is at c.in-Ok-Refused.field-0-is in
     let decided = rw (c.in-Ok-Refused.is, refused) at c.requires.decided in
-    c.requires.fine ∙ sym (ap is_store_failure c.refused.ensures ∙ ap (λ (p : Problem). is_store_failure (problem_answer p)) decided.1 ∙ decided_fine (Sorry decided.0))
+    c.requires.fine
+    ∙ sym (ap is_store_failure c.refused.ensures ∙ ap (λ (p : Problem). is_store_failure (problem_answer p)) decided.1 ∙ decided_fine (Sorry decided.0))
 
 pub returns-in-Err-clause-told : goal.returns-in-Err-clause-told
 returns-in-Err-clause-told g c = inr (Memory, c.refused-in-Err.ensures)

@@ -14,7 +14,8 @@ loop-header-preserved c =
     let more = values_of-more (header_bytes c.args.bytes.now) c.args.name.now c.args.headers.now c.loop-header.header-index no_span c.loop-header-test.true in
     let b : c.is_named.result ≡ same_name (header_bytes c.args.bytes.now (get_or c.args.headers.now c.loop-header.header-index no_span)).0 c.args.name.now
     = rw c.of.ensures at c.is_named.ensures in
-    let one = values_of-one c.args.name.now (header_bytes c.args.bytes.now (get_or c.args.headers.now c.loop-header.header-index no_span)) c.is_named.result b in
+    let one =
+    values_of-one c.args.name.now (header_bytes c.args.bytes.now (get_or c.args.headers.now c.loop-header.header-index no_span)) c.is_named.result b in
     elim c.if-is_named.branch [
       | then-is_named w ↦
           rw w.found-is (rw (more, one, w.if-is_named.true, ← w.of-then-is_named.ensures)

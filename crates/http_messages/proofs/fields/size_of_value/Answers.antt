@@ -15,7 +15,8 @@ pub overflow_add-size : goal.overflow_add-size
 overflow_add-size c =
     let small = rw c.if-not-is_ascii_digit.false at c.is_ascii_digit.ensures.bound in
     let digit = digit_is (get_or c.args.value.now c.loop-digit.digit-index 0) small in
-    let next : c.loop-digit.size * 10 + c.from.result < 10 ^ (c.loop-digit.digit-index + 1) = nineteen _ _ c.from.result c.loop-digit.invariant.small (omega arith) (omega arith) in
+    let next : c.loop-digit.size * 10 + c.from.result < 10 ^ (c.loop-digit.digit-index + 1) =
+    nineteen _ _ c.from.result c.loop-digit.invariant.small (omega arith) (omega arith) in
     let fits = fits_19 (c.loop-digit.size * 10 + c.from.result) (c.loop-digit.digit-index + 1) next (omega arith) in
     omega arith
 

@@ -1,4 +1,5 @@
-use Rattle.http_messages.proofs.StreamLemmas.{HasMessage-unique, HasMessage-not-bad, HasMessage-not-long, HasMessage-not-cut, HasMessages-prefix, HasMessages-append, IsBadHead-append, IsTooLong-append}
+use Rattle.http_messages.proofs.StreamLemmas.{HasMessage-unique, HasMessage-not-bad, HasMessage-not-long, HasMessage-not-cut, HasMessages-prefix}
+use Rattle.http_messages.proofs.StreamLemmas.{HasMessages-append, IsBadHead-append, IsTooLong-append}
 use Rattle.http_messages.proofs.messages.one_reading.Goals as goal
 
 pub returns : goal.returns

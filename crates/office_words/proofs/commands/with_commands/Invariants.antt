@@ -6,6 +6,7 @@ use Rattle.office_words.proofs.commands.with_commands.Given as goal
 
 abbrev pub invariant-loop-subcommand : goal.invariant-loop-subcommand
 invariant-loop-subcommand l = record {
-  rest : fold with_subcommand (app_of l.command) (map table_shape (drop l.subcommand-index l.subcommands)) ≡ fold with_subcommand (app_of l.fn.command) (map table_shape l.subcommands);
+  rest : fold with_subcommand (app_of l.command) (map table_shape (drop l.subcommand-index l.subcommands))
+      ≡ fold with_subcommand (app_of l.fn.command) (map table_shape l.subcommands);
   local : (out-Command l.command).has_globals ≡ false;
 }

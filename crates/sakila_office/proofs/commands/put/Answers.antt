@@ -17,10 +17,15 @@ returns-in-Ok-clause-puts g c =
       sound = λ honest.
           let disk = c.close.ensures.clean honest in
           let it = found.sound (taken.clean disk) in
-          let went = taken.goes disk it.0 it.0 it.2 in
-          (it.0, it.1, rw (← is_opened c.in-Ok.chain it.0 (found.limits ∙ c.default.ensures) found.live) (holding c.answer-reply.new.self went.0 went.1, went.2, λ live. c.close.ensures.keeps live went.0 went.1 went.3));
+          let went = taken.goes disk it.0 it.0 it.2 in (
+            it.0,
+            it.1,
+            rw (← is_opened c.in-Ok.chain it.0 (found.limits ∙ c.default.ensures) found.live)
+                (holding c.answer-reply.new.self went.0 went.1, went.2, λ live. c.close.ensures.keeps live went.0 went.1 went.3),
+          );
       answers = λ honest books holds.
           let disk = c.close.ensures.clean honest in
           let went = taken.goes disk books books (found.found (taken.clean disk) books holds) in
-          rw (← is_opened c.in-Ok.chain books (found.limits ∙ c.default.ensures) found.live) (holding c.answer-reply.new.self went.0 went.1, went.2, λ live. c.close.ensures.keeps live went.0 went.1 went.3);
+          rw (← is_opened c.in-Ok.chain books (found.limits ∙ c.default.ensures) found.live)
+          (holding c.answer-reply.new.self went.0 went.1, went.2, λ live. c.close.ensures.keeps live went.0 went.1 went.3);
     }) c.tell.ensures.told

@@ -23,10 +23,15 @@ returns-in-Ok-clause-serves g c output =
       sound = λ honest.
           let disk = c.close.ensures.clean honest in
           let it = found.sound (ran.1.takes.clean disk) in
-          let went = ran.1.takes.goes disk it.0 it.0 it.2 in
-          (it.0, it.1, rw (← is_opened c.in-Ok.chain it.0 (found.limits ∙ c.default.ensures) found.live) (holding chain went.0 went.1, went.2, (λ live. c.close.ensures.keeps live went.0 went.1 went.3), fine));
+          let went = ran.1.takes.goes disk it.0 it.0 it.2 in (
+            it.0,
+            it.1,
+            rw (← is_opened c.in-Ok.chain it.0 (found.limits ∙ c.default.ensures) found.live)
+                (holding chain went.0 went.1, went.2, (λ live. c.close.ensures.keeps live went.0 went.1 went.3), fine),
+          );
       runs = λ honest books holds.
           let disk = c.close.ensures.clean honest in
           let went = ran.1.takes.goes disk books books (found.found (ran.1.takes.clean disk) books holds) in
-          rw (← is_opened c.in-Ok.chain books (found.limits ∙ c.default.ensures) found.live) (holding chain went.0 went.1, went.2, (λ live. c.close.ensures.keeps live went.0 went.1 went.3), fine);
+          rw (← is_opened c.in-Ok.chain books (found.limits ∙ c.default.ensures) found.live)
+          (holding chain went.0 went.1, went.2, (λ live. c.close.ensures.keeps live went.0 went.1 went.3), fine);
     }) c.serve_port-status.ensures.status (Keeps-refl output) (Keeps-refl _)

@@ -5,7 +5,8 @@ use Rattle.shop_ledger.proofs.counts.out_at.Goals as goal
 
 pub returns : goal.returns
 returns g c =
-    does_first _ _ c.query_first.ensures.inside (rw (c.to_sql.ensures, c.get.ensures.value, c.to_sql-2.ensures, c.get-2.ensures.value) at c.query_first.ensures.shown)
+    does_first _ _ c.query_first.ensures.inside
+    (rw (c.to_sql.ensures, c.get.ensures.value, c.to_sql-2.ensures, c.get-2.ensures.value) at c.query_first.ensures.shown)
     (λ rows these.
     let read = read_out _ _ c.args.branch c.args.copy rows these in
     (λ none. read.0 (sym none), λ row n some says. read.1 row n (sym some) (search rules)))

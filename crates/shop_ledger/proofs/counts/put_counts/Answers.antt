@@ -5,7 +5,9 @@ use Rattle.shop_ledger.proofs.counts.put_counts.Goals as goal
 
 pub returns : goal.returns
 returns g c =
-    first_and_last c.in_ok-put_count.ensures (and_then (one_call c.in_ok-put_count-2.ensures) (and_then (one_call c.in_ok-put_count-3.ensures) (one_call c.in_ok-put_count-4.ensures))) c.put_count-5.ensures
+    first_and_last c.in_ok-put_count.ensures
+    (and_then (one_call c.in_ok-put_count-2.ensures) (and_then (one_call c.in_ok-put_count-3.ensures) (one_call c.in_ok-put_count-4.ensures)))
+    c.put_count-5.ensures
     (λ one more _ last counts books holds given.
     let two = more.0 _ books (one counts books holds tt).0 tt in
     let three = more.1.0 _ books two.0 tt in

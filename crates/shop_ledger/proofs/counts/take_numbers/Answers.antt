@@ -8,4 +8,5 @@ pub returns-clause-does : goal.returns-clause-does
 returns-clause-does g c =
     let few : c.args.more < 2 ^ 32 = omega arith in
     let one = rw (c.to_sql.ensures, c.caller.ensures.value, c.to_sql-2.ensures, c.kind.ensures, c.to_sql-3.ensures) at c.count_shown.ensures.does in
-    does_so one.inside one.says (λ n these. tallies_taken _ _ (caller_of c.args.count) (kind_of c.args.count) c.args.more few these.0 these.1 these.2 n (sym these.3) these.4)
+    does_so one.inside one.says
+    (λ n these. tallies_taken _ _ (caller_of c.args.count) (kind_of c.args.count) c.args.more few these.0 these.1 these.2 n (sym these.3) these.4)

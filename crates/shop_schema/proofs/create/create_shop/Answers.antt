@@ -11,7 +11,8 @@ returns-in-Err-clause-crash g c =
     let inside : HasCleanDisk (state g.S.Store last) → LeavesNew (state g.S.Store old) (state g.S.Store last).now.trees =
     λ clean none. let it = c.in_ok-create_tables.ensures.made clean (rw c.transaction-tx.ensures.begun none) in (it.1, it.2) in
     subst (λ h. Survives (state g.S.Store old) (state g.S.Store h) (LeavesNew (state g.S.Store old))) same
-    (crash_new g.S.Store old last end (LeavesNew (state g.S.Store old)) inside (rw c.transaction-tx.ensures.begun at c.create_tables.ensures.survives) c.commit.ensures.survives)
+    (crash_new g.S.Store old last end (LeavesNew (state g.S.Store old)) inside
+    (rw c.transaction-tx.ensures.begun at c.create_tables.ensures.survives) c.commit.ensures.survives)
 
 pub returns-in-Ok-clause-made : goal.returns-in-Ok-clause-made
 returns-in-Ok-clause-made g c clean none =
@@ -33,4 +34,5 @@ returns-in-Ok-clause-crash g c =
     let inside : HasCleanDisk (state g.S.Store last) → LeavesNew (state g.S.Store old) (state g.S.Store last).now.trees =
     λ clean none. let it = c.in_ok-create_tables.ensures.made clean (rw c.transaction-tx.ensures.begun none) in (it.1, it.2) in
     subst (λ h. Survives (state g.S.Store old) (state g.S.Store h) (LeavesNew (state g.S.Store old))) same
-    (crash_new g.S.Store old last end (LeavesNew (state g.S.Store old)) inside (rw c.transaction-tx.ensures.begun at c.create_tables.ensures.survives) c.commit.ensures.survives)
+    (crash_new g.S.Store old last end (LeavesNew (state g.S.Store old)) inside
+    (rw c.transaction-tx.ensures.begun at c.create_tables.ensures.survives) c.commit.ensures.survives)

@@ -12,7 +12,8 @@ returns-in-Err-clause-crash g c =
     let inside : HasCleanDisk (state g.S.Store last) → LeavesNewFirst (state g.S.Store old) books (state g.S.Store last).now.trees =
     λ clean none. (c.in_ok-fill_first.ensures.holds clean (rw c.transaction-tx.ensures.begun none)).stands in
     subst (λ h. Survives (state g.S.Store old) (state g.S.Store h) (LeavesNewFirst (state g.S.Store old) books)) same
-    (crash_new g.S.Store old last end (LeavesNewFirst (state g.S.Store old) books) inside (rw c.transaction-tx.ensures.begun at c.fill_first.ensures.survives) c.commit.ensures.survives)
+    (crash_new g.S.Store old last end (LeavesNewFirst (state g.S.Store old) books) inside
+    (rw c.transaction-tx.ensures.begun at c.fill_first.ensures.survives) c.commit.ensures.survives)
 
 pub returns-in-Ok-clause-made : goal.returns-in-Ok-clause-made
 returns-in-Ok-clause-made g c clean none =
@@ -36,4 +37,5 @@ returns-in-Ok-clause-crash g c =
     let inside : HasCleanDisk (state g.S.Store last) → LeavesNewFirst (state g.S.Store old) books (state g.S.Store last).now.trees =
     λ clean none. (c.in_ok-fill_first.ensures.holds clean (rw c.transaction-tx.ensures.begun none)).stands in
     subst (λ h. Survives (state g.S.Store old) (state g.S.Store h) (LeavesNewFirst (state g.S.Store old) books)) same
-    (crash_new g.S.Store old last end (LeavesNewFirst (state g.S.Store old) books) inside (rw c.transaction-tx.ensures.begun at c.fill_first.ensures.survives) c.commit.ensures.survives)
+    (crash_new g.S.Store old last end (LeavesNewFirst (state g.S.Store old) books) inside
+    (rw c.transaction-tx.ensures.begun at c.fill_first.ensures.survives) c.commit.ensures.survives)

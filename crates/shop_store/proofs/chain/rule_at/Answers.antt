@@ -12,11 +12,14 @@ same_rule ByCode ByCode h = refl
 same_rule ByComment ByComment h = refl
 same_rule a b h = cc
 
-reads : {Fits : sql.Row → TheRule → Type 0} → ((row : sql.Row) (rule : TheRule) → Fits row rule → column row 0 ≡ rule_value (seen_rule rule)) → (old new : State) (rows : List sql.Row)
-    → (found : Option TheRule) (rule : TheRule) → Shown SELECT_RULE.now [] old new rows → TellsFirst Fits rows found → found ≡ Some rule → Reads old new (λ books. seen_rule rule ≡ books.catalogue.rule)
+reads : {Fits : sql.Row → TheRule → Type 0} → ((row : sql.Row) (rule : TheRule) → Fits row rule → column row 0 ≡ rule_value (seen_rule rule))
+    → (old new : State) (rows : List sql.Row)
+    → (found : Option TheRule) (rule : TheRule) → Shown SELECT_RULE.now [] old new rows → TellsFirst Fits rows found
+    → found ≡ Some rule → Reads old new (λ books. seen_rule rule ≡ books.catalogue.rule)
 unfolding understood everything
 reads =
-    reads_only SELECT_RULE.now 59 1 0 (record { names = _; is = refl; plain = (refl, refl); unlisted = refl }) (λ r. refl) rule_columns (λ books. books.catalogue.rule) (λ books trees s. s.more.rows.1.0) same_rule seen_rule
+    reads_only SELECT_RULE.now 59 1 0 (record { names = _; is = refl; plain = (refl, refl); unlisted = refl })
+    (λ r. refl) rule_columns (λ books. books.catalogue.rule) (λ books trees s. s.more.rows.1.0) same_rule seen_rule
 
 pub returns-in-Some : goal.returns-in-Some
 returns-in-Some g c = record {

@@ -4,18 +4,23 @@ use Rattle.shop_ledger.proofs.Rising.{which_rise}
 use Rattle.shop_store.specs.declared.copies.CopyRow.{CopyRow}
 use Rattle.shop_store.specs.declared.copies.TheConstants.{SELECT_COPIES_OF_FILM}
 use Rattle.shop_store.specs.Seen.{seen_copy_row}
-use Rattle.shop_store.proofs.Common.{◌≡◌, ◌==◌, ◌&&◌, ℕ, List, [], ◌∷◌, Bool, true, refl, everything, understood, Shown, number_value, number_test, number_tested, two_tested, Row, is_of, Reads, does_so, equals, copies, reads_sorted}
+use Rattle.shop_store.proofs.Common.{◌≡◌, ◌==◌, ◌&&◌, ℕ, List, [], ◌∷◌, Bool, true, refl, everything, understood, Shown, number_value, number_test}
+use Rattle.shop_store.proofs.Common.{number_tested, two_tested, Row, is_of, Reads, does_so, equals, copies, reads_sorted}
 use Rattle.shop_store.proofs.copies.copies_of_film.Goals as goal
 
 abbrev is_of_film : ℕ → ℕ → Row BookCopy → Bool
 is_of_film b film row = is_of b row && row.it.film == film
 
-reads : (old new : State) (b film : ℕ) (rows : List sql.Row) (all : List CopyRow) → Shown SELECT_COPIES_OF_FILM.now (number_value b ∷ number_value film ∷ []) old new rows
-    → map (λ x. copy_columns (seen_copy_row x)) all ≡ rows → AllByRecursion (λ x. IsRow IsCopy (seen_copy_row x)) all → Reads old new (λ books. map seen_copy_row all ≡ filter (is_of_film b film) books.copies)
+reads : (old new : State) (b film : ℕ) (rows : List sql.Row) (all : List CopyRow)
+    → Shown SELECT_COPIES_OF_FILM.now (number_value b ∷ number_value film ∷ []) old new rows
+    → map (λ x. copy_columns (seen_copy_row x)) all ≡ rows → AllByRecursion (λ x. IsRow IsCopy (seen_copy_row x)) all
+    → Reads old new (λ books. map seen_copy_row all ≡ filter (is_of_film b film) books.copies)
 unfolding understood everything
 reads old new b film rows all h read kinds =
-    reads_sorted copies (equals 0 (1 ∷ 3 ∷ [])) seen_copy_row SELECT_COPIES_OF_FILM.now (record { names = _; is = refl; plain = (refl, refl); unlisted = refl }) (number_value b ∷ number_value film ∷ [])
-    (λ vs. number_test 0 b vs && (number_test 2 film vs && true)) (is_of_film b film) (λ c. two_tested _ _ (number_tested c.branch b) (number_tested c.it.film film)) (λ r. refl)
+    reads_sorted copies (equals 0 (1 ∷ 3 ∷ [])) seen_copy_row SELECT_COPIES_OF_FILM.now
+    (record { names = _; is = refl; plain = (refl, refl); unlisted = refl }) (number_value b ∷ number_value film ∷ [])
+    (λ vs. number_test 0 b vs && (number_test 2 film vs && true)) (is_of_film b film)
+    (λ c. two_tested _ _ (number_tested c.branch b) (number_tested c.it.film film)) (λ r. refl)
     (λ books held. which_rise (λ (it : BookCopy). it.film == film) b books.copies (held.numbers.rows CopyRows b)) old new rows all h read kinds
 
 pub returns : goal.returns

@@ -1,4 +1,9 @@
-use Rattle.shop_schema.proofs.Common.{◌≡◌, ◌≤◌, ◌==◌, ℕ, List, [], ◌∷◌, map, filter, length, Bool, true, false, cond, Option, Some, None, refl, sym, ap, ◌∙◌, arith, append-nil, slice_get, IfSome, option_to_list, flat_map, and_parts, nat_tests, Null, or_null, column, Trees, Term, col, Query, Join, inner, left, end, Output, overlay, State, map-map, IsPermutation-same, columns_of, number_value, Selects, answers, kept_as_map, number_tested, same_number, two_tested, joined_query, are_equal, or_blank, shown_of, left_pair, joined_rows, still_holds, Row, at, is_row, of, Books, BookCopy, head, shop_of, unmarked, row_at, shop_schema, copy_columns, out_columns, state_value, Out, is_out, counts_of, IsHeld, StandsFor, Holds, Reads, seen_state, CopyRows}
+use Rattle.shop_schema.proofs.Common.{◌≡◌, ◌≤◌, ◌==◌, ℕ, List, [], ◌∷◌, map, filter, length, Bool, true, false, cond, Option, Some, None, refl, sym, ap, ◌∙◌}
+use Rattle.shop_schema.proofs.Common.{arith, append-nil, slice_get, IfSome, option_to_list, flat_map, and_parts, nat_tests, Null, or_null, column, Trees, Term}
+use Rattle.shop_schema.proofs.Common.{col, Query, Join, inner, left, end, Output, overlay, State, map-map, IsPermutation-same, columns_of, number_value}
+use Rattle.shop_schema.proofs.Common.{Selects, answers, kept_as_map, number_tested, same_number, two_tested, joined_query, are_equal, or_blank, shown_of}
+use Rattle.shop_schema.proofs.Common.{left_pair, joined_rows, still_holds, Row, at, is_row, of, Books, BookCopy, head, shop_of, unmarked, row_at, shop_schema}
+use Rattle.shop_schema.proofs.Common.{copy_columns, out_columns, state_value, Out, is_out, counts_of, IsHeld, StandsFor, Holds, Reads, seen_state, CopyRows}
 use Rattle.std.specs.Prelude.{option_map}
 use Rattle.sqlite_value.specs.Order as sql
 use Rattle.sqlite_tied.specs.Compute.{everything}
@@ -53,7 +58,9 @@ module _ (b n : ℕ) (books : Books) (held : IsHeld books) (db : Trees) (s : Sta
   gives r2 = shown_of now_query (overlay db []) end (params ∷ (Null ∷ copy_columns c) ∷ r2 ∷ [])
 
   ends_are : (r2 : sql.Row) → gives r2 ≡ cond (is_row b n c) (([], number_value c.it.film ∷ state_value c.it.state ∷ column r2 3 ∷ []) ∷ []) []
-  ends_are r2 = ap (λ t. cond t (([], number_value c.it.film ∷ state_value c.it.state ∷ column r2 3 ∷ []) ∷ []) []) (two_tested _ _ (number_tested c.branch b) (number_tested c.number n))
+  ends_are r2 =
+      ap (λ t. cond t (([], number_value c.it.film ∷ state_value c.it.state ∷ column r2 3 ∷ []) ∷ []) [])
+      (two_tested _ _ (number_tested c.branch b) (number_tested c.number n))
 
   abbrev out_with : List Out → List Output
   out_with l = cond (is_row b n c) (([], shown_with l c) ∷ []) []
@@ -76,12 +83,14 @@ module _ (b n : ℕ) (books : Books) (held : IsHeld books) (db : Trees) (s : Sta
   copy_brings : shown_of now_query (overlay db []) with_out (params ∷ (Null ∷ copy_columns c) ∷ []) ≡ out_with (filter (is_out b n) outs)
   copy_brings =
       let few = picks_out c.branch c.number books held in
-      left_pair 3 out_columns (db 43) outs s.outs gives (λ r. refl) (λ o. o.branch) (λ o. o.copy) (λ o. refl) (λ o. refl) (λ r. refl) (λ r. refl) c.branch c.number few
+      left_pair 3 out_columns (db 43) outs s.outs gives (λ r. refl) (λ o. o.branch)
+      (λ o. o.copy) (λ o. refl) (λ o. refl) (λ r. refl) (λ r. refl) c.branch c.number few
       ∙ one_brings (filter (is_out c.branch c.number) outs) few ∙ own
 
 -- ---- the copy of the number
 
-module _ (old new : State) (b n : ℕ) (rows slice : List sql.Row) (h : Shown SELECT_NOW.now (number_value b ∷ number_value n ∷ []) old new rows) (same : slice ≡ rows) where
+module _ (old new : State) (b n : ℕ) (rows slice : List sql.Row)
+    (h : Shown SELECT_NOW.now (number_value b ∷ number_value n ∷ []) old new rows) (same : slice ≡ rows) where
   abbrev copies_in : Books → List (Row BookCopy)
   copies_in books = filter (is_row b n) books.copies
 
@@ -97,20 +106,25 @@ module _ (old new : State) (b n : ℕ) (rows slice : List sql.Row) (h : Shown SE
   shows_now : (books : Books) → Holds old books → IsHeld books → rows ≡ map (shown_with (outs_in books)) (copies_in books)
   shows_now books holds held =
       let out : Row BookCopy → Output = λ c. ([], shown_with (outs_in books) c) in
-      joined_rows 25 with_out of_two now_shows [] (number_value b ∷ number_value n ∷ []) old.now.trees 6 copy_columns books.copies holds.stands.copies refl (λ r. refl)
+      joined_rows 25 with_out of_two now_shows []
+      (number_value b ∷ number_value n ∷ []) old.now.trees 6 copy_columns books.copies holds.stands.copies refl (λ r. refl)
       (λ c. cond (is_row b n c) (out c ∷ []) []) (λ c. IsPermutation-same _ _ (copy_brings b n books held old.now.trees holds.stands c))
       rows (answers shop_schema SELECT_NOW.now now_query _ old new holds.schema_is now_means rows h)
-      (map out (copies_in books)) (IsPermutation-same _ _ (kept_as_map (is_row b n) out books.copies)) (climbs_few now_query out (copies_in books) (picks books held))
+      (map out (copies_in books)) (IsPermutation-same _ _ (kept_as_map (is_row b n) out books.copies))
+      (climbs_few now_query out (copies_in books) (picks books held))
       ∙ map-map (λ (o : Output). o.1) out (copies_in books)
 
   -- what is said of the copy that was found
   abbrev Says : Option CopyNow → Books → Type 0
-  Says found books = (option_to_list (option_map seen_copy_now found) ≡ at n (shop_of b books).copies) × IfSome found (λ it. option_to_list it.out ≡ open_of n (of b books.rentals))
+  Says found books =
+      (option_to_list (option_map seen_copy_now found) ≡ at n (shop_of b books).copies)
+      × IfSome found (λ it. option_to_list it.out ≡ open_of n (of b books.rentals))
 
   in_shop : (books : Books) → IsHeld books → map (λ (c : Row BookCopy). unmarked c.it) (copies_in books) ≡ at n (shop_of b books).copies
   in_shop books held = row_at unmarked b n books.copies (held.numbers.rows CopyRows b)
 
-  rental_told : (outs : List Out) → length outs ≤ 1 → (out : Option ℕ) → or_null (λ (o : Out). number_value o.rental) (head outs) ≡ or_null number_value out → option_to_list out ≡ map (λ (o : Out). o.rental) outs
+  rental_told : (outs : List Out) → length outs ≤ 1 → (out : Option ℕ)
+      → or_null (λ (o : Out). number_value o.rental) (head outs) ≡ or_null number_value out → option_to_list out ≡ map (λ (o : Out). o.rental) outs
   rental_told [] few None is = refl
   rental_told [] few (Some r) is = cc
   rental_told (o ∷ []) few None is = cc
@@ -121,7 +135,8 @@ module _ (old new : State) (b n : ℕ) (rows slice : List sql.Row) (h : Shown SE
   none_told outs [] e = refl
   none_told outs (c ∷ cs) e = cc
 
-  copy_told : (outs : List Out) → length outs ≤ 1 → (cs : List (Row BookCopy)) → length cs ≤ 1 → (row : sql.Row) (it : CopyNow) → slice_get (map (shown_with outs) cs) 0 ≡ Some row
+  copy_told : (outs : List Out) → length outs ≤ 1 → (cs : List (Row BookCopy)) → length cs ≤ 1
+      → (row : sql.Row) (it : CopyNow) → slice_get (map (shown_with outs) cs) 0 ≡ Some row
       → (column row 0 ≡ number_value it.film) × (column row 1 ≡ state_value (seen_state it.state)) × (column row 2 ≡ or_null number_value it.out)
       → (seen_copy_now it ∷ [] ≡ map (λ (c : Row BookCopy). unmarked c.it) cs) × (option_to_list it.out ≡ map (λ (o : Out). o.rental) outs)
   copy_told outs once [] few row it e is = cc
@@ -137,7 +152,8 @@ module _ (old new : State) (b n : ℕ) (rows slice : List sql.Row) (h : Shown SE
   -- what the first row says of the books
   reads : (None ≡ slice_get slice 0 → Reads old new (Says None))
       × ((row : sql.Row) (it : CopyNow) → Some row ≡ slice_get slice 0
-      → (column row 0 ≡ number_value it.film) × (column row 1 ≡ state_value (seen_state it.state)) × (column row 2 ≡ or_null number_value it.out) → Reads old new (Says (Some it)))
+      → (column row 0 ≡ number_value it.film) × (column row 1 ≡ state_value (seen_state it.state)) × (column row 2 ≡ or_null number_value it.out)
+      → Reads old new (Says (Some it)))
   reads = (
     λ none books holds held.
         let first = ap (λ (rs : List sql.Row). slice_get rs 0) (sym (shows_now books holds held) ∙ sym same) ∙ sym none in
@@ -150,7 +166,8 @@ module _ (old new : State) (b n : ℕ) (rows slice : List sql.Row) (h : Shown SE
 
 pub returns : goal.returns
 returns g c =
-    does_first _ _ c.query_first.ensures.inside (rw (c.to_sql.ensures, c.get.ensures.value, c.to_sql-2.ensures, c.get-2.ensures.value) at c.query_first.ensures.shown)
+    does_first _ _ c.query_first.ensures.inside
+    (rw (c.to_sql.ensures, c.get.ensures.value, c.to_sql-2.ensures, c.get-2.ensures.value) at c.query_first.ensures.shown)
     (λ rows these.
     let read = reads _ _ c.args.branch c.args.number rows rows these refl in
     (read.0, λ row it some says. read.1 row it some (search rules)))

@@ -11,5 +11,6 @@ sets active b n =
 
 pub returns : goal.returns
 returns g c =
-    does_so c.execute.ensures.inside (rw (c.to_sql.ensures, c.get.ensures.value, c.to_sql-2.ensures, c.get-2.ensures.value, c.to_sql-3.ensures) at c.execute.ensures.ran)
+    does_so c.execute.ensures.inside
+    (rw (c.to_sql.ensures, c.get.ensures.value, c.to_sql-2.ensures, c.get-2.ensures.value, c.to_sql-3.ensures) at c.execute.ensures.ran)
     (λ _ ran. sets c.args.active c.args.branch c.args.number _ _ ran.0 ran.1)

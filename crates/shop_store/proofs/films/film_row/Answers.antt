@@ -1,4 +1,5 @@
-use Rattle.shop_schema.proofs.Common.{at_one, inl, inr, ◌≡◌, ◌≤◌, ℕ, List, [], ◌∷◌, map, length, refl, ap, ◌∙◌, arith, option_to_list, IfSome, AllByRecursion, State, number_value, at, Film, film_columns, IsFilm, IsShared, Reads, cols, Selects, shop_schema}
+use Rattle.shop_schema.proofs.Common.{at_one, inl, inr, ◌≡◌, ◌≤◌, ℕ, List, [], ◌∷◌, map, length, refl, ap, ◌∙◌, arith, option_to_list, IfSome, AllByRecursion}
+use Rattle.shop_schema.proofs.Common.{State, number_value, at, Film, film_columns, IsFilm, IsShared, Reads, cols, Selects, shop_schema}
 use Rattle.std.specs.Prelude.{Option, Some, None, take, option_map}
 use Rattle.sqlite_value.specs.Order as sql
 use Rattle.sqlite_tied.specs.Compute.{everything}
@@ -35,7 +36,8 @@ at_short n xs = elim (at_one n xs) [
 
 -- the row that was read is that of the film
 film_of : (n : ℕ) (o : Option FilmRow) (rows : List Film) → length rows ≤ 1 → IfSome o (λ row. IsShared IsFilm (row_read row)) → AllByRecursion IsFilm rows
-    → map (λ row. film_columns (row_read row)) (option_to_list o) ≡ take 1 (map (λ x. film_columns (n, x)) rows) → option_to_list (option_map seen_film_row o) ≡ rows
+    → map (λ row. film_columns (row_read row)) (option_to_list o) ≡ take 1 (map (λ x. film_columns (n, x)) rows)
+    → option_to_list (option_map seen_film_row o) ≡ rows
 film_of n None [] few fit all is = refl
 film_of n None (x ∷ []) few fit all is = cc
 film_of n (Some row) [] few fit all is = cc
@@ -43,7 +45,8 @@ film_of n (Some row) (x ∷ []) few fit all is = ap (λ (it : ℕ × Film). it.1
 film_of n o (x ∷ y ∷ rows) few fit all is = absurd (omega (arith, few))
 
 reads : (old new : State) (n : ℕ) (rows : List sql.Row) (o : Option FilmRow) → Shown SELECT_FILM.now (number_value n ∷ []) old new rows → 1 ≤ n
-    → map (λ row. film_columns (row_read row)) (option_to_list o) ≡ take 1 rows → IfSome o (λ row. IsShared IsFilm (row_read row)) → Reads old new (λ books. option_to_list (option_map seen_film_row o) ≡ at n books.catalogue.films)
+    → map (λ row. film_columns (row_read row)) (option_to_list o) ≡ take 1 rows → IfSome o (λ row. IsShared IsFilm (row_read row))
+    → Reads old new (λ books. option_to_list (option_map seen_film_row o) ≡ at n books.catalogue.films)
 reads old new n rows o h low read fit = λ books holds held.
     let films_are = books.catalogue.films in
     let found = shows_shared films SELECT_FILM.now (cols 1 1 12) select_row_means (λ vs. vs) select_row_shows old new n rows h low books holds in (
@@ -52,4 +55,6 @@ reads old new n rows o h low read fit = λ books holds held.
     )
 
 pub returns : goal.returns
-returns g c = does_so c.query_one.ensures.inside (rw (c.to_sql.ensures, c.get.ensures.value) at c.query_one.ensures.shown) (λ o it. reads _ _ c.args.number it.0 o it.1 (omega arith) it.2 it.3)
+returns g c =
+    does_so c.query_one.ensures.inside (rw (c.to_sql.ensures, c.get.ensures.value) at c.query_one.ensures.shown)
+    (λ o it. reads _ _ c.args.number it.0 o it.1 (omega arith) it.2 it.3)

@@ -7,7 +7,8 @@ use Rattle.shop_store.proofs.films.film_withdrawn.Goals as goal
 reads : ReadsFirst films SELECT_WITHDRAWN.now withdrawn_of (λ row v. column row 0 ≡ flag_value v)
 unfolding understood everything
 reads old new n rows slice h low =
-    reads_first films SELECT_WITHDRAWN.now (col 1 12 ∷ []) (record { names = _; is = refl; plain = (refl, refl); unlisted = refl }) (λ vs. column vs 11 ∷ []) (λ m r. refl) old new n rows h low
+    reads_first films SELECT_WITHDRAWN.now (col 1 12 ∷ []) (record { names = _; is = refl; plain = (refl, refl); unlisted = refl })
+    (λ vs. column vs 11 ∷ []) (λ m r. refl) old new n rows h low
     withdrawn_of (λ row v. column row 0 ≡ flag_value v) (λ books x v is. same_flag v x.withdrawn (sym is)) slice
 
 pub returns : goal.returns

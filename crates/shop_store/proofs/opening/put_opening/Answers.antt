@@ -8,7 +8,8 @@ use Rattle.shop_store.proofs.opening.put_opening.Goals as goal
 
 pub returns : goal.returns
 returns g c = first_and_last (rw c.token_with.ensures at c.in_ok-put_token.ensures)
-    (and_then (some_calls c.in_ok-run_all.ensures) (and_then (one_call c.in_ok-put_counts.ensures) (one_call c.in_ok-put_counts-2.ensures))) c.put_counts-3.ensures
+    (and_then (some_calls c.in_ok-run_all.ensures) (and_then (one_call c.in_ok-put_counts.ensures) (one_call c.in_ok-put_counts-2.ensures)))
+    c.put_counts-3.ensures
     (λ begun said _ last shop keyed empty.
     let added = opening_added g.S.Store _ c.put_token.new.tx.conn.now c.run_all.new.tx.conn.now said.0 (beside _ _ (begun shop keyed empty)) in
     let one = said.1.0 _ _ added tt in

@@ -12,7 +12,8 @@ loop-text-preserved g c =
       ran = λ clean new rest.
           let ran = c.in_ok-execute.ensures.ran clean in
           c.loop-text.invariant.ran (clean_before inside clean) new
-          (subst (λ (texts : List (List ℕ)). Runs g.S.Store texts c.loop-text.tx.conn.now new) (sym (next_of c.args.texts.now c.loop-text.text-index _ (omega (arith, c.loop-text-test.true)))) (c.execute.new.tx.conn.now, ran.0, ran.1, rest));
+          (subst (λ (texts : List (List ℕ)). Runs g.S.Store texts c.loop-text.tx.conn.now new)
+          (sym (next_of c.args.texts.now c.loop-text.text-index _ (omega (arith, c.loop-text-test.true)))) (c.execute.new.tx.conn.now, ran.0, ran.1, rest));
     }
 
 pub returns : goal.returns
@@ -21,5 +22,8 @@ returns g c =
     record {
       inside = c.loop-text.invariant.within;
       says = λ clean. c.loop-text.invariant.ran clean last
-          (subst (λ (texts : List (List ℕ)). Runs g.S.Store texts last last) (sym (ap (λ (texts : List (Bor (List ℕ))). map (λ t. t.now) texts) (drop_all c.loop-text.text-index c.args.texts.now (omega (arith, c.loop-text-test.false))))) refl);
+          (subst (λ (texts : List (List ℕ)). Runs g.S.Store texts last last)
+          (sym (ap (λ (texts : List (Bor (List ℕ))). map (λ t. t.now) texts)
+          (drop_all c.loop-text.text-index c.args.texts.now (omega (arith, c.loop-text-test.false)))))
+          refl);
     }

@@ -1,8 +1,11 @@
-use Rattle.shop_schema.proofs.Common.{map, filter, cond, is_lt, ◌∙◌, nat_cmp, is_ge, slice_cmp, AllByRecursion, Binary, Term, op2, Compare, Eq, Lt, Ge, all-filter, from_test, from_tested, before_test, before_tested, Moment, IsMoment, moment_text, is_by, is_earlier, Payment, IsRow, IsPayment, Payments}
+use Rattle.shop_schema.proofs.Common.{map, filter, cond, is_lt, ◌∙◌, nat_cmp, is_ge, slice_cmp, AllByRecursion, Binary, Term, op2, Compare, Eq, Lt, Ge}
+use Rattle.shop_schema.proofs.Common.{all-filter, from_test, from_tested, before_test, before_tested, Moment, IsMoment, moment_text, is_by, is_earlier, Payment}
+use Rattle.shop_schema.proofs.Common.{IsRow, IsPayment, Payments}
 use Rattle.shop_schema.proofs.MomentOrder.{earlier_text, later_text}
 use Rattle.shop_store.specs.declared.payments.TheConstants.{SELECT_PAYMENTS_BETWEEN}
 use Rattle.shop_store.specs.Seen.{seen_payment_row}
-use Rattle.shop_store.proofs.Common.{◌≡◌, ◌&&◌, ℕ, List, [], ◌∷◌, Bool, true, refl, everything, understood, Text, col, number_value, number_test, number_tested, two_tested, Row, is_of, does_so, payments, ReadsWhich, reads_which}
+use Rattle.shop_store.proofs.Common.{◌≡◌, ◌&&◌, ℕ, List, [], ◌∷◌, Bool, true, refl, everything, understood, Text, col, number_value, number_test, number_tested}
+use Rattle.shop_store.proofs.Common.{two_tested, Row, is_of, does_so, payments, ReadsWhich, reads_which}
 use Rattle.shop_store.proofs.payments.payments_between.Goals as goal
 
 abbrev of_range : List Term
@@ -12,12 +15,15 @@ of_range = op2 (Compare Eq Binary) (col 1 1) (col 0 0) ∷ op2 (Compare Ge Binar
 abbrev is_text_in : List ℕ → List ℕ → Payment → Bool
 is_text_in start end it = is_ge (slice_cmp nat_cmp (moment_text it.paid) start) && is_lt (slice_cmp nat_cmp (moment_text it.paid) end)
 
-by_texts : (start end : List ℕ) (b : ℕ) → ReadsWhich payments seen_payment_row SELECT_PAYMENTS_BETWEEN.now (number_value b ∷ Text start ∷ Text end ∷ []) b (is_text_in start end)
+by_texts : (start end : List ℕ) (b : ℕ)
+    → ReadsWhich payments seen_payment_row SELECT_PAYMENTS_BETWEEN.now (number_value b ∷ Text start ∷ Text end ∷ []) b (is_text_in start end)
 unfolding understood everything
 by_texts start end b =
-    reads_which payments seen_payment_row SELECT_PAYMENTS_BETWEEN.now of_range (record { names = _; is = refl; plain = (refl, refl); unlisted = refl }) (number_value b ∷ Text start ∷ Text end ∷ []) b
+    reads_which payments seen_payment_row SELECT_PAYMENTS_BETWEEN.now of_range
+    (record { names = _; is = refl; plain = (refl, refl); unlisted = refl }) (number_value b ∷ Text start ∷ Text end ∷ []) b
     (λ vs. number_test 0 b vs && (from_test 6 start vs && (before_test 6 end vs && true))) (is_text_in start end)
-    (λ row i. number_tested row.branch b i && two_tested _ _ (from_tested (moment_text row.it.paid) start) (before_tested (moment_text row.it.paid) end) i) (λ r. refl)
+    (λ row i. number_tested row.branch b i && two_tested _ _ (from_tested (moment_text row.it.paid) start) (before_tested (moment_text row.it.paid) end) i)
+    (λ r. refl)
 
 -- by their texts, and so by their moments
 module _ (start end : Moment) (real : IsMoment start) (also : IsMoment end) where
@@ -25,17 +31,32 @@ module _ (start end : Moment) (real : IsMoment start) (also : IsMoment end) wher
   by_time it = is_by start it.paid && is_earlier it.paid end
 
   in_time : (own : List (Row Payment)) → AllByRecursion (IsRow IsPayment) own
-      → filter (is_text_in (moment_text start) (moment_text end)) (map (λ (row : Row Payment). row.it) own) ≡ filter by_time (map (λ (row : Row Payment). row.it) own)
+      → filter (is_text_in (moment_text start) (moment_text end)) (map (λ (row : Row Payment). row.it) own)
+      ≡ filter by_time (map (λ (row : Row Payment). row.it) own)
   in_time [] all = refl
   in_time (row ∷ own) all =
       let is : IsMoment row.it.paid = all.0.2.paid in
       let rest = in_time own all.1 in
       λ i. cond (later_text row.it.paid start is real i && earlier_text row.it.paid end is also i) (row.it ∷ rest i) (rest i)
 
-  reads : (b : ℕ) → ReadsWhich payments seen_payment_row SELECT_PAYMENTS_BETWEEN.now (number_value b ∷ Text (moment_text start) ∷ Text (moment_text end) ∷ []) b by_time
+  reads : (b : ℕ)
+      → ReadsWhich payments seen_payment_row SELECT_PAYMENTS_BETWEEN.now (number_value b ∷ Text (moment_text start) ∷ Text (moment_text end) ∷ []) b by_time
   reads b old new rows all h read kinds books holds held =
       let found = by_texts (moment_text start) (moment_text end) b old new rows all h read kinds books holds held in
       (found.0, found.1 ∙ in_time (filter (is_of b) books.payments) (all-filter (IsRow IsPayment) (is_of b) books.payments (held.values.rows Payments)))
 
 pub returns : goal.returns
-returns g c = does_so c.query_all.ensures.inside (rw (c.to_sql.ensures, c.get.ensures.value, c.to_sql-2.ensures, c.as_str.ensures, c.of-first.ensures, c.to_sql-3.ensures, c.as_str-2.ensures, c.of-past.ensures) at c.query_all.ensures.shown) (λ all it. reads c.args.start c.args.end c.text-real.ensures.kind c.text-also.ensures.kind c.args.branch _ _ it.0 all.items it.1 it.2 it.3)
+returns g c =
+    does_so c.query_all.ensures.inside
+    (rw (
+      c.to_sql.ensures,
+      c.get.ensures.value,
+      c.to_sql-2.ensures,
+      c.as_str.ensures,
+      c.of-first.ensures,
+      c.to_sql-3.ensures,
+      c.as_str-2.ensures,
+      c.of-past.ensures,
+    )
+    at c.query_all.ensures.shown)
+    (λ all it. reads c.args.start c.args.end c.text-real.ensures.kind c.text-also.ensures.kind c.args.branch _ _ it.0 all.items it.1 it.2 it.3)

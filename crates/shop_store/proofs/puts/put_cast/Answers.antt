@@ -8,4 +8,7 @@ unfolding understood everything
 puts = puts_last casts _ (record { is = refl; plain = (refl, refl) }) (λ x. refl) (λ x. refl) (λ x. refl) (λ x id. refl)
 
 pub returns : goal.returns
-returns g c = does_so c.execute.ensures.inside c.execute.ensures.ran (λ _ ran. puts _ _ (record { film = c.args.film; actor = c.args.actor }) ran.0 (rw (c.to_sql.ensures, c.get.ensures.value, c.to_sql-2.ensures, c.get-2.ensures.value) at ran.1))
+returns g c =
+    does_so c.execute.ensures.inside c.execute.ensures.ran (λ _ ran.
+    puts _ _ (record { film = c.args.film; actor = c.args.actor }) ran.0
+    (rw (c.to_sql.ensures, c.get.ensures.value, c.to_sql-2.ensures, c.get-2.ensures.value) at ran.1))

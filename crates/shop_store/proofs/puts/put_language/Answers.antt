@@ -8,4 +8,6 @@ unfolding understood everything
 puts = puts_next languages _ (record { is = refl; plain = (refl, refl) }) (λ n x. refl) (λ n x. refl) (λ n x. refl) (λ n x id. refl)
 
 pub returns : goal.returns
-returns g c = does_so c.execute.ensures.inside c.execute.ensures.ran (λ _ ran. puts _ _ c.args.number c.args.name.now ran.0 (rw (c.to_sql.ensures, c.get.ensures.value, c.to_sql-2.ensures) at ran.1))
+returns g c =
+    does_so c.execute.ensures.inside c.execute.ensures.ran
+    (λ _ ran. puts _ _ c.args.number c.args.name.now ran.0 (rw (c.to_sql.ensures, c.get.ensures.value, c.to_sql-2.ensures) at ran.1))

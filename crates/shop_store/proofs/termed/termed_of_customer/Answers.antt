@@ -1,4 +1,9 @@
-use Rattle.shop_schema.proofs.Common.{◌≡◌, ◌≤◌, ◌==◌, ℕ, List, [], ◌∷◌, ◌++◌, map, filter, length, Bool, cond, refl, ap, ◌∙◌, arith, append-nil, flat_map, AllByRecursion, map-id, Null, column, ascending, Key, Binary, Trees, Term, col, Query, Join, inner, left, end, Output, overlay, State, map-map, IsPermutation-same, columns_of, number_value, number_tested, two_tested, joined_query, are_equal, or_blank, shown_of, left_pair, joined_rows, still_holds, Selects, answers, kept_as_map, Row, at, is_row, of, Rental, Terms, Books, shop_of, termed, row_at, shop_schema, rental_columns, terms_columns, IsHeld, StandsFor, Holds, Reads, Rentals, TermRows}
+use Rattle.shop_schema.proofs.Common.{◌≡◌, ◌≤◌, ◌==◌, ℕ, List, [], ◌∷◌, ◌++◌, map, filter, length, Bool, cond, refl, ap, ◌∙◌, arith, append-nil, flat_map}
+use Rattle.shop_schema.proofs.Common.{AllByRecursion, map-id, Null, column, ascending, Key, Binary, Trees, Term, col, Query, Join, inner, left, end, Output}
+use Rattle.shop_schema.proofs.Common.{overlay, State, map-map, IsPermutation-same, columns_of, number_value, number_tested, two_tested, joined_query, are_equal}
+use Rattle.shop_schema.proofs.Common.{or_blank, shown_of, left_pair, joined_rows, still_holds, Selects, answers, kept_as_map, Row, at, is_row, of, Rental}
+use Rattle.shop_schema.proofs.Common.{Terms, Books, shop_of, termed, row_at, shop_schema, rental_columns, terms_columns, IsHeld, StandsFor, Holds, Reads}
+use Rattle.shop_schema.proofs.Common.{Rentals, TermRows}
 use Rattle.sqlite_tied.specs.Compute.{everything}
 use Rattle.sqlite.specs.Listing.{understood}
 use Rattle.sqlite.specs.State.{Shown}
@@ -61,7 +66,8 @@ module _ (b n : ℕ) (books : Books) (held : IsHeld books) (db : Trees) (s : Sta
   abbrev out_with : List Terms → List Output
   out_with ts = cond passes ((number_value x.number ∷ [], shown_first (x.it ∷ []) ts) ∷ []) []
 
-  one_brings : (l : List (Row Terms)) → length l ≤ 1 → flat_map (λ vs. gives (Null ∷ vs)) (or_blank 5 (map terms_columns l)) ≡ out_with (map (λ (t : Row Terms). t.it) l)
+  one_brings : (l : List (Row Terms)) → length l ≤ 1
+      → flat_map (λ vs. gives (Null ∷ vs)) (or_blank 5 (map terms_columns l)) ≡ out_with (map (λ (t : Row Terms). t.it) l)
   one_brings [] few = append-nil _ ∙ ends_are (Null ∷ columns_of 5 [])
   one_brings (t ∷ []) few = append-nil _ ∙ ends_are (Null ∷ terms_columns t)
   one_brings (t ∷ u ∷ l) few = absurd (omega (arith, few))
@@ -70,43 +76,52 @@ module _ (b n : ℕ) (books : Books) (held : IsHeld books) (db : Trees) (s : Sta
   termed_brings =
       let counted = held.numbers.rows TermRows x.branch in
       let few = picks_row x.branch books.terms counted x.number in
-      left_pair 5 terms_columns (db 57) books.terms s.more.rows.0 gives (λ r. refl) (λ t. t.branch) (λ t. t.number) (λ t. refl) (λ t. refl) (λ r. refl) (λ r. refl) x.branch x.number few
+      left_pair 5 terms_columns (db 57) books.terms s.more.rows.0 gives (λ r. refl) (λ t. t.branch)
+      (λ t. t.number) (λ t. refl) (λ t. refl) (λ r. refl) (λ r. refl) x.branch x.number few
       ∙ one_brings (filter (is_row x.branch x.number) books.terms) few
       ∙ ap out_with (row_at (λ (t : Terms). t) x.branch x.number books.terms counted ∙ ap (at x.number) (map-id (of x.branch books.terms)))
 
 -- ---- the customer's rentals
 
-shows_termed : (old new : State) (b n : ℕ) (rows : List sql.Row) (books : Books) → Holds old books → IsHeld books → Shown SELECT_TERMED.now (number_value b ∷ number_value n ∷ []) old new rows
+shows_termed : (old new : State) (b n : ℕ) (rows : List sql.Row) (books : Books) → Holds old books
+    → IsHeld books → Shown SELECT_TERMED.now (number_value b ∷ number_value n ∷ []) old new rows
     → rows ≡ map (shown_of_row books.terms) (filter (of_which (λ (it : Rental). it.customer == n) b) books.rentals)
 shows_termed old new b n rows books holds held h =
     let which : Row Rental → Bool = of_which (λ (it : Rental). it.customer == n) b in
     let mine = filter which books.rentals in
     let out : Row Rental → Output = termed_output books.terms in
-    joined_rows 27 with_terms termed_tests termed_shows termed_order (number_value b ∷ number_value n ∷ []) old.now.trees category_tree rental_columns books.rentals holds.stands.rentals refl (λ r. refl)
+    joined_rows 27 with_terms termed_tests termed_shows termed_order
+    (number_value b ∷ number_value n ∷ []) old.now.trees category_tree rental_columns books.rentals holds.stands.rentals refl (λ r. refl)
     (λ x. cond (which x) (out x ∷ []) []) (λ x. IsPermutation-same _ _ (termed_brings b n books held old.now.trees holds.stands x))
     rows (answers shop_schema SELECT_TERMED.now termed_query _ old new holds.schema_is termed_means rows h)
     (map out mine) (IsPermutation-same _ _ (kept_as_map which out books.rentals))
-    (rentals_climb (inner 27 with_terms) termed_tests termed_shows (col 1 2) (shown_of_row books.terms) mine (which_rise (λ (it : Rental). it.customer == n) b books.rentals (held.numbers.rows Rentals b)))
+    (rentals_climb (inner 27 with_terms) termed_tests termed_shows (col 1 2) (shown_of_row books.terms) mine
+    (which_rise (λ (it : Rental). it.customer == n) b books.rentals (held.numbers.rows Rentals b)))
     ∙ map-map (λ (o : Output). o.1) out mine
 
 -- ---- each with the terms under its number
 
-termed_alike : (b : ℕ) (terms : List (Row Terms)) (x : Row Rental) (t : Terms) → x.branch ≡ b → at x.number (of b terms) ≡ t ∷ [] → shown_of_row terms x ≡ termed_columns (x.it, t)
+termed_alike : (b : ℕ) (terms : List (Row Terms)) (x : Row Rental) (t : Terms) → x.branch ≡ b
+    → at x.number (of b terms) ≡ t ∷ [] → shown_of_row terms x ≡ termed_columns (x.it, t)
 termed_alike b terms x t own found = (λ i. shown_first (x.it ∷ []) (at x.number (of (own i) terms))) ∙ ap (shown_first (x.it ∷ [])) found
 
 -- ---- what is read of the rows
 
 -- the customer's rentals, each with its terms
-reads : (old new : State) (b n : ℕ) (rows : List sql.Row) (all : List TermedRental) → Shown SELECT_TERMED.now (number_value b ∷ number_value n ∷ []) old new rows
+reads : (old new : State) (b n : ℕ) (rows : List sql.Row) (all : List TermedRental)
+    → Shown SELECT_TERMED.now (number_value b ∷ number_value n ∷ []) old new rows
     → map (λ x. termed_columns (seen_termed x)) all ≡ rows → AllByRecursion (λ x. IsTermed (seen_termed x)) all
     → Reads old new (λ books. map seen_termed all ≡ filter (λ (it : Rental × Terms). it.0.customer == n) (termed (shop_of b books)))
 reads old new b n rows all h read kinds = λ books holds held. (
   still_holds shop_schema StandsFor SELECT_TERMED.now _ old new termed_means.plain rows h books holds,
   termed_told b (λ (it : Rental × Terms). it.0.customer == n) books held all kinds
       (read ∙ shows_termed old new b n rows books holds held h
-      ∙ termed_rows b (λ (it : Rental). it.customer == n) books.terms (shown_of_row books.terms) termed_columns (termed_alike b books.terms) books.rentals [] (of b books.terms) refl
+      ∙ termed_rows b (λ (it : Rental). it.customer == n) books.terms (shown_of_row books.terms) termed_columns
+      (termed_alike b books.terms) books.rentals [] (of b books.terms) refl
       (held.numbers.rows Rentals b) (held.termed b)),
 )
 
 pub returns : goal.returns
-returns g c = does_so c.query_all.ensures.inside (rw (c.to_sql.ensures, c.get.ensures.value, c.to_sql-2.ensures, c.get-2.ensures.value) at c.query_all.ensures.shown) (λ all it. reads _ _ c.args.branch c.args.customer it.0 all.items it.1 it.2 it.3)
+returns g c =
+    does_so c.query_all.ensures.inside (rw (c.to_sql.ensures, c.get.ensures.value, c.to_sql-2.ensures, c.get-2.ensures.value) at c.query_all.ensures.shown)
+    (λ all it. reads _ _ c.args.branch c.args.customer it.0 all.items it.1 it.2 it.3)

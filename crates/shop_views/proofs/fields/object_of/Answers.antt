@@ -11,7 +11,9 @@ loop-field-preserved c =
     let fields = c.args.fields.now in
     let i = c.loop-field.field-index in
     let put = λ (fs : List Field). with_fields fs (members_view c.loop-field.map.entries) in
-    ap (with_fields (drop (i + 1) fields)) (c.in_ok-add.ensures ∙ ap (λ (field : Field). with_field field (members_view c.loop-field.map.entries)) c.field-item.is) ∙ sym (at_drop_more put fields i _ c.loop-field-test.true) ∙ c.loop-field.invariant
+    ap (with_fields (drop (i + 1) fields))
+    (c.in_ok-add.ensures ∙ ap (λ (field : Field). with_field field (members_view c.loop-field.map.entries)) c.field-item.is)
+    ∙ sym (at_drop_more put fields i _ c.loop-field-test.true) ∙ c.loop-field.invariant
 
 pub returns : goal.returns
 returns c =

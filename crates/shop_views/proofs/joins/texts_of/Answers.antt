@@ -13,7 +13,8 @@ loop-value-preserved g c =
     let inv = c.loop-value.invariant in (
       omega (arith, c.push_reserved.ensures.len, inv.0),
       omega (arith, c.push_reserved.ensures.capacity, inv.1),
-      made_more string_bytes g.T.Told.told c.args.values.now c.loop-value.value-index c.value-item.result _ _ _ c.loop-value-test.true c.value-item.is c.push_reserved.ensures.items
+      made_more string_bytes g.T.Told.told c.args.values.now c.loop-value.value-index
+          c.value-item.result _ _ _ c.loop-value-test.true c.value-item.is c.push_reserved.ensures.items
           c.in_ok-text.ensures inv.2,
     )
 

@@ -22,7 +22,8 @@ loop-row-preserved g c =
     let row = c.row-item.result in (
       omega (arith, c.push_reserved.ensures.len, inv.0),
       omega (arith, c.push_reserved.ensures.capacity, inv.1),
-      one_more g.R.ListedRow.json g.R.ListedRow.written c.args.rows.now c.loop-row.row-index c.row-item.result _ _ _ c.loop-row-test.true c.row-item.is c.push_reserved.ensures.items
+      one_more g.R.ListedRow.json g.R.ListedRow.written c.args.rows.now c.loop-row.row-index
+          c.row-item.result _ _ _ c.loop-row-test.true c.row-item.is c.push_reserved.ensures.items
           (is_written _ _ _ c.in_ok-value.ensures (g.met.R.ListedRow.as_written row) (g.met.R.ListedRow.no_float row)) inv.2,
     )
 

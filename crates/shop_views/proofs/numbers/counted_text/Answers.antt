@@ -1,4 +1,5 @@
-use Rattle.shop_types.proofs.Common.{◌≡◌, ◌∙◌, ℕ, ◌+◌, ◌∷◌, [], List, length, refl, sym, ap, range_with_len, IfOk-weaker, array, object, numbers_text, numbers_from, Text}
+use Rattle.shop_types.proofs.Common.{◌≡◌, ◌∙◌, ℕ, ◌+◌, ◌∷◌, [], List, length, refl, sym, ap, range_with_len, IfOk-weaker, array, object, numbers_text}
+use Rattle.shop_types.proofs.Common.{numbers_from, Text}
 use Rattle.serde_json.specs.Data.{no_members}
 use Rattle.shop_views.specs.Bodies.{numbers_value, named_value}
 use Rattle.shop_views.specs.Texts.{json_text}

@@ -28,7 +28,10 @@ returns-clause-took g c clean =
     let late : HasCleanDisk (state g.S.Store now) = search rules in
     let early : HasCleanDisk (state g.S.Store begun) = omega (arith, late, c.take_all.ensures.survives.clean) in
     let start = begun_query g.S.Store text params c.args.conn.now begun c.requires (c.in-Ok.ensures.begun early) in
-    let told : OnOk c.take_all.result ((x : List Row) × Shown text params old (state g.S.Store now) x × (g.T.TakesRows.took c.args.taker.now c.args.taker.now [] → g.T.TakesRows.took c.args.taker.now c.take_all.new.taker x)) =
+    let told :
+    OnOk c.take_all.result
+    ((x : List Row) × Shown text params old (state g.S.Store now) x
+    × (g.T.TakesRows.took c.args.taker.now c.args.taker.now [] → g.T.TakesRows.took c.args.taker.now c.take_all.new.taker x)) =
     on_ok_then c.take_all.result (λ given.
     let it = given text params c.requires start.0 in
     (it.0, shown_from text params old (state g.S.Store begun) (state g.S.Store now) it.0 c.requires start.1 it.1, it.2)) (c.take_all.ensures.took late) in
@@ -39,5 +42,7 @@ returns-clause-same g c =
     let old = state g.S.Store c.args.conn.now in
     let begun = state g.S.Store c.in-Ok.rows.conn.now in
     let now = state g.S.Store c.take_all.new.rows.conn.now in
-    let all : Survives old now (λ _. ⊥) = survives_more old begun now (commits_nothing c.args.text.now (bound c.args.params.now) old begun c.requires c.in-Ok.ensures.survives) c.take_all.ensures.survives in
+    let all : Survives old now (λ _. ⊥) =
+    survives_more old begun now
+    (commits_nothing c.args.text.now (bound c.args.params.now) old begun c.requires c.in-Ok.ensures.survives) c.take_all.ensures.survives in
     record { survives = search rules; mode = search rules; kept = search rules; same = search rules }

@@ -8,5 +8,6 @@ invariant-loop-text g l =
       same : l.tx.conn.ghost_name ≡ l.fn.tx.conn.ghost_name;
       survives : Survives old now (λ _. ⊥);
       kept : HasCleanDisk now → KeepsCommit old now;
-      built : HasCleanDisk now → (whole : Schema) → Builds whole old.now (map (λ t. t.now) l.texts) → Builds whole now.now (map (λ t. t.now) (drop l.text-index l.texts));
+      built : HasCleanDisk now → (whole : Schema) → Builds whole old.now (map (λ t. t.now) l.texts)
+          → Builds whole now.now (map (λ t. t.now) (drop l.text-index l.texts));
     }

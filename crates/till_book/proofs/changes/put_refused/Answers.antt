@@ -7,7 +7,9 @@ use Rattle.till_book.proofs.changes.put_refused.Goals as goal
 
 pub returns : goal.returns
 returns g c = record {
-  inside = inside_then c.in_ok-request.ensures.inside (within_then (within_of c.in_ok-add_settled.ensures.inside) (within_then (within_of c.in_ok-drop_unsure.ensures.inside) c.put_mark.ensures.inside));
+  inside =
+      inside_then c.in_ok-request.ensures.inside
+      (within_then (within_of c.in_ok-add_settled.ensures.inside) (within_then (within_of c.in_ok-drop_unsure.ensures.inside) c.put_mark.ensures.inside));
   says = λ clean.
       let clean_three = clean_within c.put_mark.ensures.inside clean in
       let clean_two = clean_before c.in_ok-drop_unsure.ensures.inside clean_three in
@@ -18,7 +20,9 @@ returns g c = record {
       let found : FindsEntry c.args.number (Some c.as_slice.result.now) old one =
       subst (λ (l : List ℕ). FindsEntry c.args.number (Some l) old one) (sym c.as_slice.ensures) (c.in_ok-request.ensures.says clean_one) in
       IfOk-weaker c.put_mark.result _ _
-      (λ y marks. puts_refused c.args.number answer c.as_slice.result.now c.in_ok-mark.mark old one _ _ _ found (c.in_ok-add_settled.ensures.says clean_two) (c.in_ok-drop_unsure.ensures.says clean_three)
+      (λ y marks.
+      puts_refused c.args.number answer c.as_slice.result.now c.in_ok-mark.mark old one _ _ _ found
+      (c.in_ok-add_settled.ensures.says clean_two) (c.in_ok-drop_unsure.ensures.says clean_three)
       c.in_ok-mark.ensures marks)
       (c.put_mark.ensures.says clean);
 }

@@ -17,6 +17,8 @@ returns g c = record {
       let found : FindsEntry c.args.number (Some c.as_slice.result.now) old one =
       subst (λ (l : List ℕ). FindsEntry c.args.number (Some l) old one) (sym c.as_slice.ensures) (c.in_ok-request.ensures.says clean_one) in
       IfOk-weaker c.put_mark.result _ _
-      (λ y marks. puts_reply c.args.number answer c.as_slice.result.now c.in_ok-mark.mark old one _ _ found (c.in_ok-add_reply.ensures.says clean_two) c.in_ok-mark.ensures marks)
+      (λ y marks.
+      puts_reply c.args.number answer c.as_slice.result.now c.in_ok-mark.mark old one _ _ found
+      (c.in_ok-add_reply.ensures.says clean_two) c.in_ok-mark.ensures marks)
       (c.put_mark.ensures.says clean);
 }

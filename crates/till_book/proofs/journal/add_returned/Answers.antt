@@ -3,4 +3,6 @@ use Rattle.till_book.proofs.JournalTexts.{adds_returned}
 use Rattle.till_book.proofs.journal.add_returned.Goals as goal
 
 pub returns : goal.returns
-returns g c = does_so c.execute.ensures.inside (rw (c.to_sql.ensures, c.get.ensures.value, c.to_sql-2.ensures) at c.execute.ensures.ran) (λ _ ran. adds_returned c.args.rental c.args.number _ _ ran.0 ran.1)
+returns g c =
+    does_so c.execute.ensures.inside (rw (c.to_sql.ensures, c.get.ensures.value, c.to_sql-2.ensures) at c.execute.ensures.ran)
+    (λ _ ran. adds_returned c.args.rental c.args.number _ _ ran.0 ran.1)

@@ -9,6 +9,8 @@ returns g c = record {
   says = λ clean.
       let shown = rw (c.to_sql.ensures) at (c.in_ok-rows.ensures.shown clean) in
       IfOk-weaker c.first_bytes.result _ _
-      (λ it tells. finds_entry c.args.number (state g.S.Store c.args.tx.now.conn.now) (state g.S.Store c.query.new.tx.conn.now) c.in_ok-rows.rows.items shown c.as_slice.result.now c.as_slice.ensures.value it tells)
+      (λ it tells.
+      finds_entry c.args.number (state g.S.Store c.args.tx.now.conn.now)
+      (state g.S.Store c.query.new.tx.conn.now) c.in_ok-rows.rows.items shown c.as_slice.result.now c.as_slice.ensures.value it tells)
       c.first_bytes.ensures;
 }

@@ -9,7 +9,9 @@ use Rattle.till_book.proofs.marks.settled_mark.Goals as goal
 pub returns-in-Ok : goal.returns-in-Ok
 returns-in-Ok c =
     let done : c.args.status ≡ 200 = omega arith in
-    IfOk-weaker c.accepted_mark.result _ _ (λ mark told. mark_at c.args.request.now c.args.status c.args.body.now (seen_command c.in-Ok.command) mark done c.in-Ok.ensures.ok told) c.accepted_mark.ensures
+    IfOk-weaker c.accepted_mark.result _ _
+    (λ mark told. mark_at c.args.request.now c.args.status c.args.body.now (seen_command c.in-Ok.command) mark done c.in-Ok.ensures.ok told)
+    c.accepted_mark.ensures
 
 pub returns-in-Err-Other : goal.returns-in-Err-Other
 returns-in-Err-Other c =

@@ -8,7 +8,8 @@ returns-in-Some g c = record {
   inside = inside_then c.in_ok-last.ensures.inside (within_of c.held_by.ensures.inside);
   says = λ clean.
       IfOk-weaker c.held_by.result _ _
-      (λ it told. held_some c.args.copy c.in-Some.rent it _ _ _ (rw c.in-Some.is at (c.in_ok-last.ensures.says (clean_before c.held_by.ensures.inside clean))) told)
+      (λ it told.
+      held_some c.args.copy c.in-Some.rent it _ _ _ (rw c.in-Some.is at (c.in_ok-last.ensures.says (clean_before c.held_by.ensures.inside clean))) told)
       (c.held_by.ensures.says clean);
 }
 

@@ -1,9 +1,11 @@
-use Rattle.shop_types.proofs.Common.{◌≡◌, ◌∙◌, ◌≤◌, length, ℕ, List, [], drop, ap, refl, subst, arith, Some, Bool, true, false, not, option_map, bytes_eq, bytes_eq-Decides, drop_all}
+use Rattle.shop_types.proofs.Common.{◌≡◌, ◌∙◌, ◌≤◌, length, ℕ, List, [], drop, ap, refl, subst, arith, Some, Bool, true, false, not, option_map, bytes_eq}
+use Rattle.shop_types.proofs.Common.{bytes_eq-Decides, drop_all}
 use Rattle.http_messages.specs.Input.{HasMessage}
 use Rattle.http_messages.specs.Shown.{message_of}
 use Rattle.till_client.proofs.SoleMessages.{is_read, not_read, no_token, other_token, stays_open}
 use Rattle.till_client.proofs.sealed.sole_message.Goals as goal
-use Rattle.till_client.proofs.sealed.sole_message.Goals.{then-len-bytes-via-then-len-bytes, then-len-bytes-via-else-len-bytes+then-ne, then-len-bytes-via-else-len-bytes+else-ne+then-not-message}
+use Rattle.till_client.proofs.sealed.sole_message.Goals.{then-len-bytes-via-then-len-bytes, then-len-bytes-via-else-len-bytes+then-ne}
+use Rattle.till_client.proofs.sealed.sole_message.Goals.{then-len-bytes-via-else-len-bytes+else-ne+then-not-message}
 
 pub returns-in_default : goal.returns-in_default
 returns-in_default c = record {
@@ -13,17 +15,20 @@ returns-in_default c = record {
 
 pub returns-in_default-token-clause-none : goal.returns-in_default-token-clause-none
 returns-in_default-token-clause-none c message sole =
-    let same = is_read c.args.bytes.now c.args.token.now c.in-Whole.len (message_of c.in-Whole.message) message c.in-Whole.ensures.0 c.in-Whole.ensures.1 sole in
+    let same =
+    is_read c.args.bytes.now c.args.token.now c.in-Whole.len (message_of c.in-Whole.message) message c.in-Whole.ensures.0 c.in-Whole.ensures.1 sole in
     no_token c.args.token.now (message_of c.in-Whole.message) message same.0 (ap (option_map (λ it. it.now)) c.in_default-token.is) sole.token_is
 
 pub returns-then-len-bytes-clause-none : goal.returns-then-len-bytes-clause-none
 returns-then-len-bytes-clause-none c message sole =
-    let same = is_read c.args.bytes.now c.args.token.now c.in-Whole.len (message_of c.in-Whole.message) message c.in-Whole.ensures.0 c.in-Whole.ensures.1 sole in
+    let same =
+    is_read c.args.bytes.now c.args.token.now c.in-Whole.len (message_of c.in-Whole.message) message c.in-Whole.ensures.0 c.in-Whole.ensures.1 sole in
     elim c.then-len-bytes.branch [
       | then-len-bytes-via-then-len-bytes w ↦ absurd (omega (arith, same.1, w.if-len-bytes))
       | then-len-bytes-via-else-len-bytes+then-ne w ↦ other_token c.args.token.now c.in-Some.digits.now (message_of c.in-Whole.message) message same.0
           (ap (option_map (λ it. it.now)) c.in-Some.is) sole.token_is w.if-ne.ensures
-      | then-len-bytes-via-else-len-bytes+else-ne+then-not-message w ↦ stays_open (message_of c.in-Whole.message) message same.0 w.if-not-message.true sole.closes
+      | then-len-bytes-via-else-len-bytes+else-ne+then-not-message w ↦
+          stays_open (message_of c.in-Whole.message) message same.0 w.if-not-message.true sole.closes
     ]
 
 pub returns-clause-some : goal.returns-clause-some

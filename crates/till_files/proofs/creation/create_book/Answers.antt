@@ -5,17 +5,20 @@ use Rattle.till_files.proofs.creation.create_book.Goals as goal
 
 pub returns-in_err-conn-clause-refused : goal.returns-in_err-conn-clause-refused
 returns-in_err-conn-clause-refused g c =
-    refused_by c.from_residual.result _ _ (unmade_by g.D.Disk c.args.files _ _ c.in_err-conn.ensures.book c.in_err-conn.ensures.already c.in_err-conn.ensures.left) c.from_residual.ensures.1
+    refused_by c.from_residual.result _ _
+    (unmade_by g.D.Disk c.args.files _ _ c.in_err-conn.ensures.book c.in_err-conn.ensures.already c.in_err-conn.ensures.left) c.from_residual.ensures.1
 
 pub returns-in-Ok-clause-made : goal.returns-in-Ok-clause-made
 returns-in-Ok-clause-made g c =
     let conn = c.in_ok-conn.conn in
-    let first = λ (clean : HasCleanDisk (file_state c.create.new.conn)). let r : HasCleanDisk (file_state conn) = omega (arith, clean, c.create.ensures.crash.clean) in r in
+    let first = λ (clean : HasCleanDisk (file_state c.create.new.conn)).
+    let r : HasCleanDisk (file_state conn) = omega (arith, clean, c.create.ensures.crash.clean) in r in
     record {
       ended = c.create.ensures.ended;
       honest = λ clean. (c.in_ok-conn.ensures.found (first clean)).honest;
       made = c.in-Ok.ensures.made;
-      none = λ clean. holds_no_table conn c.args.files (c.in_ok-conn.ensures.opened (first clean)) (c.in_ok-conn.ensures.found (first clean)) c.in-Ok.ensures.none;
+      none =
+          λ clean. holds_no_table conn c.args.files (c.in_ok-conn.ensures.opened (first clean)) (c.in_ok-conn.ensures.found (first clean)) c.in-Ok.ensures.none;
     }
 
 pub returns-in-Err-clause-refused : goal.returns-in-Err-clause-refused
@@ -23,7 +26,8 @@ returns-in-Err-clause-refused g c =
     let conn = c.in_ok-conn.conn in
     let back = c.close_book in
     let stays = g.met.D.Disk.seen_may_stay in
-    let first = λ (clean : HasCleanDisk (file_state c.create.new.conn)). let r : HasCleanDisk (file_state conn) = omega (arith, clean, c.create.ensures.crash.clean) in r in
+    let first = λ (clean : HasCleanDisk (file_state c.create.new.conn)).
+    let r : HasCleanDisk (file_state conn) = omega (arith, clean, c.create.ensures.crash.clean) in r in
     record {
       already = λ honest is.
           let clean = first (back.ensures.clean honest) in
@@ -34,6 +38,9 @@ returns-in-Err-clause-refused g c =
           let opened = c.in_ok-conn.ensures.opened (first clean) in
           let found = c.in_ok-conn.ensures.found (first clean) in
           let none = c.in-Err.ensures.stopped other in
-          inr (holds_no_table conn c.args.files opened found none, none_or_new conn c.args.files opened found stays none c.create.new.conn back.result c.create.ensures.crash clean (back.ensures.left honest));
+          inr (
+            holds_no_table conn c.args.files opened found none,
+            none_or_new conn c.args.files opened found stays none c.create.new.conn back.result c.create.ensures.crash clean (back.ensures.left honest),
+          );
       book = c.in-Err.ensures.book;
     }

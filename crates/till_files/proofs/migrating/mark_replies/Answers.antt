@@ -14,10 +14,12 @@ loop-reply-preserved g c =
     let reply = c.reply-item.result in (
       omega (arith, inv.0),
       done (and_then (some_calls inv.1) (some_calls c.in_ok-mark_reply.ensures)) (λ said.
-          one_reply _ (map seen_reply c.args.replies.now) i (seen_reply reply) _ _ _ (at_place seen_reply c.args.replies.now i reply c.loop-reply-test.true c.reply-item.is) said.0 (rw inv.0 at said.1)),
+          one_reply _ (map seen_reply c.args.replies.now) i (seen_reply reply) _ _ _
+          (at_place seen_reply c.args.replies.now i reply c.loop-reply-test.true c.reply-item.is) said.0 (rw inv.0 at said.1)),
     )
 
 pub returns : goal.returns
 returns g c =
-    let all : length (map seen_reply c.args.replies.now) ≤ c.loop-reply.reply-index = omega (arith, length_mapped seen_reply c.args.replies.now, c.loop-reply-test.false) in
+    let all : length (map seen_reply c.args.replies.now) ≤ c.loop-reply.reply-index =
+    omega (arith, length_mapped seen_reply c.args.replies.now, c.loop-reply-test.false) in
     done (some_calls c.loop-reply.invariant.1) (λ said. all_replies _ (map seen_reply c.args.replies.now) c.loop-reply.reply-index _ _ all said)

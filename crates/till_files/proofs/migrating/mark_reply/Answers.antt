@@ -11,6 +11,7 @@ returns g c =
     let asked : c.as_slice.result.now ≡ entry.request = c.as_slice.ensures in
     let body : c.as_slice-2.result.now ≡ reply.body = c.as_slice-2.ensures in
     let status : c.from-status.result ≡ reply.status = omega arith in
-    let told : ◌≡◌ {A = Answer} (record { status = c.from-status.result; body = c.as_slice-2.result.now }) (seen_reply reply) = λ i. record { status = status i; body = body i } in
+    let told : ◌≡◌ {A = Answer} (record { status = c.from-status.result; body = c.as_slice-2.result.now }) (seen_reply reply) =
+    λ i. record { status = status i; body = body i } in
     does_such c.put_mark.ensures (λ _ old new marks. reply_marked _ c.args.at c.in_ok-number.number _ _ _ _ c.in_ok-mark.mark old new c.in_ok-number.ensures
     (at_place _ c.args.entries.now c.args.at entry (omega arith) c.index-entries-at.is) asked told c.in_ok-mark.ensures marks)

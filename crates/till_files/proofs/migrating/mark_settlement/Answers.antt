@@ -16,7 +16,9 @@ returns g c =
     let asked : c.as_slice.result.now ≡ entry.request = c.as_slice.ensures in
     let body : c.as_slice-2.result.now ≡ it.reply.body = c.as_slice-2.ensures in
     let status : c.from-status.result ≡ it.reply.status = omega arith in
-    let told : ◌≡◌ {A = Answer} (record { status = c.from-status.result; body = c.as_slice-2.result.now }) (seen_reply it.reply) = λ i. record { status = status i; body = body i } in
-    and_more (one_call c.in_ok-drop_unsure.ensures) c.put_mark.ensures (λ dropped _ marks. settlement_marked _ _ (seen_settlement it) _ at _ _ _ c.in_ok-mark.mark _ _ _ place
+    let told : ◌≡◌ {A = Answer} (record { status = c.from-status.result; body = c.as_slice-2.result.now }) (seen_reply it.reply) =
+    λ i. record { status = status i; body = body i } in
+    and_more (one_call c.in_ok-drop_unsure.ensures) c.put_mark.ensures
+    (λ dropped _ marks. settlement_marked _ _ (seen_settlement it) _ at _ _ _ c.in_ok-mark.mark _ _ _ place
     (at_place seen_reply c.args.replies.now at reply (omega arith) c.index-replies-at.is) other
     (at_place _ c.args.entries.now at entry (omega arith) c.index-entries-at.is) asked told c.in_ok-mark.ensures dropped marks)

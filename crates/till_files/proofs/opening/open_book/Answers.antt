@@ -6,7 +6,8 @@ use Rattle.till_files.proofs.opening.open_book.Goals as goal
 
 pub returns-in_err-conn-clause-refused : goal.returns-in_err-conn-clause-refused
 returns-in_err-conn-clause-refused g c =
-    refused_by c.from_residual.result _ _ (unopened_by g.D.Disk c.args.files _ _ c.in_err-conn.ensures.book c.in_err-conn.ensures.already c.in_err-conn.ensures.left) c.from_residual.ensures.1
+    refused_by c.from_residual.result _ _
+    (unopened_by g.D.Disk c.args.files _ _ c.in_err-conn.ensures.book c.in_err-conn.ensures.already c.in_err-conn.ensures.left) c.from_residual.ensures.1
 
 pub returns-in-Ok-true-clause-opened : goal.returns-in-Ok-true-clause-opened
 returns-in-Ok-true-clause-opened g c =
@@ -33,10 +34,16 @@ returns-in-Ok-false-clause-refused g c =
     let back = c.close_book in
     let same : c.schema.result.now ≡ conn.schema = c.schema.ensures.value in
     record {
-      no_book = λ honest is. let clean = back.ensures.clean honest in has_no_book conn c.args.files (opened clean) (found clean) (λ is. apart (sym c.in-Ok-false.field-0-test ∙ c.in-Ok-false.ensures.1 (same ∙ is)));
+      no_book = λ honest is.
+          let clean = back.ensures.clean honest in
+          has_no_book conn c.args.files (opened clean) (found clean) (λ is. apart (sym c.in-Ok-false.field-0-test ∙ c.in-Ok-false.ensures.1 (same ∙ is)));
       kept = λ honest.
           let clean = back.ensures.clean honest in
-          inr (_, shows_what_is_found conn c.args.files (opened clean) (found clean), left_as_found conn c.args.files (opened clean) (found clean) g.met.D.Disk.seen_may_stay back.result (back.ensures.left honest));
+          inr (
+            _,
+            shows_what_is_found conn c.args.files (opened clean) (found clean),
+            left_as_found conn c.args.files (opened clean) (found clean) g.met.D.Disk.seen_may_stay back.result (back.ensures.left honest),
+          );
       already = λ is. cc;
     }
   where
@@ -53,6 +60,10 @@ returns-in-Err-clause-refused g c =
       no_book = λ honest is. absurd (c.named.ensures.book is);
       kept = λ honest.
           let clean = back.ensures.clean honest in
-          inr (_, shows_what_is_found conn c.args.files (opened clean) (found clean), left_as_found conn c.args.files (opened clean) (found clean) g.met.D.Disk.seen_may_stay back.result (back.ensures.left honest));
+          inr (
+            _,
+            shows_what_is_found conn c.args.files (opened clean) (found clean),
+            left_as_found conn c.args.files (opened clean) (found clean) g.met.D.Disk.seen_may_stay back.result (back.ensures.left honest),
+          );
       already = c.named.ensures.already;
     }

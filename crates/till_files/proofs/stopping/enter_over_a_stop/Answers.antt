@@ -9,5 +9,6 @@ pub returns : goal.returns
 returns g c = record {
   either = ok_then c.restart_book.result c.restart_book.ensures.either (λ again told clean journal rests next.
       told clean journal (with_entry c.args.request.now journal) (λ before.
-      leaves_either (file_state c.args.conn) (file_state c.enter-stopped.new.conn) (IsNext c.args.number) (with_entry c.args.request.now) c.enter-stopped.ensures.crash before journal rests next));
+      leaves_either (file_state c.args.conn) (file_state c.enter-stopped.new.conn) (IsNext c.args.number)
+      (with_entry c.args.request.now) c.enter-stopped.ensures.crash before journal rests next));
 }

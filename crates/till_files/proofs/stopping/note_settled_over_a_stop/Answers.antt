@@ -10,5 +10,6 @@ returns g c =
     record {
       either = ok_then c.restart_book.result c.restart_book.ensures.either (λ again told clean journal rests next.
           told clean journal (with_settled c.args.number answer journal) (λ before.
-          leaves_either (file_state c.args.conn) (file_state c.note_settled-stopped.new.conn) (IsUnsettled c.args.number) (with_settled c.args.number answer) c.note_settled-stopped.ensures.crash before journal rests next));
+          leaves_either (file_state c.args.conn) (file_state c.note_settled-stopped.new.conn) (IsUnsettled c.args.number)
+          (with_settled c.args.number answer) c.note_settled-stopped.ensures.crash before journal rests next));
     }

@@ -11,5 +11,6 @@ returns g c =
     record {
       either = ok_then c.restart_book.result c.restart_book.ensures.either (λ again told clean journal rests next.
           told clean journal (with_reply answer journal) (λ before.
-          leaves_either (file_state c.args.conn) (file_state c.record-stopped.new.conn) (IsNextReply c.args.number) (with_reply answer) c.record-stopped.ensures.crash before journal rests next));
+          leaves_either (file_state c.args.conn) (file_state c.record-stopped.new.conn) (IsNextReply c.args.number)
+          (with_reply answer) c.record-stopped.ensures.crash before journal rests next));
     }

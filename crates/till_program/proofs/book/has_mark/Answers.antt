@@ -6,7 +6,8 @@ use Rattle.till_program.proofs.book.has_mark.Goals as goal
 
 pub returns-in-Some : goal.returns-in-Some
 returns-in-Some c =
-    mark_then c.args.mark.now c.args.key.now c.in-Some.rest.now c.starts_with.result (strip_prefix_is Decides-eqb c.args.key.now c.args.mark.now (Some c.in-Some.rest) c.in-Some.ensures.cases)
+    mark_then c.args.mark.now c.args.key.now c.in-Some.rest.now c.starts_with.result
+    (strip_prefix_is Decides-eqb c.args.key.now c.args.mark.now (Some c.in-Some.rest) c.in-Some.ensures.cases)
     c.starts_with.ensures.value
 
 pub returns-in-None : goal.returns-in-None

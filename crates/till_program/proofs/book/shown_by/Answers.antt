@@ -11,4 +11,5 @@ returns-in-Ok-clause-marked c command says =
 
 pub returns-in-Err-Other-clause-marked : goal.returns-in-Err-Other-clause-marked
 returns-in-Err-Other-clause-marked c command says =
-    absurd (subst (λ (fault : NotSealed). IsUnsealed fault c.args.request.now says.0) c.in-Err-Other.field-0-is (c.in-Err-Other.ensures.err says.0) command says.1)
+    absurd
+    (subst (λ (fault : NotSealed). IsUnsealed fault c.args.request.now says.0) c.in-Err-Other.field-0-is (c.in-Err-Other.ensures.err says.0) command says.1)

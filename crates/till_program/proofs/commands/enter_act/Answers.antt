@@ -7,9 +7,12 @@ use Rattle.till_program.proofs.commands.enter_act.Goals as goal
 
 pub returns-in-Ok-clause-entered : goal.returns-in-Ok-clause-entered
 returns-in-Ok-clause-entered g c clean =
-    enters_try (g.K.WallClock.shows c.args.desk.now.clock.now) c.args.desk.now.settings.now.mark c.args.desk.now.settings.now.token c.identity.result.mark.now c.identity.result.token.now
-    (giver_of c.args.desk.now.settings.now.staff c.args.desk.now.staff) (seen_act c.args.act.now) c.in_ok-request.field-0.request.items c.args.book.now.place c.enter.new.place
-    (state g.S.Store c.args.conn.now) (state g.S.Store c.enter.new.conn) c.identity.ensures.mark c.identity.ensures.token c.in_ok-request.ensures (c.in-Ok.ensures.entered clean)
+    enters_try (g.K.WallClock.shows c.args.desk.now.clock.now) c.args.desk.now.settings.now.mark
+    c.args.desk.now.settings.now.token c.identity.result.mark.now c.identity.result.token.now
+    (giver_of c.args.desk.now.settings.now.staff c.args.desk.now.staff)
+    (seen_act c.args.act.now) c.in_ok-request.field-0.request.items c.args.book.now.place c.enter.new.place
+    (state g.S.Store c.args.conn.now) (state g.S.Store c.enter.new.conn) c.identity.ensures.mark
+    c.identity.ensures.token c.in_ok-request.ensures (c.in-Ok.ensures.entered clean)
 
 pub returns-in-Err-clause-stays : goal.returns-in-Err-clause-stays
 returns-in-Err-clause-stays g c clean kept = c.in-Err.ensures.stays clean (desk_kept _ c.in-Err.fault c.from.ensures kept)

@@ -8,17 +8,20 @@ use Rattle.till_program.proofs.commands.give.Goals as goal
 
 pub returns-in-Err-clause-keeps : goal.returns-in-Err-clause-keeps
 returns-in-Err-clause-keeps g c clean kept =
-    goes_then _ c.args.desk.now.settings.now.mark c.args.book.now.place c.tries.book.place c.give_once.new.book.place (state g.S.Store c.args.conn.now) (state g.S.Store c.tries.conn)
+    goes_then _ c.args.desk.now.settings.now.mark c.args.book.now.place c.tries.book.place c.give_once.new.book.place
+    (state g.S.Store c.args.conn.now) (state g.S.Store c.tries.conn)
     (state g.S.Store c.give_once.new.conn) (c.tries.invariant.2 (c.give_once.ensures.clean clean)) (c.in-Err.ensures.keeps clean kept)
 
 pub returns-then-not-is_back-clause-given : goal.returns-then-not-is_back-clause-given
 returns-then-not-is_back-clause-given g c clean =
-    gives_so_far _ _ _ _ _ _ (λ (it : Told). seen_answer it.answer) c.tries.told _ c.args.book.now.place c.tries.book.place c.give_once.new.book.place (state g.S.Store c.args.conn.now)
+    gives_so_far _ _ _ _ _ _ (λ (it : Told). seen_answer it.answer) c.tries.told _ c.args.book.now.place
+    c.tries.book.place c.give_once.new.book.place (state g.S.Store c.args.conn.now)
     (state g.S.Store c.tries.conn) (state g.S.Store c.give_once.new.conn) (c.tries.invariant.3 (c.give_once.ensures.clean clean)) (c.in-Ok.ensures.tried clean)
 
 pub returns-then-not-is_back-clause-keeps : goal.returns-then-not-is_back-clause-keeps
 returns-then-not-is_back-clause-keeps g c clean kept =
-    goes_then _ c.args.desk.now.settings.now.mark c.args.book.now.place c.tries.book.place c.give_once.new.book.place (state g.S.Store c.args.conn.now) (state g.S.Store c.tries.conn)
+    goes_then _ c.args.desk.now.settings.now.mark c.args.book.now.place c.tries.book.place c.give_once.new.book.place
+    (state g.S.Store c.args.conn.now) (state g.S.Store c.tries.conn)
     (state g.S.Store c.give_once.new.conn) (c.tries.invariant.2 (c.give_once.ensures.clean clean)) (c.in-Ok.ensures.keeps clean (kept_ok _))
 
 pub tries-preserved : goal.tries-preserved
@@ -26,18 +29,22 @@ tries-preserved g c = (
   c.give_once.ensures.ended,
   (λ clean. c.tries.invariant.1 (c.give_once.ensures.clean clean)),
   (λ clean.
-      goes_then _ c.args.desk.now.settings.now.mark c.args.book.now.place c.tries.book.place c.give_once.new.book.place (state g.S.Store c.args.conn.now) (state g.S.Store c.tries.conn)
+      goes_then _ c.args.desk.now.settings.now.mark c.args.book.now.place c.tries.book.place c.give_once.new.book.place
+      (state g.S.Store c.args.conn.now) (state g.S.Store c.tries.conn)
       (state g.S.Store c.give_once.new.conn) (c.tries.invariant.2 (c.give_once.ensures.clean clean)) (c.in-Ok.ensures.keeps clean (kept_ok _))),
   (λ clean. (
-    gives_so_far _ _ _ _ _ _ (λ (it : Told). seen_answer it.answer) c.tries.told _ c.args.book.now.place c.tries.book.place c.give_once.new.book.place (state g.S.Store c.args.conn.now)
-        (state g.S.Store c.tries.conn) (state g.S.Store c.give_once.new.conn) (c.tries.invariant.3 (c.give_once.ensures.clean clean)) (c.in-Ok.ensures.tried clean),
+    gives_so_far _ _ _ _ _ _ (λ (it : Told). seen_answer it.answer) c.tries.told _ c.args.book.now.place
+        c.tries.book.place c.give_once.new.book.place (state g.S.Store c.args.conn.now)
+        (state g.S.Store c.tries.conn) (state g.S.Store c.give_once.new.conn)
+        (c.tries.invariant.3 (c.give_once.ensures.clean clean)) (c.in-Ok.ensures.tried clean),
     c.is_back.ensures c.if-not-is_back.false,
   )),
 )
 
 pub returns-clause-given : goal.returns-clause-given
 returns-clause-given g c clean =
-    gave _ _ _ _ _ _ (λ (it : Told). seen_answer it.answer) c.tries.told c.args.book.now.place c.tries.book.place (state g.S.Store c.args.conn.now) (state g.S.Store c.tries.conn)
+    gave _ _ _ _ _ _ (λ (it : Told). seen_answer it.answer) c.tries.told c.args.book.now.place c.tries.book.place
+    (state g.S.Store c.args.conn.now) (state g.S.Store c.tries.conn)
     (c.tries.invariant.3 clean)
 
 pub returns-clause-keeps : goal.returns-clause-keeps

@@ -13,7 +13,9 @@ invariant-tries g l =
     let tells = IsTold (g.V.Server.opens l.desk.server.now) g.V.Reader.Read.remaining g.V.Writer.Write.contents in
     (l.conn.in_transaction ≡ false)
     × (HasCleanDisk (state g.S.Store l.conn) → HasCleanDisk (state g.S.Store l.initial.conn))
-    × (HasCleanDisk (state g.S.Store l.conn) → GoesOn tells l.desk.settings.now.mark l.initial.book.place (state g.S.Store l.initial.conn) l.book.place (state g.S.Store l.conn))
     × (HasCleanDisk (state g.S.Store l.conn)
-    → SoFar tells (g.K.WallClock.shows l.desk.clock.now) l.desk.settings.now.mark l.desk.settings.now.token (giver_of l.desk.settings.now.staff l.desk.staff) (seen_act l.act) (λ (it : Told). seen_answer it.answer) l.told
+    → GoesOn tells l.desk.settings.now.mark l.initial.book.place (state g.S.Store l.initial.conn) l.book.place (state g.S.Store l.conn))
+    × (HasCleanDisk (state g.S.Store l.conn)
+    → SoFar tells (g.K.WallClock.shows l.desk.clock.now) l.desk.settings.now.mark l.desk.settings.now.token
+    (giver_of l.desk.settings.now.staff l.desk.staff) (seen_act l.act) (λ (it : Told). seen_answer it.answer) l.told
     l.initial.book.place (state g.S.Store l.initial.conn) l.book.place (state g.S.Store l.conn))

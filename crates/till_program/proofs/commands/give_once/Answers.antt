@@ -6,36 +6,44 @@ use Rattle.till_program.proofs.commands.give_once.Goals as goal
 
 pub returns-in-Err-clause-keeps : goal.returns-in-Err-clause-keeps
 returns-in-Err-clause-keeps g c clean kept =
-    stays_goes _ c.args.desk.now.settings.now.mark c.args.book.now.place c.enter_act.new.book.place (state g.S.Store c.args.conn.now) (state g.S.Store c.enter_act.new.conn)
+    stays_goes _ c.args.desk.now.settings.now.mark c.args.book.now.place c.enter_act.new.book.place
+    (state g.S.Store c.args.conn.now) (state g.S.Store c.enter_act.new.conn)
     (c.in-Err.ensures.stays clean (kept_as c.in-Err.fault kept))
 
 pub returns-in-Ok-Some-clause-tried : goal.returns-in-Ok-Some-clause-tried
 returns-in-Ok-Some-clause-tried g c clean =
-    tries_one _ _ _ _ _ _ c.in-Ok-Some.answer c.args.book.now.place c.enter_act.new.book.place c.send_all.new.place (state g.S.Store c.args.conn.now) (state g.S.Store c.enter_act.new.conn)
-    (state g.S.Store c.send_all.new.conn) (c.in-Ok.ensures.entered (c.send_all.ensures.clean clean)) (rw c.in-Ok-Some.field-0-is at (c.in-Ok-Some.ensures.told clean)) c.in-Ok-Some.ensures.all
+    tries_one _ _ _ _ _ _ c.in-Ok-Some.answer c.args.book.now.place c.enter_act.new.book.place c.send_all.new.place
+    (state g.S.Store c.args.conn.now) (state g.S.Store c.enter_act.new.conn)
+    (state g.S.Store c.send_all.new.conn) (c.in-Ok.ensures.entered (c.send_all.ensures.clean clean))
+    (rw c.in-Ok-Some.field-0-is at (c.in-Ok-Some.ensures.told clean)) c.in-Ok-Some.ensures.all
 
 pub returns-in-Ok-Some-clause-keeps : goal.returns-in-Ok-Some-clause-keeps
 returns-in-Ok-Some-clause-keeps g c clean kept =
     let mark = c.args.desk.now.settings.now.mark in
-    goes_then _ mark c.args.book.now.place c.enter_act.new.book.place c.send_all.new.place (state g.S.Store c.args.conn.now) (state g.S.Store c.enter_act.new.conn)
+    goes_then _ mark c.args.book.now.place c.enter_act.new.book.place c.send_all.new.place
+    (state g.S.Store c.args.conn.now) (state g.S.Store c.enter_act.new.conn)
     (state g.S.Store c.send_all.new.conn)
     (try_goes _ _ mark _ _ _ c.args.book.now.place c.enter_act.new.book.place (state g.S.Store c.args.conn.now) (state g.S.Store c.enter_act.new.conn)
     (c.in-Ok.ensures.entered (c.send_all.ensures.clean clean)))
-    (sends_goes _ mark c.enter_act.new.book.place c.send_all.new.place (state g.S.Store c.enter_act.new.conn) (state g.S.Store c.send_all.new.conn) (c.in-Ok-Some.ensures.sends clean (kept_ok _)))
+    (sends_goes _ mark c.enter_act.new.book.place c.send_all.new.place (state g.S.Store c.enter_act.new.conn)
+    (state g.S.Store c.send_all.new.conn) (c.in-Ok-Some.ensures.sends clean (kept_ok _)))
 
 pub returns-in-Ok-None-clause-keeps : goal.returns-in-Ok-None-clause-keeps
 returns-in-Ok-None-clause-keeps g c clean kept =
     let mark = c.args.desk.now.settings.now.mark in
-    goes_then _ mark c.args.book.now.place c.enter_act.new.book.place c.send_all.new.place (state g.S.Store c.args.conn.now) (state g.S.Store c.enter_act.new.conn)
+    goes_then _ mark c.args.book.now.place c.enter_act.new.book.place c.send_all.new.place
+    (state g.S.Store c.args.conn.now) (state g.S.Store c.enter_act.new.conn)
     (state g.S.Store c.send_all.new.conn)
     (try_goes _ _ mark _ _ _ c.args.book.now.place c.enter_act.new.book.place (state g.S.Store c.args.conn.now) (state g.S.Store c.enter_act.new.conn)
     (c.in-Ok.ensures.entered (c.send_all.ensures.clean clean)))
-    (sends_goes _ mark c.enter_act.new.book.place c.send_all.new.place (state g.S.Store c.enter_act.new.conn) (state g.S.Store c.send_all.new.conn) (c.in-Ok-None.ensures.sends clean (kept_ok _)))
+    (sends_goes _ mark c.enter_act.new.book.place c.send_all.new.place (state g.S.Store c.enter_act.new.conn)
+    (state g.S.Store c.send_all.new.conn) (c.in-Ok-None.ensures.sends clean (kept_ok _)))
 
 pub returns-in-Err-send_all-clause-keeps : goal.returns-in-Err-send_all-clause-keeps
 returns-in-Err-send_all-clause-keeps g c clean kept =
     let mark = c.args.desk.now.settings.now.mark in
-    goes_then _ mark c.args.book.now.place c.enter_act.new.book.place c.send_all.new.place (state g.S.Store c.args.conn.now) (state g.S.Store c.enter_act.new.conn)
+    goes_then _ mark c.args.book.now.place c.enter_act.new.book.place c.send_all.new.place
+    (state g.S.Store c.args.conn.now) (state g.S.Store c.enter_act.new.conn)
     (state g.S.Store c.send_all.new.conn)
     (try_goes _ _ mark _ _ _ c.args.book.now.place c.enter_act.new.book.place (state g.S.Store c.args.conn.now) (state g.S.Store c.enter_act.new.conn)
     (c.in-Ok.ensures.entered (c.send_all.ensures.clean clean)))

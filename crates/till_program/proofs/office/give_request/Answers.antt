@@ -11,22 +11,30 @@ returns-in-Err-clause-grows g c clean kept =
 
 pub returns-in-Ok-Some-clause-grows : goal.returns-in-Ok-Some-clause-grows
 returns-in-Ok-Some-clause-grows g c clean kept =
-    grows_then _ c.args.place.now c.enter_request.new.place c.send_all.new.place (state g.S.Store c.args.conn.now) (state g.S.Store c.enter_request.new.conn) (state g.S.Store c.send_all.new.conn)
-    (entry_grows _ (c.args.place.now.entries + 1) c.args.request.now c.args.place.now c.enter_request.new.place (state g.S.Store c.args.conn.now) (state g.S.Store c.enter_request.new.conn) refl
+    grows_then _ c.args.place.now c.enter_request.new.place c.send_all.new.place (state g.S.Store c.args.conn.now)
+    (state g.S.Store c.enter_request.new.conn) (state g.S.Store c.send_all.new.conn)
+    (entry_grows _ (c.args.place.now.entries + 1) c.args.request.now c.args.place.now c.enter_request.new.place
+    (state g.S.Store c.args.conn.now) (state g.S.Store c.enter_request.new.conn) refl
     c.in-Ok.ensures.counted (c.in-Ok.ensures.entered (c.send_all.ensures.clean clean)))
-    (sends_grows _ c.enter_request.new.place c.send_all.new.place (state g.S.Store c.enter_request.new.conn) (state g.S.Store c.send_all.new.conn) (c.in-Ok-Some.ensures.sends clean (kept_ok _)))
+    (sends_grows _ c.enter_request.new.place c.send_all.new.place (state g.S.Store c.enter_request.new.conn)
+    (state g.S.Store c.send_all.new.conn) (c.in-Ok-Some.ensures.sends clean (kept_ok _)))
 
 pub returns-in-Ok-None-clause-grows : goal.returns-in-Ok-None-clause-grows
 returns-in-Ok-None-clause-grows g c clean kept =
-    grows_then _ c.args.place.now c.enter_request.new.place c.send_all.new.place (state g.S.Store c.args.conn.now) (state g.S.Store c.enter_request.new.conn) (state g.S.Store c.send_all.new.conn)
-    (entry_grows _ (c.args.place.now.entries + 1) c.args.request.now c.args.place.now c.enter_request.new.place (state g.S.Store c.args.conn.now) (state g.S.Store c.enter_request.new.conn) refl
+    grows_then _ c.args.place.now c.enter_request.new.place c.send_all.new.place (state g.S.Store c.args.conn.now)
+    (state g.S.Store c.enter_request.new.conn) (state g.S.Store c.send_all.new.conn)
+    (entry_grows _ (c.args.place.now.entries + 1) c.args.request.now c.args.place.now c.enter_request.new.place
+    (state g.S.Store c.args.conn.now) (state g.S.Store c.enter_request.new.conn) refl
     c.in-Ok.ensures.counted (c.in-Ok.ensures.entered (c.send_all.ensures.clean clean)))
-    (sends_grows _ c.enter_request.new.place c.send_all.new.place (state g.S.Store c.enter_request.new.conn) (state g.S.Store c.send_all.new.conn) (c.in-Ok-None.ensures.sends clean (kept_ok _)))
+    (sends_grows _ c.enter_request.new.place c.send_all.new.place (state g.S.Store c.enter_request.new.conn)
+    (state g.S.Store c.send_all.new.conn) (c.in-Ok-None.ensures.sends clean (kept_ok _)))
 
 pub returns-in-Err-send_all-clause-grows : goal.returns-in-Err-send_all-clause-grows
 returns-in-Err-send_all-clause-grows g c clean kept =
-    grows_then _ c.args.place.now c.enter_request.new.place c.send_all.new.place (state g.S.Store c.args.conn.now) (state g.S.Store c.enter_request.new.conn) (state g.S.Store c.send_all.new.conn)
-    (entry_grows _ (c.args.place.now.entries + 1) c.args.request.now c.args.place.now c.enter_request.new.place (state g.S.Store c.args.conn.now) (state g.S.Store c.enter_request.new.conn) refl
+    grows_then _ c.args.place.now c.enter_request.new.place c.send_all.new.place (state g.S.Store c.args.conn.now)
+    (state g.S.Store c.enter_request.new.conn) (state g.S.Store c.send_all.new.conn)
+    (entry_grows _ (c.args.place.now.entries + 1) c.args.request.now c.args.place.now c.enter_request.new.place
+    (state g.S.Store c.args.conn.now) (state g.S.Store c.enter_request.new.conn) refl
     c.in-Ok.ensures.counted (c.in-Ok.ensures.entered (c.send_all.ensures.clean clean)))
     (sends_grows _ c.enter_request.new.place c.send_all.new.place (state g.S.Store c.enter_request.new.conn) (state g.S.Store c.send_all.new.conn)
     (c.in-Err-send_all.ensures.sends clean (kept_as c.in-Err-send_all.fault kept)))

@@ -11,7 +11,8 @@ returns-in-Err-clause-keeps g c clean kept mark =
 
 pub returns-clause-keeps : goal.returns-clause-keeps
 returns-clause-keeps g c clean kept mark =
-    goes_stays _ mark c.args.place.now c.send_all.new.place (state g.S.Store c.args.conn.now) (state g.S.Store c.send_all.new.conn) (state g.S.Store c.entries_after.new.conn)
+    goes_stays _ mark c.args.place.now c.send_all.new.place (state g.S.Store c.args.conn.now)
+    (state g.S.Store c.send_all.new.conn) (state g.S.Store c.entries_after.new.conn)
     (sends_goes _ mark c.args.place.now c.send_all.new.place (state g.S.Store c.args.conn.now) (state g.S.Store c.send_all.new.conn)
     (c.in-Ok.ensures.sends (c.entries_after.ensures.clean clean) (kept_ok _))) (c.entries_after.ensures.stays clean)
 
@@ -22,12 +23,14 @@ returns-in-Err-clause-grows g c clean kept =
 
 pub returns-clause-grows : goal.returns-clause-grows
 returns-clause-grows g c clean kept =
-    grows_stays _ c.args.place.now c.send_all.new.place (state g.S.Store c.args.conn.now) (state g.S.Store c.send_all.new.conn) (state g.S.Store c.entries_after.new.conn)
+    grows_stays _ c.args.place.now c.send_all.new.place (state g.S.Store c.args.conn.now)
+    (state g.S.Store c.send_all.new.conn) (state g.S.Store c.entries_after.new.conn)
     (sends_grows _ c.args.place.now c.send_all.new.place (state g.S.Store c.args.conn.now) (state g.S.Store c.send_all.new.conn)
     (c.in-Ok.ensures.sends (c.entries_after.ensures.clean clean) (kept_ok _))) (c.entries_after.ensures.stays clean)
 
 pub returns-clause-sent : goal.returns-clause-sent
 returns-clause-sent g c clean =
-    all_stays _ c.entries_after.result c.args.place.now c.send_all.new.place (state g.S.Store c.args.conn.now) (state g.S.Store c.send_all.new.conn) (state g.S.Store c.entries_after.new.conn)
+    all_stays _ c.entries_after.result c.args.place.now c.send_all.new.place (state g.S.Store c.args.conn.now)
+    (state g.S.Store c.send_all.new.conn) (state g.S.Store c.entries_after.new.conn)
     (sends_all _ c.args.place.now c.send_all.new.place (state g.S.Store c.args.conn.now) (state g.S.Store c.send_all.new.conn)
     (c.in-Ok.ensures.sends (c.entries_after.ensures.clean clean) (kept_ok _)) c.in-Ok.ensures.all) (c.entries_after.ensures.stays clean)

@@ -7,4 +7,6 @@ abbrev pub invariant-entries : goal.invariant-entries
 invariant-entries g l =
     (l.conn.in_transaction ≡ false)
     × (HasCleanDisk (state g.S.Store l.conn) → HasCleanDisk (state g.S.Store l.initial.conn))
-    × (HasCleanDisk (state g.S.Store l.conn) → EntersNothing (IsTold (g.V.Server.opens l.desk.server.now) g.V.Reader.Read.remaining g.V.Writer.Write.contents) (state g.S.Store l.initial.conn) (state g.S.Store l.conn))
+    × (HasCleanDisk (state g.S.Store l.conn)
+    → EntersNothing (IsTold (g.V.Server.opens l.desk.server.now) g.V.Reader.Read.remaining g.V.Writer.Write.contents)
+    (state g.S.Store l.initial.conn) (state g.S.Store l.conn))

@@ -15,25 +15,30 @@ returns-in_err-book-clause-keeps g c clean kept branch =
 pub returns-in_err-plan-clause-keeps : goal.returns-in_err-plan-clause-keeps
 returns-in_err-plan-clause-keeps g c clean kept branch =
     stays_keeps _ c.args.desk.now.settings.now.mark (state g.S.Store c.args.conn.now) (state g.S.Store c.plan_of.new.conn)
-    (stays_both (state g.S.Store c.args.conn.now) (state g.S.Store c.read.new.conn) (state g.S.Store c.plan_of.new.conn) (c.read.ensures.stays (c.plan_of.ensures.clean clean))
+    (stays_both (state g.S.Store c.args.conn.now) (state g.S.Store c.read.new.conn)
+    (state g.S.Store c.plan_of.new.conn) (c.read.ensures.stays (c.plan_of.ensures.clean clean))
     (c.plan_of.ensures.stays clean))
 
 pub returns-clause-keeps : goal.returns-clause-keeps
 returns-clause-keeps g c clean kept branch =
     let planned = c.carry_out.ensures.clean clean in
     let read = c.plan_of.ensures.clean planned in
-    read_keeps _ c.args.desk.now.settings.now.mark c.in_ok-book.book.place c.carry_out.new.book.place (state g.S.Store c.args.conn.now) (state g.S.Store c.plan_of.new.conn)
+    read_keeps _ c.args.desk.now.settings.now.mark c.in_ok-book.book.place c.carry_out.new.book.place
+    (state g.S.Store c.args.conn.now) (state g.S.Store c.plan_of.new.conn)
     (state g.S.Store c.carry_out.new.conn) (c.in_ok-book.ensures.place read)
-    (stays_both (state g.S.Store c.args.conn.now) (state g.S.Store c.read.new.conn) (state g.S.Store c.plan_of.new.conn) (c.read.ensures.stays read) (c.plan_of.ensures.stays planned))
+    (stays_both (state g.S.Store c.args.conn.now) (state g.S.Store c.read.new.conn)
+    (state g.S.Store c.plan_of.new.conn) (c.read.ensures.stays read) (c.plan_of.ensures.stays planned))
     (c.carry_out.ensures.keeps clean kept branch c.in_ok-plan.ensures.planned)
 
 pub returns-in_err-book-clause-office : goal.returns-in_err-book-clause-office
-returns-in_err-book-clause-office g c clean kept office = stays_grows _ (state g.S.Store c.args.conn.now) (state g.S.Store c.read.new.conn) (c.read.ensures.stays clean)
+returns-in_err-book-clause-office g c clean kept office =
+    stays_grows _ (state g.S.Store c.args.conn.now) (state g.S.Store c.read.new.conn) (c.read.ensures.stays clean)
 
 pub returns-in_err-plan-clause-office : goal.returns-in_err-plan-clause-office
 returns-in_err-plan-clause-office g c clean kept office =
     stays_grows _ (state g.S.Store c.args.conn.now) (state g.S.Store c.plan_of.new.conn)
-    (stays_both (state g.S.Store c.args.conn.now) (state g.S.Store c.read.new.conn) (state g.S.Store c.plan_of.new.conn) (c.read.ensures.stays (c.plan_of.ensures.clean clean))
+    (stays_both (state g.S.Store c.args.conn.now) (state g.S.Store c.read.new.conn)
+    (state g.S.Store c.plan_of.new.conn) (c.read.ensures.stays (c.plan_of.ensures.clean clean))
     (c.plan_of.ensures.stays clean))
 
 pub returns-clause-office : goal.returns-clause-office
@@ -42,22 +47,26 @@ returns-clause-office g c clean kept office =
     let read = c.plan_of.ensures.clean planned in
     read_grows _ c.in_ok-book.book.place c.carry_out.new.book.place (state g.S.Store c.args.conn.now) (state g.S.Store c.plan_of.new.conn)
     (state g.S.Store c.carry_out.new.conn) (c.in_ok-book.ensures.place read)
-    (stays_both (state g.S.Store c.args.conn.now) (state g.S.Store c.read.new.conn) (state g.S.Store c.plan_of.new.conn) (c.read.ensures.stays read) (c.plan_of.ensures.stays planned))
+    (stays_both (state g.S.Store c.args.conn.now) (state g.S.Store c.read.new.conn)
+    (state g.S.Store c.plan_of.new.conn) (c.read.ensures.stays read) (c.plan_of.ensures.stays planned))
     (c.carry_out.ensures.grows clean kept office c.in_ok-plan.ensures.planned)
 
 -- the plan's fault is returned
-handed_on : {A B : Type 0} (result : Result A TillFault) (plan : Result B TillFault) (fault wanted : TillFault) → IsErrAnd result (λ told. told ≡ fault) → plan ≡ Err fault → plan ≡ Err wanted
+handed_on : {A B : Type 0} (result : Result A TillFault) (plan : Result B TillFault) (fault wanted : TillFault)
+    → IsErrAnd result (λ told. told ≡ fault) → plan ≡ Err fault → plan ≡ Err wanted
     → IfErr result (λ told. IsReading told ⊎ (told ≡ wanted))
 handed_on (Ok said) plan fault wanted handed was is = absurd handed
 handed_on (Err told) plan fault wanted handed was is = inr (let same : fault ≡ wanted = cc in handed ∙ same)
 
 pub returns-in_err-plan-clause-others : goal.returns-in_err-plan-clause-others
 returns-in_err-plan-clause-others g c other =
-    handed_on c.from_residual-in_err-plan.result _ _ (others_fault c.args.desk.now.settings.now.staff) c.from_residual-in_err-plan.ensures.1 refl (c.in_err-plan.ensures.others other)
+    handed_on c.from_residual-in_err-plan.result _ _
+    (others_fault c.args.desk.now.settings.now.staff) c.from_residual-in_err-plan.ensures.1 refl (c.in_err-plan.ensures.others other)
 
 pub returns-in_err-plan-clause-stays : goal.returns-in_err-plan-clause-stays
 returns-in_err-plan-clause-stays g c clean other =
-    stays_both (state g.S.Store c.args.conn.now) (state g.S.Store c.read.new.conn) (state g.S.Store c.plan_of.new.conn) (c.read.ensures.stays (c.plan_of.ensures.clean clean))
+    stays_both (state g.S.Store c.args.conn.now) (state g.S.Store c.read.new.conn)
+    (state g.S.Store c.plan_of.new.conn) (c.read.ensures.stays (c.plan_of.ensures.clean clean))
     (c.plan_of.ensures.stays clean)
 
 pub returns-clause-others : goal.returns-clause-others
@@ -71,33 +80,40 @@ returns-clause-done g c clean =
     let planned = c.carry_out.ensures.clean clean in
     let read = c.plan_of.ensures.clean planned in
     ok_then _ (c.carry_out.ensures.done clean)
-    (word_done _ _ _ _ _ c.args.act c.in_ok-plan.plan c.in_ok-book.book.place c.carry_out.new.book.place (state g.S.Store c.args.conn.now) (state g.S.Store c.read.new.conn)
-    (state g.S.Store c.plan_of.new.conn) (state g.S.Store c.carry_out.new.conn) (c.in_ok-book.ensures.place read) (c.read.ensures.stays read) (c.plan_of.ensures.stays planned)
+    (word_done _ _ _ _ _ c.args.act c.in_ok-plan.plan c.in_ok-book.book.place c.carry_out.new.book.place
+    (state g.S.Store c.args.conn.now) (state g.S.Store c.read.new.conn)
+    (state g.S.Store c.plan_of.new.conn) (state g.S.Store c.carry_out.new.conn)
+    (c.in_ok-book.ensures.place read) (c.read.ensures.stays read) (c.plan_of.ensures.stays planned)
     (c.in_ok-plan.ensures.acts planned))
 
 pub returns-in_err-plan-clause-foreign : goal.returns-in_err-plan-clause-foreign
 returns-in_err-plan-clause-foreign g c clean enters for other =
     let read = c.plan_of.ensures.clean clean in
-    let not_own = other_book c.args.desk.now.settings.now.mark c.in_ok-book.book.is_own (state g.S.Store c.args.conn.now) (c.in_ok-book.ensures.marked read) other in
+    let not_own =
+    other_book c.args.desk.now.settings.now.mark c.in_ok-book.book.is_own (state g.S.Store c.args.conn.now) (c.in_ok-book.ensures.marked read) other in
     handed_on c.from_residual-in_err-plan.result _ _ OtherBook c.from_residual-in_err-plan.ensures.1 refl (c.in_err-plan.ensures.foreign enters for not_own)
 
 pub returns-in_err-plan-clause-untouched : goal.returns-in_err-plan-clause-untouched
 returns-in_err-plan-clause-untouched g c clean enters other =
-    stays_both (state g.S.Store c.args.conn.now) (state g.S.Store c.read.new.conn) (state g.S.Store c.plan_of.new.conn) (c.read.ensures.stays (c.plan_of.ensures.clean clean))
+    stays_both (state g.S.Store c.args.conn.now) (state g.S.Store c.read.new.conn)
+    (state g.S.Store c.plan_of.new.conn) (c.read.ensures.stays (c.plan_of.ensures.clean clean))
     (c.plan_of.ensures.stays clean)
 
 pub returns-clause-marked : goal.returns-clause-marked
 returns-clause-marked g c clean enters =
     let read = c.plan_of.ensures.clean (c.carry_out.ensures.clean clean) in
     on_ok _
-    (own_book c.args.desk.now.settings.now.mark c.in_ok-book.book.is_own (state g.S.Store c.args.conn.now) (c.in_ok-book.ensures.marked read) (c.in_ok-plan.ensures.marked enters))
+    (own_book c.args.desk.now.settings.now.mark c.in_ok-book.book.is_own (state g.S.Store c.args.conn.now)
+    (c.in_ok-book.ensures.marked read) (c.in_ok-plan.ensures.marked enters))
 
 pub returns-clause-foreign : goal.returns-clause-foreign
 returns-clause-foreign g c clean enters for other =
     let read = c.plan_of.ensures.clean (c.carry_out.ensures.clean clean) in
-    absurd (other (own_book c.args.desk.now.settings.now.mark c.in_ok-book.book.is_own (state g.S.Store c.args.conn.now) (c.in_ok-book.ensures.marked read) (c.in_ok-plan.ensures.marked enters)))
+    absurd (other (own_book c.args.desk.now.settings.now.mark c.in_ok-book.book.is_own
+    (state g.S.Store c.args.conn.now) (c.in_ok-book.ensures.marked read) (c.in_ok-plan.ensures.marked enters)))
 
 pub returns-clause-untouched : goal.returns-clause-untouched
 returns-clause-untouched g c clean enters other =
     let read = c.plan_of.ensures.clean (c.carry_out.ensures.clean clean) in
-    absurd (other (own_book c.args.desk.now.settings.now.mark c.in_ok-book.book.is_own (state g.S.Store c.args.conn.now) (c.in_ok-book.ensures.marked read) (c.in_ok-plan.ensures.marked enters)))
+    absurd (other (own_book c.args.desk.now.settings.now.mark c.in_ok-book.book.is_own
+    (state g.S.Store c.args.conn.now) (c.in_ok-book.ensures.marked read) (c.in_ok-plan.ensures.marked enters)))

@@ -12,17 +12,22 @@ returns-in-Err-clause-keeps g c clean kept = c.in-Err.ensures.keeps clean (kept_
 
 pub returns-in_err-table-clause-keeps : goal.returns-in_err-table-clause-keeps
 returns-in_err-table-clause-keeps g c clean kept =
-    goes_stays _ c.args.desk.now.settings.now.mark c.args.book.now.place c.give.new.book.place (state g.S.Store c.args.conn.now) (state g.S.Store c.give.new.conn)
+    goes_stays _ c.args.desk.now.settings.now.mark c.args.book.now.place c.give.new.book.place
+    (state g.S.Store c.args.conn.now) (state g.S.Store c.give.new.conn)
     (state g.S.Store c.waited.new.conn) (c.in-Ok.ensures.keeps (c.waited.ensures.clean clean) (kept_ok _)) (c.waited.ensures.stays clean)
 
 pub returns-clause-keeps : goal.returns-clause-keeps
 returns-clause-keeps g c clean kept =
-    goes_stays _ c.args.desk.now.settings.now.mark c.args.book.now.place c.give.new.book.place (state g.S.Store c.args.conn.now) (state g.S.Store c.give.new.conn)
+    goes_stays _ c.args.desk.now.settings.now.mark c.args.book.now.place c.give.new.book.place
+    (state g.S.Store c.args.conn.now) (state g.S.Store c.give.new.conn)
     (state g.S.Store c.waited.new.conn) (c.in-Ok.ensures.keeps (c.waited.ensures.clean clean) (kept_ok _)) (c.waited.ensures.stays clean)
 
 pub returns-clause-given : goal.returns-clause-given
 returns-clause-given g c clean =
-    gives_told (IsTold (g.V.Server.opens c.args.desk.now.server.now) g.V.Reader.Read.remaining g.V.Writer.Write.contents) (g.K.WallClock.shows c.args.desk.now.clock.now)
-    c.args.desk.now.settings.now.mark c.args.desk.now.settings.now.token (giver_of c.args.desk.now.settings.now.staff c.args.desk.now.staff) c.told.result (seen_act c.args.act.now)
-    (seen_answer c.in-Ok.it.answer) c.args.book.now.place c.give.new.book.place (state g.S.Store c.args.conn.now) (state g.S.Store c.give.new.conn) (state g.S.Store c.waited.new.conn)
+    gives_told (IsTold (g.V.Server.opens c.args.desk.now.server.now) g.V.Reader.Read.remaining g.V.Writer.Write.contents)
+    (g.K.WallClock.shows c.args.desk.now.clock.now)
+    c.args.desk.now.settings.now.mark c.args.desk.now.settings.now.token
+    (giver_of c.args.desk.now.settings.now.staff c.args.desk.now.staff) c.told.result (seen_act c.args.act.now)
+    (seen_answer c.in-Ok.it.answer) c.args.book.now.place c.give.new.book.place
+    (state g.S.Store c.args.conn.now) (state g.S.Store c.give.new.conn) (state g.S.Store c.waited.new.conn)
     (c.in-Ok.ensures.given (c.waited.ensures.clean clean)) (c.waited.ensures.stays clean)

@@ -15,7 +15,9 @@ returns-in_err-moment-clause-none c =
     let days : epoch_day c.in-Ok.date ≡ pos (c.args.seconds / 86400) = c.in-Ok.ensures.value ∙ to_z_pos w64 (c.args.seconds / 86400) (omega arith) in
     let written : moment_text (civil_of c.in-Ok.date (c.args.seconds % 86400)) ≡ c.in-Ok-from_utf8.text.now =
     sym (c.in-Ok-from_utf8.ensures.cases.0 ∙ c.as_slice.ensures ∙ c.text_of-text.ensures) in
-    let there = civil_is c.in-Ok.date (c.args.seconds / 86400) (c.args.seconds % 86400) (c.in-Ok.date.year_in, c.in-Ok.date.month_in, c.in-Ok.date.day_in) days (omega arith) in
+    let there =
+    civil_is c.in-Ok.date (c.args.seconds / 86400) (c.args.seconds % 86400)
+    (c.in-Ok.date.year_in, c.in-Ok.date.month_in, c.in-Ok.date.day_in) days (omega arith) in
     absurd (c.in_err-moment.ensures.none (civil_of c.in-Ok.date (c.args.seconds % 86400)) there.0 written)
 
 pub returns-else-seconds-clause-none : goal.returns-else-seconds-clause-none

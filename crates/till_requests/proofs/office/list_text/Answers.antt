@@ -16,6 +16,9 @@ returns c =
     let vs = map view c.loop-word.list.items in
     let listed : vs ≡ map string (map string_bytes words) = c.loop-word.invariant.listed ∙ ap (λ l. map string (map string_bytes l)) all in
     let whole = view (Array c.loop-word.list) in
-    both_ok c.to_vec.result (λ b. IsUtf8 b.items) (λ b. depth whole ≤ max_depth → read b.items ≡ Some whole) (λ b. texts_of b.items ≡ Some (map string_bytes words))
-    (λ b utf8 back. texts_told b.items vs (map string_bytes words) listed utf8 (subst (λ (d : Data). depth d ≤ max_depth → read b.items ≡ Some d) (view-Array c.loop-word.list) back))
+    both_ok c.to_vec.result (λ b. IsUtf8 b.items) (λ b. depth whole ≤ max_depth → read b.items ≡ Some whole)
+    (λ b. texts_of b.items ≡ Some (map string_bytes words))
+    (λ b utf8 back.
+    texts_told b.items vs (map string_bytes words) listed utf8
+    (subst (λ (d : Data). depth d ≤ max_depth → read b.items ≡ Some d) (view-Array c.loop-word.list) back))
     c.to_vec.ensures.utf8 c.to_vec.ensures.reads_back

@@ -1,4 +1,5 @@
-use Rattle.shop_types.proofs.Common.{◌≡◌, ◌∙◌, ◌≤◌, length, ℕ, List, [], drop, ap, refl, subst, arith, Some, Bool, true, false, not, option_map, bytes_eq, bytes_eq-Decides, drop_all}
+use Rattle.shop_types.proofs.Common.{◌≡◌, ◌∙◌, ◌≤◌, length, ℕ, List, [], drop, ap, refl, subst, arith, Some, Bool, true, false, not, option_map, bytes_eq}
+use Rattle.shop_types.proofs.Common.{bytes_eq-Decides, drop_all}
 use Rattle.http_messages.specs.Input.{HasMessage}
 use Rattle.http_messages.specs.Shown.{message_of}
 use Rattle.till_requests.proofs.sole.sole_message.Goals as goal

@@ -14,7 +14,8 @@ loop-item-preserved c =
     let items = c.args.items.now in
     let before = c.loop-item.numbers.items in
     let value : whole_number (view c.item-item.result) ≡ Some c.in-Some.number = cc in
-    rw c.in-Ok.ensures.items (sym (turn number_in before items i c.item-item.result c.in-Some.number c.loop-item-test.true c.item-item.is value) ∙ c.loop-item.invariant)
+    rw c.in-Ok.ensures.items
+    (sym (turn number_in before items i c.item-item.result c.in-Some.number c.loop-item-test.true c.item-item.is value) ∙ c.loop-item.invariant)
 
 pub returns-in_default-clause-other : goal.returns-in_default-clause-other
 returns-in_default-clause-other c = λ _.

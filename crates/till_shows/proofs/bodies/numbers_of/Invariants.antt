@@ -6,4 +6,5 @@ use Rattle.till_shows.proofs.bodies.numbers_of.Given as goal
 
 -- the numbers so far, and the numbers of the items that are left
 abbrev pub invariant-loop-item : goal.invariant-loop-item
-invariant-loop-item l = behind l.numbers.items (each (λ v. whole_number (view v)) (drop l.item-index l.items)) ≡ behind [] (each (λ v. whole_number (view v)) l.items)
+invariant-loop-item l =
+    behind l.numbers.items (each (λ v. whole_number (view v)) (drop l.item-index l.items)) ≡ behind [] (each (λ v. whole_number (view v)) l.items)

@@ -7,4 +7,5 @@ use Rattle.till_shows.proofs.bodies.rows_of.Goals as goal
 
 pub returns-in-Some : goal.returns-in-Some
 returns-in-Some c =
-    ap (λ (ds : List Data). Some ds) (ap (map view) c.as_slice.ensures.value ∙ sym (listed_of (map view c.in-Some.items.now.items))) ∙ ap (option_map listed) c.in-Some.ensures
+    ap (λ (ds : List Data). Some ds) (ap (map view) c.as_slice.ensures.value ∙ sym (listed_of (map view c.in-Some.items.now.items)))
+    ∙ ap (option_map listed) c.in-Some.ensures

@@ -27,12 +27,14 @@ returns-in_err-add_found-clause-other c =
     handed_on _ _ c.from_residual.ensures.1 (λ e.
     none_of (more_rows c.args.table.now) (found_rows fields part (map view rows))
     (sym c.loop-row.invariant ∙ ap (λ (ds : List Data). option_map (more_rows c.loop-row.table) (found_rows fields part ds)) front
-    ∙ ap (option_map (more_rows c.loop-row.table)) (found_none fields part (view c.row-item.result) (map view (drop (i + 1) rows)) (c.in_err-add_found.ensures.other e))))
+    ∙ ap (option_map (more_rows c.loop-row.table))
+    (found_none fields part (view c.row-item.result) (map view (drop (i + 1) rows)) (c.in_err-add_found.ensures.other e))))
 
 pub returns-clause-shown : goal.returns-clause-shown
 returns-clause-shown c =
     let fields = c.args.parts.now in
     let part = c.args.part.now in
     sym c.loop-row.invariant
-    ∙ ap (λ (ds : List Data). option_map (more_rows c.loop-row.table) (found_rows fields part ds)) (none_left view c.args.rows.now c.loop-row.row-index c.loop-row-test.false)
+    ∙ ap (λ (ds : List Data). option_map (more_rows c.loop-row.table) (found_rows fields part ds))
+    (none_left view c.args.rows.now c.loop-row.row-index c.loop-row-test.false)
     ∙ ap (λ (t : Table). Some t) (nothing_more c.loop-row.table)

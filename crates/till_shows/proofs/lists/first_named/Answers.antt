@@ -11,7 +11,8 @@ loop-row-preserved c =
     let i = c.loop-row.row-index in
     let by = c.args.by.now in
     let front = front_of view rows i c.row-item.result c.loop-row-test.true c.row-item.is in
-    sym (named_later by c.args.number c.args.name.now (view c.row-item.result) (map view (drop (i + 1) rows)) (sym c.has_number.ensures ∙ c.if-has_number.false))
+    sym
+    (named_later by c.args.number c.args.name.now (view c.row-item.result) (map view (drop (i + 1) rows)) (sym c.has_number.ensures ∙ c.if-has_number.false))
     ∙ ap (first_named by c.args.number c.args.name.now) (sym front) ∙ c.loop-row.invariant
 
 pub returns-in_err-text-clause-other : goal.returns-in_err-text-clause-other
@@ -37,4 +38,5 @@ returns-then-has_number-clause-shown c =
 
 pub returns-clause-shown : goal.returns-clause-shown
 returns-clause-shown c =
-    sym c.loop-row.invariant ∙ ap (first_named c.args.by.now c.args.number c.args.name.now) (none_left view c.args.rows.now c.loop-row.row-index c.loop-row-test.false)
+    sym c.loop-row.invariant
+    ∙ ap (first_named c.args.by.now c.args.number c.args.name.now) (none_left view c.args.rows.now c.loop-row.row-index c.loop-row-test.false)

@@ -14,10 +14,14 @@ returns-clause-other c = λ _.
 
 pub returns-in-Some-clause-shown : goal.returns-in-Some-clause-shown
 returns-in-Some-clause-shown c =
-    let same = named_told c.args.by.now c.args.number c.args.name.now c.args.body.now (view c.in_ok-value.value) (map view c.in-Some.rows.now) c.in_ok-value.ensures.shown c.in-Some.ensures in
+    let same =
+    named_told c.args.by.now c.args.number c.args.name.now c.args.body.now (view c.in_ok-value.value)
+    (map view c.in-Some.rows.now) c.in_ok-value.ensures.shown c.in-Some.ensures in
     IfOk-weaker c.first_named.result _ _ (λ text is. same ∙ is) c.first_named.ensures.shown
 
 pub returns-in-Some-clause-other : goal.returns-in-Some-clause-other
 returns-in-Some-clause-other c =
-    let same = named_told c.args.by.now c.args.number c.args.name.now c.args.body.now (view c.in_ok-value.value) (map view c.in-Some.rows.now) c.in_ok-value.ensures.shown c.in-Some.ensures in
+    let same =
+    named_told c.args.by.now c.args.number c.args.name.now c.args.body.now (view c.in_ok-value.value)
+    (map view c.in-Some.rows.now) c.in_ok-value.ensures.shown c.in-Some.ensures in
     if_err c.first_named.result _ _ (λ fault is e. same ∙ is e) c.first_named.ensures.other

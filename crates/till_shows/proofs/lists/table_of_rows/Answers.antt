@@ -10,4 +10,5 @@ returns-in_err-add_rows-clause-other c = handed_on _ _ c.from_residual-in_err-ad
 
 pub returns-clause-shown : goal.returns-clause-shown
 returns-clause-shown c =
-    ap (λ (it : Table). option_map (more_rows it) (found_rows c.args.parts.now c.args.part.now (map view c.args.rows.now))) (sym c.in_ok-table.ensures) ∙ c.in_ok-add_rows.ensures.shown
+    ap (λ (it : Table). option_map (more_rows it) (found_rows c.args.parts.now c.args.part.now (map view c.args.rows.now))) (sym c.in_ok-table.ensures)
+    ∙ c.in_ok-add_rows.ensures.shown

@@ -10,7 +10,8 @@ pub loop-part-preserved : goal.loop-part-preserved
 loop-part-preserved c =
     let f = field_text (view c.args.value.now) in
     rw c.in_ok-push.ensures.pushed
-    (sym (turn f c.loop-part.row c.args.parts.now c.loop-part.part-index c.part-item.result (string_bytes c.in_ok-text.text) c.loop-part-test.true c.part-item.is c.in_ok-text.ensures.shown)
+    (sym (turn f c.loop-part.row c.args.parts.now c.loop-part.part-index c.part-item.result
+    (string_bytes c.in_ok-text.text) c.loop-part-test.true c.part-item.is c.in_ok-text.ensures.shown)
     ∙ c.loop-part.invariant)
 
 pub returns-in_err-text-clause-other : goal.returns-in_err-text-clause-other
@@ -23,4 +24,5 @@ returns-in_err-text-clause-other c =
 pub returns-clause-shown : goal.returns-clause-shown
 returns-clause-shown c =
     let f = field_text (view c.args.value.now) in
-    sym (behind_all (each f c.args.parts.now)) ∙ sym c.loop-part.invariant ∙ whole f c.loop-part.row c.args.parts.now c.loop-part.part-index c.loop-part-test.false
+    sym (behind_all (each f c.args.parts.now)) ∙ sym c.loop-part.invariant
+    ∙ whole f c.loop-part.row c.args.parts.now c.loop-part.part-index c.loop-part-test.false

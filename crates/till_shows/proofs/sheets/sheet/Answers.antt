@@ -12,7 +12,8 @@ loop-part-preserved c =
     let text : string_bytes c.push_str.new.self ≡ before ++ string_bytes c.in_ok-line.line =
     c.in_ok-push_str.ensures.bytes ∙ ap (λ (t : List ℕ). before ++ t) c.as_str.ensures.value in
     rw text
-    (sym (line_more f before c.args.parts.now c.loop-part.part-index c.part-item.result (string_bytes c.in_ok-line.line) c.loop-part-test.true c.part-item.is c.in_ok-line.ensures.shown)
+    (sym (line_more f before c.args.parts.now c.loop-part.part-index c.part-item.result
+    (string_bytes c.in_ok-line.line) c.loop-part-test.true c.part-item.is c.in_ok-line.ensures.shown)
     ∙ c.loop-part.invariant)
 
 pub returns-in_err-line-clause-other : goal.returns-in_err-line-clause-other
@@ -20,7 +21,8 @@ returns-in_err-line-clause-other c =
     let f = field_line (view c.args.value.now) in
     handed_on _ _ c.from_residual.ensures.1 (λ e.
     sym c.loop-part.invariant
-    ∙ line_none f (string_bytes c.loop-part.sheet) c.args.parts.now c.loop-part.part-index c.part-item.result c.loop-part-test.true c.part-item.is (c.in_err-line.ensures.other e))
+    ∙ line_none f (string_bytes c.loop-part.sheet) c.args.parts.now c.loop-part.part-index
+    c.part-item.result c.loop-part-test.true c.part-item.is (c.in_err-line.ensures.other e))
 
 pub returns-clause-shown : goal.returns-clause-shown
 returns-clause-shown c =

@@ -8,4 +8,5 @@ use Rattle.till_shows.proofs.sheets.sheet.Given as goal
 -- the lines so far, and the lines of the parts that are left
 abbrev pub invariant-loop-part : goal.invariant-loop-part
 invariant-loop-part l =
-    lines_behind (string_bytes l.sheet) (each (field_line (view l.value)) (drop l.part-index l.parts)) ≡ lines_behind [] (each (field_line (view l.value)) l.parts)
+    lines_behind (string_bytes l.sheet) (each (field_line (view l.value)) (drop l.part-index l.parts))
+    ≡ lines_behind [] (each (field_line (view l.value)) l.parts)

@@ -9,4 +9,5 @@ pub returns-in-Some-clause-some : goal.returns-in-Some-clause-some
 returns-in-Some-clause-some c = read_is c.args.digits.now c.in-Some.number (sym c.in-Some.ensures) ∙ ap decimal (sym c.get.ensures.value)
 
 pub returns-in-None-clause-none : goal.returns-in-None-clause-none
-returns-in-None-clause-none c = none_read c.args.digits.now c.in-None.ensures (λ zero. other_text c.args.digits.now c.as_slice.result.now c.if-eq.ensures (zero ∙ sym c.as_slice.ensures))
+returns-in-None-clause-none c =
+    none_read c.args.digits.now c.in-None.ensures (λ zero. other_text c.args.digits.now c.as_slice.result.now c.if-eq.ensures (zero ∙ sym c.as_slice.ensures))

@@ -9,7 +9,8 @@ pub returns-in_err-text-2 : goal.returns-in_err-text-2
 returns-in_err-text-2 c = handed_on _ _ _ c.from_residual-in_err-text-2.ensures.1 (λ e. rw (c.in_ok-text.ensures, c.in_err-text-2.ensures e) refl)
 
 pub returns-in_err-text-3 : goal.returns-in_err-text-3
-returns-in_err-text-3 c = handed_on _ _ _ c.from_residual-in_err-text-3.ensures.1 (λ e. rw (c.in_ok-text.ensures, c.in_ok-text-2.ensures, c.in_err-text-3.ensures e) refl)
+returns-in_err-text-3 c =
+    handed_on _ _ _ c.from_residual-in_err-text-3.ensures.1 (λ e. rw (c.in_ok-text.ensures, c.in_ok-text-2.ensures, c.in_err-text-3.ensures e) refl)
 
 pub returns : goal.returns
 returns c = rw (c.in_ok-text.ensures, c.in_ok-text-2.ensures, c.in_ok-text-3.ensures) refl

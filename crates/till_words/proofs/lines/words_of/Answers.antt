@@ -6,12 +6,15 @@ use Rattle.till_words.proofs.lines.words_of.Goals as goal
 
 pub returns-then-reading : goal.returns-then-reading
 returns-then-reading c =
-    let end = YieldsList-end (YieldsList-from_chars c.args.line.now c.utf8.line cc) c.loop-c.yielded _ c.loop-c.yielded_by _ _ c.in-None.is c.next.ensures.steps in
+    let end =
+    YieldsList-end (YieldsList-from_chars c.args.line.now c.utf8.line cc) c.loop-c.yielded _ c.loop-c.yielded_by _ _ c.in-None.is c.next.ensures.steps in
     ends_open (seen_reading c.loop-c.reading) (fold read_char beginning (chars c.args.line.now))
     (c.loop-c.invariant ∙ ap (fold read_char beginning) (sym (map-id c.loop-c.yielded) ∙ end.0)) c.if-reading.true
 
 pub returns : goal.returns
 returns c =
-    let end = YieldsList-end (YieldsList-from_chars c.args.line.now c.utf8.line cc) c.loop-c.yielded _ c.loop-c.yielded_by _ _ c.in-None.is c.next.ensures.steps in
+    let end =
+    YieldsList-end (YieldsList-from_chars c.args.line.now c.utf8.line cc) c.loop-c.yielded _ c.loop-c.yielded_by _ _ c.in-None.is c.next.ensures.steps in
     ends_closed (seen_reading c.loop-c.reading) (fold read_char beginning (chars c.args.line.now)) _
-    (c.loop-c.invariant ∙ ap (fold read_char beginning) (sym (map-id c.loop-c.yielded) ∙ end.0)) c.if-reading.false (ap (λ (r : Reading). r.words) c.in_ok-end_word.ensures)
+    (c.loop-c.invariant ∙ ap (fold read_char beginning) (sym (map-id c.loop-c.yielded) ∙ end.0)) c.if-reading.false
+    (ap (λ (r : Reading). r.words) c.in_ok-end_word.ensures)

@@ -13,7 +13,8 @@ pub overflow_add-number : goal.overflow_add-number
 overflow_add-number c =
     let small = rw c.if-not-is_ascii_digit.false at c.is_ascii_digit.ensures.bound in
     let digit = digit_is (get_or c.args.bytes.now c.loop-b.b-index 0) small in
-    let next : c.loop-b.number * 10 + c.from.result < 10 ^ (c.loop-b.b-index + 1) = next_digit _ _ c.from.result c.loop-b.invariant.small (omega arith) (omega arith) in
+    let next : c.loop-b.number * 10 + c.from.result < 10 ^ (c.loop-b.b-index + 1) =
+    next_digit _ _ c.from.result c.loop-b.invariant.small (omega arith) (omega arith) in
     let fits = fits_five (c.loop-b.number * 10 + c.from.result) (c.loop-b.b-index + 1) next (omega arith) in
     omega arith
 

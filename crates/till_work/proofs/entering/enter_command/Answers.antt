@@ -15,12 +15,14 @@ returns-then-not-is_later-clause-fault g c clean =
       found.0,
       λ journal commands command rests next say says after.
           let same : command ≡ sealed = one_command c.args.request.items c.args.token.now c.args.token.now command sealed says c.in-Ok.ensures.ok.1 in
-          c.if-not-is_later.ensures.no commands (found.1 journal commands rests next say) refl (subst (λ (it : Command). IsAfterLast commands it.moment) same after),
+          c.if-not-is_later.ensures.no commands (found.1 journal commands rests next say) refl
+          (subst (λ (it : Command). IsAfterLast commands it.moment) same after),
     )
 
 pub returns-then-not-is_later-clause-crash : goal.returns-then-not-is_later-clause-crash
 returns-then-not-is_later-clause-crash g c =
-    survives_weaker (state g.S.Store c.args.conn.now) (state g.S.Store c.last_moment.new.conn) _ (LeavesEntered c.args.number c.args.request.items (state g.S.Store c.args.conn.now))
+    survives_weaker (state g.S.Store c.args.conn.now) (state g.S.Store c.last_moment.new.conn) _
+    (LeavesEntered c.args.number c.args.request.items (state g.S.Store c.args.conn.now))
     (λ _ db none. absurd none) c.last_moment.ensures.crash
 
 pub returns-in-Ok-enter-clause-entered : goal.returns-in-Ok-enter-clause-entered
@@ -32,7 +34,9 @@ returns-in-Ok-enter-clause-entered g c clean =
     let clean_mid : HasCleanDisk (state g.S.Store c.last_moment.new.conn) = omega (arith, clean, c.enter.ensures.crash.clean) in
     let found = c.in-Ok-last_moment.ensures.found clean_mid in
     let bytes : c.as_slice.result.now ≡ request = c.as_slice.ensures.value ∙ ap (λ v. v.items) own.0 in
-    let made = subst (λ (l : List ℕ). IsEntered c.args.number l (state g.S.Store c.last_moment.new.conn) (state g.S.Store c.enter.new.conn)) bytes (c.in-Ok-enter.ensures.made clean) in
+    let made =
+    subst (λ (l : List ℕ). IsEntered c.args.number l (state g.S.Store c.last_moment.new.conn) (state g.S.Store c.enter.new.conn)) bytes
+    (c.in-Ok-enter.ensures.made clean) in
     record {
       says = own.1;
       key = own.2;
@@ -45,11 +49,15 @@ returns-in-Ok-enter-clause-entered g c clean =
 pub returns-clause-crash : goal.returns-clause-crash
 returns-clause-crash g c =
     let own = c.in-Ok.ensures.ok in
-    entered_after c.args.number c.as_slice.result.now c.args.request.items (state g.S.Store c.args.conn.now) (state g.S.Store c.last_moment.new.conn) (state g.S.Store c.enter.new.conn)
-    (c.as_slice.ensures.value ∙ ap (λ v. v.items) own.0) c.last_moment.ensures.crash (λ clean. (c.in-Ok-last_moment.ensures.found clean).0) c.enter.ensures.crash
+    entered_after c.args.number c.as_slice.result.now c.args.request.items (state g.S.Store c.args.conn.now)
+    (state g.S.Store c.last_moment.new.conn) (state g.S.Store c.enter.new.conn)
+    (c.as_slice.ensures.value ∙ ap (λ v. v.items) own.0) c.last_moment.ensures.crash
+    (λ clean. (c.in-Ok-last_moment.ensures.found clean).0) c.enter.ensures.crash
 
 pub returns-in-Ok-enter-clause-crash : goal.returns-in-Ok-enter-clause-crash
 returns-in-Ok-enter-clause-crash g c =
     let own = c.in-Ok.ensures.ok in
-    entered_after c.args.number c.as_slice.result.now c.args.request.items (state g.S.Store c.args.conn.now) (state g.S.Store c.last_moment.new.conn) (state g.S.Store c.enter.new.conn)
-    (c.as_slice.ensures.value ∙ ap (λ v. v.items) own.0) c.last_moment.ensures.crash (λ clean. (c.in-Ok-last_moment.ensures.found clean).0) c.enter.ensures.crash
+    entered_after c.args.number c.as_slice.result.now c.args.request.items (state g.S.Store c.args.conn.now)
+    (state g.S.Store c.last_moment.new.conn) (state g.S.Store c.enter.new.conn)
+    (c.as_slice.ensures.value ∙ ap (λ v. v.items) own.0) c.last_moment.ensures.crash
+    (λ clean. (c.in-Ok-last_moment.ensures.found clean).0) c.enter.ensures.crash

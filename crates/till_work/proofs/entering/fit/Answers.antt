@@ -11,7 +11,8 @@ pub returns-in-Ok-false-clause-err : goal.returns-in-Ok-false-clause-err
 returns-in-Ok-false-clause-err c command says key =
     let own = c.in-Ok.ensures.ok in
     let sealed = seen_command c.in-Ok.sealed.command in
-    let said : SaysCommand c.args.request.items c.args.token.now sealed = subst (λ (l : List ℕ). SaysCommand l c.args.token.now sealed) (ap (λ v. v.items) own.0) own.1 in
+    let said : SaysCommand c.args.request.items c.args.token.now sealed =
+    subst (λ (l : List ℕ). SaysCommand l c.args.token.now sealed) (ap (λ v. v.items) own.0) own.1 in
     let same : command ≡ sealed = one_command c.args.request.items c.args.token.now c.args.token.now command sealed says said in
     let is : sealed.key ≡ key_of c.args.mark.now c.args.number = ap (λ (it : Command). it.key) (sym same) ∙ key in
     false≢true (sym c.in-Ok-false.field-0-test ∙ c.in-Ok-false.ensures ∙ (bytes_eq-Decides sealed.key (key_of c.args.mark.now c.args.number)).1 is)

@@ -21,7 +21,8 @@ returns-in-Ok-clause-found g c clean =
     let is : c.in-Ok-Some.field-0 ≡ Some bytes = c.in-Ok-Some.field-0-is ∙ ap (λ (l : List ℕ). Some l) (sym c.as_slice.ensures) in (
       λ journal rests. (found journal rests).0,
       λ journal commands rests next say.
-          is_last c.args.number journal commands c.in-Ok-Some.field-0 bytes (seen_command c.in-Ok.command) low next say (found journal rests).1 is c.in-Ok.ensures.ok,
+          is_last c.args.number journal commands c.in-Ok-Some.field-0 bytes
+          (seen_command c.in-Ok.command) low next say (found journal rests).1 is c.in-Ok.ensures.ok,
     )
 
 pub returns-in-Err-Other-clause-fault : goal.returns-in-Err-Other-clause-fault

@@ -6,7 +6,8 @@ use Rattle.till_work.proofs.sending.send_oldest.Goals as goal
 
 pub returns-in-Ok-clause-answered : goal.returns-in-Ok-clause-answered
 returns-in-Ok-clause-answered g c clean =
-    stays_answers (IsTold (g.V.Server.opens c.args.server.now) g.V.Reader.Read.remaining g.V.Writer.Write.contents) (seen_answer c.in-Ok.answer) c.args.place.now c.rounds.place c.send_once.new.place (state g.S.Store c.args.conn.now) (state g.S.Store c.rounds.conn)
+    stays_answers (IsTold (g.V.Server.opens c.args.server.now) g.V.Reader.Read.remaining g.V.Writer.Write.contents)
+    (seen_answer c.in-Ok.answer) c.args.place.now c.rounds.place c.send_once.new.place (state g.S.Store c.args.conn.now) (state g.S.Store c.rounds.conn)
     (state g.S.Store c.send_once.new.conn) (c.rounds.invariant.2 (c.send_once.ensures.clean clean)) (c.in-Ok.ensures.answered clean)
 
 pub rounds-preserved : goal.rounds-preserved
@@ -15,12 +16,14 @@ rounds-preserved g c =
       c.send_once.ensures.ended,
       (λ clean. c.rounds.invariant.1 (c.send_once.ensures.clean clean)),
       (λ clean.
-          stays_then c.args.place.now c.rounds.place c.send_once.new.place (state g.S.Store c.args.conn.now) (state g.S.Store c.rounds.conn) (state g.S.Store c.send_once.new.conn)
+          stays_then c.args.place.now c.rounds.place c.send_once.new.place (state g.S.Store c.args.conn.now)
+          (state g.S.Store c.rounds.conn) (state g.S.Store c.send_once.new.conn)
           (c.rounds.invariant.2 (c.send_once.ensures.clean clean)) (c.in-Err.ensures.stays clean (kept_if it (c.may_pass.ensures cc)))),
       c.in-Err.ensures.uncounted ∙ c.rounds.invariant.3,
       (λ _ clean.
           why_before (g.V.Server.refuses c.args.server.now) (g.V.Server.opens c.args.server.now) g.V.Writer.Write.contents it c.args.place.now c.rounds.place
-          (state g.S.Store c.args.conn.now) (state g.S.Store c.rounds.conn) c.rounds.invariant.3 (c.rounds.invariant.2 (c.send_once.ensures.clean clean)) (c.in-Err.ensures.why clean)),
+          (state g.S.Store c.args.conn.now) (state g.S.Store c.rounds.conn) c.rounds.invariant.3
+          (c.rounds.invariant.2 (c.send_once.ensures.clean clean)) (c.in-Err.ensures.why clean)),
     )
 
 pub returns-clause-stays : goal.returns-clause-stays

@@ -8,15 +8,19 @@ pub entries-init : goal.entries-init
 entries-init g c = (
   c.requires,
   (λ clean. clean),
-  (λ clean. none_sent (IsTold (g.V.Server.opens c.args.server.now) g.V.Reader.Read.remaining g.V.Writer.Write.contents) c.args.place.now (state g.S.Store c.args.conn.now)),
+  (λ clean.
+      none_sent (IsTold (g.V.Server.opens c.args.server.now) g.V.Reader.Read.remaining g.V.Writer.Write.contents) c.args.place.now
+      (state g.S.Store c.args.conn.now)),
   refl,
   refl,
 )
 
 pub returns-in-Err-clause-sends : goal.returns-in-Err-clause-sends
 returns-in-Err-clause-sends g c clean kept =
-    sends_stays (IsTold (g.V.Server.opens c.args.server.now) g.V.Reader.Read.remaining g.V.Writer.Write.contents) c.args.place.now c.entries.place c.send_oldest.new.place (state g.S.Store c.args.conn.now) (state g.S.Store c.entries.conn) (state g.S.Store c.send_oldest.new.conn)
-    (tells_sends (IsTold (g.V.Server.opens c.args.server.now) g.V.Reader.Read.remaining g.V.Writer.Write.contents) c.entries.last c.args.place.now c.entries.place (state g.S.Store c.args.conn.now) (state g.S.Store c.entries.conn)
+    sends_stays (IsTold (g.V.Server.opens c.args.server.now) g.V.Reader.Read.remaining g.V.Writer.Write.contents) c.args.place.now c.entries.place
+    c.send_oldest.new.place (state g.S.Store c.args.conn.now) (state g.S.Store c.entries.conn) (state g.S.Store c.send_oldest.new.conn)
+    (tells_sends (IsTold (g.V.Server.opens c.args.server.now) g.V.Reader.Read.remaining g.V.Writer.Write.contents)
+    c.entries.last c.args.place.now c.entries.place (state g.S.Store c.args.conn.now) (state g.S.Store c.entries.conn)
     (c.entries.invariant.2 (c.send_oldest.ensures.clean clean)))
     (c.in-Err.ensures.stays clean (kept_as c.in-Err.fault kept))
 
@@ -26,7 +30,8 @@ entries-preserved g c =
       c.send_oldest.ensures.ended,
       (λ clean. c.entries.invariant.1 (c.send_oldest.ensures.clean clean)),
       (λ clean.
-          tells_one (IsTold (g.V.Server.opens c.args.server.now) g.V.Reader.Read.remaining g.V.Writer.Write.contents) c.entries.last c.in-Ok.answer c.args.place.now c.entries.place c.send_oldest.new.place (state g.S.Store c.args.conn.now) (state g.S.Store c.entries.conn)
+          tells_one (IsTold (g.V.Server.opens c.args.server.now) g.V.Reader.Read.remaining g.V.Writer.Write.contents) c.entries.last c.in-Ok.answer
+          c.args.place.now c.entries.place c.send_oldest.new.place (state g.S.Store c.args.conn.now) (state g.S.Store c.entries.conn)
           (state g.S.Store c.send_oldest.new.conn) (c.entries.invariant.2 (c.send_oldest.ensures.clean clean)) (c.in-Ok.ensures.answered clean)),
       ap (λ (p : Place). p.entries) counted ∙ c.entries.invariant.3,
       ap (λ (p : Place). p.replies) counted ∙ ap (λ n. n + 1) c.entries.invariant.4,
@@ -34,10 +39,14 @@ entries-preserved g c =
 
 pub returns-clause-sends : goal.returns-clause-sends
 returns-clause-sends g c clean kept =
-    tells_sends (IsTold (g.V.Server.opens c.args.server.now) g.V.Reader.Read.remaining g.V.Writer.Write.contents) c.entries.last c.args.place.now c.entries.place (state g.S.Store c.args.conn.now) (state g.S.Store c.entries.conn) (c.entries.invariant.2 clean)
+    tells_sends (IsTold (g.V.Server.opens c.args.server.now) g.V.Reader.Read.remaining g.V.Writer.Write.contents) c.entries.last
+    c.args.place.now c.entries.place (state g.S.Store c.args.conn.now) (state g.S.Store c.entries.conn) (c.entries.invariant.2 clean)
 
 pub returns-in-Err-clause-why : goal.returns-in-Err-clause-why
 returns-in-Err-clause-why g c clean =
-    why_then (g.V.Server.refuses c.args.server.now) (g.V.Server.opens c.args.server.now) g.V.Writer.Write.contents (IsTold (g.V.Server.opens c.args.server.now) g.V.Reader.Read.remaining g.V.Writer.Write.contents) c.entries.last c.in-Err.fault
-    c.args.place.now c.entries.place c.send_oldest.new.place (state g.S.Store c.args.conn.now) (state g.S.Store c.entries.conn) (state g.S.Store c.send_oldest.new.conn)
-    (c.entries.invariant.2 (c.send_oldest.ensures.clean clean)) (λ other. c.in-Err.ensures.stays clean (kept_if c.in-Err.fault other)) c.in-Err.ensures.uncounted (c.in-Err.ensures.why clean)
+    why_then (g.V.Server.refuses c.args.server.now) (g.V.Server.opens c.args.server.now) g.V.Writer.Write.contents
+    (IsTold (g.V.Server.opens c.args.server.now) g.V.Reader.Read.remaining g.V.Writer.Write.contents) c.entries.last c.in-Err.fault
+    c.args.place.now c.entries.place c.send_oldest.new.place (state g.S.Store c.args.conn.now)
+    (state g.S.Store c.entries.conn) (state g.S.Store c.send_oldest.new.conn)
+    (c.entries.invariant.2 (c.send_oldest.ensures.clean clean))
+    (λ other. c.in-Err.ensures.stays clean (kept_if c.in-Err.fault other)) c.in-Err.ensures.uncounted (c.in-Err.ensures.why clean)

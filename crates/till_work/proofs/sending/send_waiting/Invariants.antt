@@ -8,6 +8,7 @@ invariant-entries g l =
     (l.conn.in_transaction ≡ false)
     × (HasCleanDisk (state g.S.Store l.conn) → HasCleanDisk (state g.S.Store l.initial.conn))
     × (HasCleanDisk (state g.S.Store l.conn)
-    → TellsLast (IsTold (g.V.Server.opens l.server) g.V.Reader.Read.remaining g.V.Writer.Write.contents) l.last l.initial.place (state g.S.Store l.initial.conn) l.place (state g.S.Store l.conn))
+    → TellsLast (IsTold (g.V.Server.opens l.server) g.V.Reader.Read.remaining g.V.Writer.Write.contents) l.last l.initial.place
+    (state g.S.Store l.initial.conn) l.place (state g.S.Store l.conn))
     × (l.place.entries ≡ l.initial.place.entries)
     × (l.place.replies ≡ l.sent)

@@ -9,8 +9,10 @@ returns-in_default c =
 
 pub returns-then-eq : goal.returns-then-eq
 returns-then-eq c =
-    same_group (map seen_group c.args.groups.complete.items) (seen_told c.args.film) (seen_open c.in-Some.group) _ _ (sym c.eq.ensures ∙ c.if-eq.true) c.in_ok-with_title.ensures (ap (option_map seen_open) c.in-Some.is)
+    same_group (map seen_group c.args.groups.complete.items) (seen_told c.args.film) (seen_open c.in-Some.group) _ _
+    (sym c.eq.ensures ∙ c.if-eq.true) c.in_ok-with_title.ensures (ap (option_map seen_open) c.in-Some.is)
 
 pub returns : goal.returns
 returns c =
-    next_group c.args.groups.complete.items _ (seen_told c.args.film) c.in-Some.group _ _ (sym c.eq.ensures ∙ c.if-eq.false) c.in_ok-push.ensures.items c.in_ok-opened-2.ensures (ap (option_map seen_open) c.in-Some.is)
+    next_group c.args.groups.complete.items _ (seen_told c.args.film) c.in-Some.group _ _
+    (sym c.eq.ensures ∙ c.if-eq.false) c.in_ok-push.ensures.items c.in_ok-opened-2.ensures (ap (option_map seen_open) c.in-Some.is)

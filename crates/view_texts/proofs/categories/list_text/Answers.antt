@@ -7,5 +7,7 @@ use Rattle.view_texts.proofs.categories.list_text.Goals as goal
 pub returns : goal.returns
 returns c =
     let rows = c.args.rows.now in
-    let whole = subst (λ l. HasTexts c.loop-row.page (map listed_category (map seen_category l))) (take_all c.loop-row.row-index rows c.loop-row-test.false) c.loop-row.invariant in
+    let whole =
+    subst (λ l. HasTexts c.loop-row.page (map listed_category (map seen_category l)))
+    (take_all c.loop-row.row-index rows c.loop-row-test.false) c.loop-row.invariant in
     IfOk-weaker c.finish.result _ _ (λ s told. told (map listed_category (map seen_category rows)) whole) c.finish.ensures

@@ -19,5 +19,9 @@ returns-clause-text g c clean =
     let mine = filter (is_of b) books.customers in
     let counted = held.numbers.rows Customers b in
     let rows = shows_customers _ _ b told.0 books holds.schema_is (rw (c.to_sql.ensures, c.get.ensures.value) at told.2) holds.stands counted in
-    let listed = each_listed _ (shown_customer catalogue) (λ x. customer_text (listed_customer b catalogue x)) (λ x texts it. it catalogue x refl) mine told.0 told.1 rows told.3 in
-    told.4 ∙ ap array (listed ∙ sym (map-map customer_text (listed_customer b catalogue) mine) ∙ ap (map customer_text) (customers_are b catalogue 1 mine counted))) (c.rows_text.ensures.text clean)
+    let listed =
+    each_listed _ (shown_customer catalogue) (λ x. customer_text (listed_customer b catalogue x))
+    (λ x texts it. it catalogue x refl) mine told.0 told.1 rows told.3 in
+    told.4
+    ∙ ap array (listed ∙ sym (map-map customer_text (listed_customer b catalogue) mine) ∙ ap (map customer_text) (customers_are b catalogue 1 mine counted)))
+    (c.rows_text.ensures.text clean)

@@ -16,7 +16,9 @@ pub returns-clause-text : goal.returns-clause-text
 returns-clause-text g c clean books holds held =
     let catalogue = books.catalogue in
     let told = c.in_ok-each_row.ensures.took clean in
-    let rows = shows_films _ _ told.0 books holds.schema_is told.1 holds.stands (apart_of catalogue.casts held.single.casts) (there_of catalogue catalogue.casts held.names.cast_actors) in
+    let rows =
+    shows_films _ _ told.0 books holds.schema_is told.1 holds.stands
+    (apart_of catalogue.casts held.single.casts) (there_of catalogue catalogue.casts held.names.cast_actors) in
     let done = told.2 (nothing_taken _ c.new.ensures) catalogue (film_lines catalogue) rows in
     let films = (runs catalogue (film_lines catalogue)).0 in
     c.in_ok-finish.ensures films done.0 ∙ ap (λ (o : Option FilmPart). array (map listed_film (closed (films, o)))) done.1

@@ -17,6 +17,8 @@ returns-clause-text g c clean =
     let catalogue = books.catalogue in
     let shop = shop_of b books in
     let rows = shows_outs b books held _ _ told.0 holds (rw (c.to_sql.ensures, c.get.ensures.value) at told.2) in
-    let late = passing_listed _ (shown_out catalogue shop) IsReal (λ (it : Rental × Terms). overdue_text (overdue_row catalogue shop it.0)) (is_late c.args.at) (λ x texts real it. it catalogue shop x real refl)
+    let late =
+    passing_listed _ (shown_out catalogue shop) IsReal (λ (it : Rental × Terms). overdue_text (overdue_row catalogue shop it.0))
+    (is_late c.args.at) (λ x texts real it. it catalogue shop x real refl)
     (opened b books held) told.0 told.1 (all_real b books held) rows told.3 in
     told.4 ∙ ap array (late ∙ overdue_are b books held c.args.at)) (c.rows_text.ensures.text clean)

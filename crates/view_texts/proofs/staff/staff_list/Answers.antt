@@ -17,5 +17,7 @@ returns-clause-text g c clean =
     let catalogue = books.catalogue in
     let mine = filter (λ (it : ℕ × Staff). it.1.branch == b) (numbered catalogue.staff) in
     let rows = shows_staff _ _ b told.0 books holds.schema_is (rw (c.to_sql.ensures, c.get.ensures.value) at told.2) holds.stands in
-    let listed = each_listed _ (shown_staff catalogue) (λ x. person_text [] (listed_staff b catalogue x)) (λ x texts it. it catalogue x refl) mine told.0 told.1 rows told.3 in
+    let listed =
+    each_listed _ (shown_staff catalogue) (λ x. person_text [] (listed_staff b catalogue x))
+    (λ x texts it. it catalogue x refl) mine told.0 told.1 rows told.3 in
     told.4 ∙ ap array (listed ∙ sym (map-map (person_text []) (listed_staff b catalogue) mine))) (c.rows_text.ensures.text clean)

@@ -12,7 +12,8 @@ pub returns-clause-added : goal.returns-clause-added
 returns-clause-added g c clean books values holds held =
     let early = was_clean c.rental_sum.ensures.same clean in
     let still = holds_still (state g.S.Store c.args.conn.now) (state g.S.Store c.find_store.new.conn) books (c.in_ok-row.ensures.same.same early) holds in
-    c.in_ok-add_sold.ensures books c.args.branch values (sym (ap (option_map seen_store) c.in-Some.is) ∙ c.in_ok-row.ensures.row early books holds) (c.in_ok-sum.ensures.sum clean books still held)
+    c.in_ok-add_sold.ensures books c.args.branch values
+    (sym (ap (option_map seen_store) c.in-Some.is) ∙ c.in_ok-row.ensures.row early books holds) (c.in_ok-sum.ensures.sum clean books still held)
 
 pub returns-clause-there : goal.returns-clause-there
 returns-clause-there g c clean books holds =

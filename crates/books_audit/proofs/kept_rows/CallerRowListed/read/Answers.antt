@@ -4,7 +4,8 @@ use Rattle.books_audit.proofs.KeptCells.{kept_full, kept_only, kept_form}
 use Rattle.books_audit.proofs.kept_rows.CallerRowListed.read.Goals as goal
 
 pub returns-in-Err-Failed-clause-none : goal.returns-in-Err-Failed-clause-none
-returns-in-Err-Failed-clause-none c (x, full) = let it = kept_only x c.args.row.now full in c.in-Err-Failed.ensures.failed c.in-Err-Failed.field-0-is it.0 it.1 it.2
+returns-in-Err-Failed-clause-none c (x, full) =
+    let it = kept_only x c.args.row.now full in c.in-Err-Failed.ensures.failed c.in-Err-Failed.field-0-is it.0 it.1 it.2
 
 pub returns-then-not-has_form-clause-none : goal.returns-then-not-has_form-clause-none
 returns-then-not-has_form-clause-none c (x, full) =

@@ -11,7 +11,8 @@ returns-clause-row c = λ films rows.
     let was = c.in-Some.films.entries in
     let same = ap entries_of (sym c.in-Some.is) ∙ c.self.view_is in
     let before = subst (λ (es : KnownFilms). AreRows es films) (sym same) rows in
-    subst (λ (n : ℕ). IfSome c.copied.result (λ film. IsRow n film films)) c.get.ensures.value (found_row was films c.get.result c.copied.result (c.copied.ensures ∙ c.get-2.ensures.value) before)
+    subst (λ (n : ℕ). IfSome c.copied.result (λ film. IsRow n film films)) c.get.ensures.value
+    (found_row was films c.get.result c.copied.result (c.copied.ensures ∙ c.get-2.ensures.value) before)
 
 pub returns-clause-kept : goal.returns-clause-kept
 returns-clause-kept c = λ films rows.
@@ -19,4 +20,5 @@ returns-clause-kept c = λ films rows.
     let same = ap entries_of (sym c.in-Some.is) ∙ c.self.view_is in
     let before = subst (λ (es : KnownFilms). AreRows es films) (sym same) rows in
     let test = nat_eq c.get.result in
-    subst (λ (it : LruCache ℕ KnownFilm). AreRows it.entries films) (sym c.get-2.follows.holds-at-none) (fewer_rows was (promoted test was) films (Contains-promoted test was) before)
+    subst (λ (it : LruCache ℕ KnownFilm). AreRows it.entries films) (sym c.get-2.follows.holds-at-none)
+    (fewer_rows was (promoted test was) films (Contains-promoted test was) before)

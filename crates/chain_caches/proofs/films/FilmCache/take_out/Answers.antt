@@ -12,7 +12,8 @@ returns-clause-kept c = λ films rows.
     let same = ap entries_of (sym c.in-Some.is) ∙ c.self.view_is in
     let before = subst (λ (es : KnownFilms). AreRows es films) (sym same) rows in
     let test = nat_eq c.get.result in
-    subst (λ (it : LruCache ℕ KnownFilm). AreRows it.entries films) (sym c.pop.ensures.entries) (fewer_rows was (remove_entry test was) films (Contains-remove_entry test was) before)
+    subst (λ (it : LruCache ℕ KnownFilm). AreRows it.entries films) (sym c.pop.ensures.entries)
+    (fewer_rows was (remove_entry test was) films (Contains-remove_entry test was) before)
 
 pub returns-clause-free : goal.returns-clause-free
 returns-clause-free c = λ films change rows.
@@ -21,4 +22,5 @@ returns-clause-free c = λ films change rows.
     let before = subst (λ (es : KnownFilms). AreRows es films) (sym same) rows in
     let valid = c.len-few.ensures.valid in
     subst (λ (n : ℕ). AreRows c.pop.new.self.entries (set_at n change films)) c.get.ensures.value
-    (subst (λ (it : LruCache ℕ KnownFilm). AreRows it.entries (set_at c.get.result change films)) (sym c.pop.ensures.entries) (free_rows c.get.result was films change valid.0 before))
+    (subst (λ (it : LruCache ℕ KnownFilm). AreRows it.entries (set_at c.get.result change films))
+    (sym c.pop.ensures.entries) (free_rows c.get.result was films change valid.0 before))

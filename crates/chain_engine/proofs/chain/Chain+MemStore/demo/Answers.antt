@@ -6,4 +6,16 @@ use Rattle.chain_engine.proofs.chain.Chain+MemStore.demo.Goals as goal
 
 pub returns-in-Ok-clause-made : goal.returns-in-Ok-clause-made
 returns-in-Ok-clause-made c =
-    rw c.over.ensures (refl, refl, record { sound = opening_books_sound widest_rules; values = c.first_values.ensures; films = no_rows _ _ refl; callers = no_callers _ _ refl; rests = λ _. c.in-Ok.ensures.made; alone = λ _. refl; left = λ failed. absurd (false≢true failed) })
+    rw c.over.ensures (
+      refl,
+      refl,
+      record {
+        sound = opening_books_sound widest_rules;
+        values = c.first_values.ensures;
+        films = no_rows _ _ refl;
+        callers = no_callers _ _ refl;
+        rests = λ _. c.in-Ok.ensures.made;
+        alone = λ _. refl;
+        left = λ failed. absurd (false≢true failed);
+      },
+    )

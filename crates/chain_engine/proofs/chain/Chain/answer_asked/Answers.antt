@@ -1,4 +1,5 @@
-use Rattle.shop_schema.proofs.Common.{◌≡◌, ◌∙◌, inr, refl, sym, ap, subst, arith, false, false≢true, Catalogue, problem_answer, is_store_failure, Caller, Request, seen_refusal, seen_reply}
+use Rattle.shop_schema.proofs.Common.{◌≡◌, ◌∙◌, inr, refl, sym, ap, subst, arith, false, false≢true, Catalogue, problem_answer, is_store_failure, Caller}
+use Rattle.shop_schema.proofs.Common.{Request, seen_refusal, seen_reply}
 use Rattle.chain_caches.specs.Callers.{AreCallers}
 use Rattle.chain_caches.proofs.FilmRows.{no_rows}
 use Rattle.chain_requests.specs.Holding.{Chained}
@@ -14,7 +15,13 @@ pub returns-in-Ok-clause-taken : goal.returns-in-Ok-clause-taken
 returns-in-Ok-clause-taken g c =
     let inside = c.self.inside in
     let old : Chained _ = record { limits = inside.limits; is_failed = inside.is_failed; films = inside.films; callers = inside.callers; conn = inside.conn } in
-    let new : Chained _ = record { limits = inside.limits; is_failed = inside.is_failed; films = c.step.new.films; callers = inside.callers; conn = c.step.new.conn } in
+    let new : Chained _ = record {
+      limits = inside.limits;
+      is_failed = inside.is_failed;
+      films = c.step.new.films;
+      callers = inside.callers;
+      conn = c.step.new.conn;
+    } in
     let is : old ≡ c.args.self.now = c.self.view_is in
     let fine : inside.is_failed ≡ false = same_failed is ∙ c.requires.fine in
     let known : (catalogue : Catalogue) → AreCallers inside.callers catalogue → IsKnownFor c.args.asked.now catalogue =
@@ -22,7 +29,9 @@ returns-in-Ok-clause-taken g c =
     let caller : Caller = asker c.args.asked.now in
     let request : Request = asked_of c.args.asked.now in
     subst (λ x. Takes g.S.Store x new (Answers caller request (seen_reply c.in-Ok.reply))) is
-    (made g.S.Store old new refl refl fine caller request (IsHeldBy (IsKnownFor c.args.asked.now) inside.films) (λ books held films callers. (held, films, known books.catalogue callers)) c.asked_values.ensures.caller c.asked_values.ensures.request c.limits_fit.ensures.commands c.limits_fit.ensures.copies (seen_reply c.in-Ok.reply) fine
+    (made g.S.Store old new refl refl fine caller request (IsHeldBy (IsKnownFor c.args.asked.now) inside.films)
+    (λ books held films callers. (held, films, known books.catalogue callers)) c.asked_values.ensures.caller
+    c.asked_values.ensures.request c.limits_fit.ensures.commands c.limits_fit.ensures.copies (seen_reply c.in-Ok.reply) fine
     (λ now. omega (arith, now, c.in-Ok.ensures.crash.clean)) c.in-Ok.ensures.made)
 
 pub returns-in-Err-clause-taken : goal.returns-in-Err-clause-taken
@@ -35,10 +44,19 @@ returns-in-Err-clause-taken g c =
     λ catalogue callers. c.requires.known catalogue (subst (λ (x : Chained _). AreCallers x.callers catalogue) is callers) in
     let caller : Caller = asker c.args.asked.now in
     let request : Request = asked_of c.args.asked.now in
-    let new : Chained _ = record { limits = inside.limits; is_failed = is_final c.in-Err.fault; films = c.clear.new.self; callers = inside.callers; conn = c.step.new.conn } in
+    let new : Chained _ = record {
+      limits = inside.limits;
+      is_failed = is_final c.in-Err.fault;
+      films = c.clear.new.self;
+      callers = inside.callers;
+      conn = c.step.new.conn;
+    } in
     let so : new ≡ c.refusal.new.self = sym (rw fine at c.refusal.ensures.failed) in
     let tells = c.refused.ensures ∙ ap (λ r. problem_answer (seen_refusal r)) c.refusal.ensures.told in
-    let taken = unmade g.S.Store old new refl refl fine caller request (IsHeldBy (IsKnownFor c.args.asked.now) inside.films) (λ books held films callers. (held, films, known books.catalogue callers)) c.asked_values.ensures.caller c.asked_values.ensures.request c.limits_fit.ensures.commands c.limits_fit.ensures.copies c.in-Err.fault (λ films are. no_rows _ films c.clear.ensures) refl
+    let taken =
+    unmade g.S.Store old new refl refl fine caller request (IsHeldBy (IsKnownFor c.args.asked.now) inside.films)
+    (λ books held films callers. (held, films, known books.catalogue callers)) c.asked_values.ensures.caller c.asked_values.ensures.request
+    c.limits_fit.ensures.commands c.limits_fit.ensures.copies c.in-Err.fault (λ films are. no_rows _ films c.clear.ensures) refl
     (λ now. omega (arith, now, c.in-Err.ensures.crash.clean)) c.in-Err.ensures.undone in
     rw tells (subst (λ x. Takes g.S.Store c.args.self.now x (Answers caller request (problem_answer (seen_refusal (refusal_for c.in-Err.fault))))) so
     (subst (λ x. Takes g.S.Store x new (Answers caller request (problem_answer (seen_refusal (refusal_for c.in-Err.fault))))) is taken))
@@ -57,4 +75,5 @@ pub returns-in-Err-clause-fails : goal.returns-in-Err-clause-fails
 returns-in-Err-clause-fails g c =
     let fine : c.self.inside.is_failed ≡ false = same_failed c.self.view_is ∙ c.requires.fine in
     let tells = c.refused.ensures ∙ ap (λ r. problem_answer (seen_refusal r)) c.refusal.ensures.told in
-    same_failed c.refusal.ensures.failed ∙ fails_by c.self.inside.is_failed c.in-Err.fault (λ was. absurd (false≢true (sym fine ∙ was))) ∙ sym (ap is_store_failure tells)
+    same_failed c.refusal.ensures.failed
+    ∙ fails_by c.self.inside.is_failed c.in-Err.fault (λ was. absurd (false≢true (sym fine ∙ was))) ∙ sym (ap is_store_failure tells)

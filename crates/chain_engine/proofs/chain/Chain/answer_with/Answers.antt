@@ -5,12 +5,15 @@ use Rattle.chain_requests.proofs.Taking.{takes_then}
 use Rattle.chain_engine.proofs.chain.Chain.answer_with.Goals as goal
 
 pub returns-in-Ok-clause-taken : goal.returns-in-Ok-clause-taken
-returns-in-Ok-clause-taken g c = takes_then c.in-Ok.ensures.taken c.answer.ensures.taken (λ old mid new x y. event_answered c.args.token.now c.args.request.now c.in-Ok.caller _ old mid new x y)
+returns-in-Ok-clause-taken g c =
+    takes_then c.in-Ok.ensures.taken c.answer.ensures.taken
+    (λ old mid new x y. event_answered c.args.token.now c.args.request.now c.in-Ok.caller _ old mid new x y)
 
 pub returns-in-Err-clause-taken : goal.returns-in-Err-clause-taken
 returns-in-Err-clause-taken g c = refused_takes c.in-Err.refusal
     (λ old. caller_in (event_of (c.args.token.now, c.args.request.now)) old.books) (λ _. seen_request c.args.request.now) c.in-Err.ensures.taken (λ old new x.
-    rw c.refused.ensures (store_refuses (caller_in (event_of (c.args.token.now, c.args.request.now)) old.books) (seen_request c.args.request.now) c.in-Err.refusal old new x))
+    rw c.refused.ensures
+    (store_refuses (caller_in (event_of (c.args.token.now, c.args.request.now)) old.books) (seen_request c.args.request.now) c.in-Err.refusal old new x))
 
 pub returns-in-Err-clause-told : goal.returns-in-Err-clause-told
 returns-in-Err-clause-told g c = inr (seen_refusal c.in-Err.refusal, c.refused.ensures)

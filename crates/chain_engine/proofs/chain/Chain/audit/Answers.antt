@@ -14,16 +14,24 @@ pub returns-in-Ok-clause-taken : goal.returns-in-Ok-clause-taken
 returns-in-Ok-clause-taken g c =
     let inside = c.self.inside in
     let old : Chained _ = record { limits = inside.limits; is_failed = inside.is_failed; films = inside.films; callers = inside.callers; conn = inside.conn } in
-    let new : Chained _ = record { limits = inside.limits; is_failed = inside.is_failed; films = inside.films; callers = inside.callers; conn = c.audit_unless_failed.new.conn } in
+    let new : Chained _ = record {
+      limits = inside.limits;
+      is_failed = inside.is_failed;
+      films = inside.films;
+      callers = inside.callers;
+      conn = c.audit_unless_failed.new.conn;
+    } in
     let is : old ≡ c.args.self.now = c.self.view_is in
     let live = is_live inside.is_failed c.in-Ok.audit Failed c.in-Ok.ensures.failed in
     subst (λ x. Takes g.S.Store x new (FindsAudit (Ok c.in-Ok.audit))) is
-    (audited g.S.Store old new refl refl live c.in-Ok.audit (λ films are. are) live (λ now. omega (arith, now, c.in-Ok.ensures.crash.clean)) c.in-Ok.ensures.told c.in-Ok.ensures.same)
+    (audited g.S.Store old new refl refl live c.in-Ok.audit (λ films are. are) live
+    (λ now. omega (arith, now, c.in-Ok.ensures.crash.clean)) c.in-Ok.ensures.told c.in-Ok.ensures.same)
 
 pub returns-in-Err-clause-taken : goal.returns-in-Err-clause-taken
 returns-in-Err-clause-taken g c =
     rw c.refusal.ensures.told
-    (look_refused g.S.Store _ _ _ c.audit_unless_failed.new.conn _ c.self.view_is c.refusal.ensures.failed c.in-Err.ensures.failed (λ now. omega (arith, now, c.in-Err.ensures.crash.clean)) c.in-Err.ensures.same)
+    (look_refused g.S.Store _ _ _ c.audit_unless_failed.new.conn _ c.self.view_is c.refusal.ensures.failed c.in-Err.ensures.failed
+    (λ now. omega (arith, now, c.in-Err.ensures.crash.clean)) c.in-Err.ensures.same)
 
 pub returns-in-Err-clause-failed : goal.returns-in-Err-clause-failed
 returns-in-Err-clause-failed g c failed =
@@ -34,7 +42,8 @@ pub returns-in-Ok-clause-left : goal.returns-in-Ok-clause-left
 returns-in-Ok-clause-left g c = leaves_no_more g.S.Store _ _ c.audit_unless_failed.new.conn _ c.self.view_is c.in-Ok.ensures.crash refl
 
 pub returns-in-Err-clause-left : goal.returns-in-Err-clause-left
-returns-in-Err-clause-left g c = refused_leaves g.S.Store _ _ _ c.audit_unless_failed.new.conn _ c.self.view_is c.refusal.ensures.failed c.in-Err.ensures.failed c.in-Err.ensures.crash
+returns-in-Err-clause-left g c =
+    refused_leaves g.S.Store _ _ _ c.audit_unless_failed.new.conn _ c.self.view_is c.refusal.ensures.failed c.in-Err.ensures.failed c.in-Err.ensures.crash
 
 pub returns-in-Ok-clause-fails : goal.returns-in-Ok-clause-fails
 returns-in-Ok-clause-fails g c = is_live c.self.inside.is_failed c.in-Ok.audit Failed c.in-Ok.ensures.failed

@@ -21,17 +21,32 @@ returns-in-Ok-clause-taken g c =
     let token = c.args.token.now in
     let caller = c.in-Ok.caller in
     let old : Chained _ = record { limits = inside.limits; is_failed = inside.is_failed; films = inside.films; callers = inside.callers; conn = inside.conn } in
-    let mid : Chained _ = record { limits = inside.limits; is_failed = inside.is_failed; films = inside.films; callers = inside.callers; conn = c.caller_unless_failed.new.conn } in
-    let new : Chained _ = record { limits = inside.limits; is_failed = inside.is_failed; films = inside.films; callers = c.put.new.self; conn = c.caller_unless_failed.new.conn } in
+    let mid : Chained _ = record {
+      limits = inside.limits;
+      is_failed = inside.is_failed;
+      films = inside.films;
+      callers = inside.callers;
+      conn = c.caller_unless_failed.new.conn;
+    } in
+    let new : Chained _ = record {
+      limits = inside.limits;
+      is_failed = inside.is_failed;
+      films = inside.films;
+      callers = c.put.new.self;
+      conn = c.caller_unless_failed.new.conn;
+    } in
     let is : old ≡ c.args.self.now = c.self.view_is in
     let live = is_live inside.is_failed caller Failed c.in-Ok.ensures.failed in
-    let taken = found g.S.Store old mid refl refl live token caller (λ films are. are) live (λ now. omega (arith, now, c.in-Ok.ensures.crash.clean)) c.in-Ok.ensures.found c.in-Ok.ensures.same in
+    let taken =
+    found g.S.Store old mid refl refl live token caller (λ films are. are) live
+    (λ now. omega (arith, now, c.in-Ok.ensures.crash.clean)) c.in-Ok.ensures.found c.in-Ok.ensures.same in
     subst (λ x. Takes g.S.Store x new (FindsCaller token (Ok caller))) is (found_and_kept g.S.Store old mid c.put.new.self token caller c.put.ensures taken)
 
 pub returns-in-Err-clause-taken : goal.returns-in-Err-clause-taken
 returns-in-Err-clause-taken g c =
     rw c.refusal.ensures.told
-    (look_refused g.S.Store _ _ _ c.caller_unless_failed.new.conn _ c.self.view_is c.refusal.ensures.failed c.in-Err.ensures.failed (λ now. omega (arith, now, c.in-Err.ensures.crash.clean)) c.in-Err.ensures.same)
+    (look_refused g.S.Store _ _ _ c.caller_unless_failed.new.conn _ c.self.view_is c.refusal.ensures.failed c.in-Err.ensures.failed
+    (λ now. omega (arith, now, c.in-Err.ensures.crash.clean)) c.in-Err.ensures.same)
 
 pub returns-in-Err-clause-failed : goal.returns-in-Err-clause-failed
 returns-in-Err-clause-failed g c failed =
@@ -42,7 +57,8 @@ pub returns-in-Ok-clause-left : goal.returns-in-Ok-clause-left
 returns-in-Ok-clause-left g c = leaves_no_more g.S.Store _ _ c.caller_unless_failed.new.conn _ c.self.view_is c.in-Ok.ensures.crash refl
 
 pub returns-in-Err-clause-left : goal.returns-in-Err-clause-left
-returns-in-Err-clause-left g c = refused_leaves g.S.Store _ _ _ c.caller_unless_failed.new.conn _ c.self.view_is c.refusal.ensures.failed c.in-Err.ensures.failed c.in-Err.ensures.crash
+returns-in-Err-clause-left g c =
+    refused_leaves g.S.Store _ _ _ c.caller_unless_failed.new.conn _ c.self.view_is c.refusal.ensures.failed c.in-Err.ensures.failed c.in-Err.ensures.crash
 
 pub returns-in-Some-clause-fails : goal.returns-in-Some-clause-fails
 returns-in-Some-clause-fails g c = c.in-Some.ensures.0

@@ -9,4 +9,5 @@ invariant-loop-token g l =
     (vec_len l.replies ≡ l.token-index) × (length l.requests ≤ vec_capacity l.replies)
     × Takes g.S.Store l.fn.self l.self (Runs (map event_of (take l.token-index l.requests)) (map seen_reply l.replies.items))
     × All IsTold (map seen_reply l.replies.items) × (l.self.is_failed ≡ (l.fn.self.is_failed || has_failed (map seen_reply l.replies.items)))
-    × (l.fn.self.is_failed ≡ true → (l.self ≡ l.fn.self) × (map seen_reply l.replies.items ≡ map (λ _. problem_answer StoreFailed) (take l.token-index l.requests)))
+    × (l.fn.self.is_failed ≡ true
+    → (l.self ≡ l.fn.self) × (map seen_reply l.replies.items ≡ map (λ _. problem_answer StoreFailed) (take l.token-index l.requests)))

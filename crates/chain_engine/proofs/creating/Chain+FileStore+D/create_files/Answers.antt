@@ -8,29 +8,37 @@ use Rattle.chain_engine.proofs.creating.Chain+FileStore+D.create_files.Goals as 
 pub returns-in_err-conn-clause-refused : goal.returns-in_err-conn-clause-refused
 returns-in_err-conn-clause-refused g c =
     refused_by c.from_residual.result _ _
-    (stopped_by g.D.Disk c.args.files _ _ _ c.in_err-conn.ensures.chain c.in_err-conn.ensures.version c.in_err-conn.ensures.damaged c.in_err-conn.ensures.already (λ honest. c.in_err-conn.ensures.left))
+    (stopped_by g.D.Disk c.args.files _ _ _ c.in_err-conn.ensures.chain c.in_err-conn.ensures.version
+    c.in_err-conn.ensures.damaged c.in_err-conn.ensures.already (λ honest. c.in_err-conn.ensures.left))
     c.from_residual.ensures.1
 
 pub returns-in-Ok-clause-made : goal.returns-in-Ok-clause-made
 returns-in-Ok-clause-made g c =
-    let first = λ (clean : HasCleanDisk (file_state c.create.new.conn)). let r : HasCleanDisk (file_state c.in_ok-conn.conn) = omega (arith, clean, c.create.ensures.crash.clean) in r in
+    let first = λ (clean : HasCleanDisk (file_state c.create.new.conn)).
+    let r : HasCleanDisk (file_state c.in_ok-conn.conn) = omega (arith, clean, c.create.ensures.crash.clean) in r in
     rw c.over.ensures (record {
       limits = refl;
       live = refl;
       honest = λ clean. (c.in_ok-conn.ensures.found (first clean)).honest;
-      made = λ clean. opened_at _ (first_books c.args.office.now) refl refl refl (empty_sound widest_rules c.args.office.now) c.first_values.ensures (c.in-Ok.ensures.made clean);
-      none = λ clean. holds_no_table c.in_ok-conn.conn c.args.files (c.in_ok-conn.ensures.opened (first clean)) g.met.D.Disk.seen_may_stay (c.in_ok-conn.ensures.found (first clean)) c.in-Ok.ensures.none;
+      made = λ clean.
+          opened_at _ (first_books c.args.office.now) refl refl refl
+          (empty_sound widest_rules c.args.office.now) c.first_values.ensures (c.in-Ok.ensures.made clean);
+      none = λ clean.
+          holds_no_table c.in_ok-conn.conn c.args.files (c.in_ok-conn.ensures.opened (first clean)) g.met.D.Disk.seen_may_stay
+          (c.in_ok-conn.ensures.found (first clean)) c.in-Ok.ensures.none;
     })
 
 pub returns-in-Err-clause-refused : goal.returns-in-Err-clause-refused
 returns-in-Err-clause-refused g c =
     let conn = c.in_ok-conn.conn in
     let stays = g.met.D.Disk.seen_may_stay in
-    let first = λ (clean : HasCleanDisk (file_state c.create.new.conn)). let r : HasCleanDisk (file_state conn) = omega (arith, clean, c.create.ensures.crash.clean) in r in
+    let first = λ (clean : HasCleanDisk (file_state c.create.new.conn)).
+    let r : HasCleanDisk (file_state conn) = omega (arith, clean, c.create.ensures.crash.clean) in r in
     record {
       already = λ honest is.
           let clean = first (c.give_back.ensures.clean honest) in
-          holds_a_table conn c.args.files (c.in_ok-conn.ensures.opened clean) stays (c.in_ok-conn.ensures.found clean) (c.in-Err.ensures.there is).0 c.give_back.result
+          holds_a_table conn c.args.files (c.in_ok-conn.ensures.opened clean) stays
+          (c.in_ok-conn.ensures.found clean) (c.in-Err.ensures.there is).0 c.give_back.result
           (subst (λ h. HoldsOne g.D.Disk c.give_back.result (file_state h).may_leave) (c.in-Err.ensures.there is).1 (c.give_back.ensures.left honest));
       stopped = λ honest other.
           let clean = c.give_back.ensures.clean honest in
@@ -38,7 +46,8 @@ returns-in-Err-clause-refused g c =
           let none = c.in-Err.ensures.stopped other in
           inr (
             holds_no_table conn c.args.files opened stays (c.in_ok-conn.ensures.found (first clean)) none,
-            none_or_new conn c.args.files opened stays none (first_books c.args.office.now) c.create.new.conn c.give_back.result c.create.ensures.crash clean (c.give_back.ensures.left honest),
+            none_or_new conn c.args.files opened stays none (first_books c.args.office.now) c.create.new.conn
+                c.give_back.result c.create.ensures.crash clean (c.give_back.ensures.left honest),
           );
       chain = c.in-Err.ensures.chain;
       version = c.in-Err.ensures.version;

@@ -12,5 +12,8 @@ returns c first given so_far =
     let new = c.next.new.page in
     let now = seen_listed c.in_ok-next.field-0 in
     let step : (line : ListLine) (done : List Listed) → c.args.row.now ≡ shown_line line → Takes first.kind old new was now line done =
-    λ line done shown. subst (λ (kind : ListKind). Takes kind old new was now line done) so_far.0 (c.in_ok-next.ensures line done shown) in
-    (so_far.0, taken first.kind old new (option_map seen_listed c.args.self.now.consignment) was now given c.args.row.now (ap (option_map seen_listed) c.take-it.ensures.value) step so_far.1)
+    λ line done shown. subst (λ (kind : ListKind). Takes kind old new was now line done) so_far.0 (c.in_ok-next.ensures line done shown) in (
+      so_far.0,
+      taken first.kind old new (option_map seen_listed c.args.self.now.consignment) was now given c.args.row.now
+          (ap (option_map seen_listed) c.take-it.ensures.value) step so_far.1,
+    )

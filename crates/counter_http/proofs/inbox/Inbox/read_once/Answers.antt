@@ -9,9 +9,18 @@ returns-clause-ok g c =
     let len : length (take c.in_ok-n.n c.read.new.buf) ≡ c.in_ok-n.n = omega (arith, c.in_ok-n.ensures.bound) in
     let fits : c.self.inside.filled ≤ length c.make_room.new.bytes.items = search rules in
     let there : c.self.inside.filled ≤ length c.deref_mut.result.now = search rules in
-    let whole : length (put_mid c.self.inside.filled (length c.deref_mut.result.now - c.self.inside.filled) c.deref_mut.result.now c.read.new.buf) ≡ c.make_room.new.bytes.len = search (rules, places, there) in (
+    let whole : length (put_mid c.self.inside.filled (length c.deref_mut.result.now - c.self.inside.filled) c.deref_mut.result.now c.read.new.buf)
+    ≡ c.make_room.new.bytes.len =
+    search (rules, places, there) in (
       take c.in_ok-n.n c.read.new.buf,
       c.in_ok-n.ensures.bytes.0,
-      rw (with_items_is c.make_room.new.bytes (put_mid c.self.inside.filled (length c.deref_mut.result.now - c.self.inside.filled) c.deref_mut.result.now c.read.new.buf) whole, c.deref_mut.ensures.value, ← c.self.view_is, ← c.make_room.ensures.same) (filled_more c.make_room.new.bytes.items c.read.new.buf _ c.self.inside.filled c.in_ok-n.n fits n_fits),
+      rw (
+        with_items_is c.make_room.new.bytes
+            (put_mid c.self.inside.filled (length c.deref_mut.result.now - c.self.inside.filled) c.deref_mut.result.now c.read.new.buf) whole,
+        c.deref_mut.ensures.value,
+        ← c.self.view_is,
+        ← c.make_room.ensures.same,
+      )
+          (filled_more c.make_room.new.bytes.items c.read.new.buf _ c.self.inside.filled c.in_ok-n.n fits n_fits),
       len,
     )

@@ -16,7 +16,8 @@ turn-preserved-else-not-more g c =
     let first = ap (λ (l : Line). l.replies) c.self.view_is in
     let before = ap (λ (l : Line). l.replies) c.self-in-turn.view_is in
     record {
-      turns = turn_on (turn_then (turn_on c.turn.invariant.turns (c.send.ensures.turn _)) (c.answer_next.ensures.turn _ _) (λ es more x y. run_follows es more x y))
+      turns =
+          turn_on (turn_then (turn_on c.turn.invariant.turns (c.send.ensures.turn _)) (c.answer_next.ensures.turn _ _) (λ es more x y. run_follows es more x y))
           (c.read_more.ensures.turn _);
       few = omega (arith, c.send.ensures.same, c.answer_next.ensures.one, c.read_more.ensures.same.1);
     }

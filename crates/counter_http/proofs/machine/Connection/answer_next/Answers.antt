@@ -11,13 +11,15 @@ pub returns-in-Whole-clause-turn : goal.returns-in-Whole-clause-turn
 returns-in-Whole-clause-turn g c = λ input output.
     let live = rw (← c.self.view_is) at c.requires.goes in
     let empty = rw (← c.self.view_is) at c.requires.empty in
-    let has : HasMessage c.self.inside.inbox (message_of c.in-Whole.request) (drop c.in-Whole.len c.self.inside.inbox) = rw c.bytes.ensures.value at c.in-Whole.ensures.1 in
+    let has : HasMessage c.self.inside.inbox (message_of c.in-Whole.request) (drop c.in-Whole.len c.self.inside.inbox) =
+    rw c.bytes.ensures.value at c.in-Whole.ensures.1 in
     let e : Exchange = record { message = message_of c.in-Whole.request; answer = seen_reply c.answer-reply.result } in
     let near = drop_near c.in-Whole.len c.self.inside.inbox c.self.invariant.1 in
     let failed : is_store_failure e.answer ≡ c.is_failed.result = sym c.answer-reply.ensures.fails ∙ sym c.is_failed.ensures in
     let answered = c.answer-reply.ensures in
     rw (← c.self.view_is) (turn_answer _ _ _ input output e empty live (rw c.consume.ensures has) (rw c.consume.ensures near) c.put.ensures refl refl
-    (c.ending_of-self-inside.ensures e input _ (c.after_reply-after.ensures e.answer failed)) (run_one e answered.taken answered.told answered.fails answered.failed))
+    (c.ending_of-self-inside.ensures e input _ (c.after_reply-after.ensures e.answer failed))
+    (run_one e answered.taken answered.told answered.fails answered.failed))
 
 pub returns-in-More-clause-turn : goal.returns-in-More-clause-turn
 returns-in-More-clause-turn g c = λ input output.
@@ -27,8 +29,10 @@ pub returns-in-Refused-clause-turn : goal.returns-in-Refused-clause-turn
 returns-in-Refused-clause-turn g c = λ input output.
     let live = rw (← c.self.view_is) at c.requires.goes in
     let empty = rw (← c.self.view_is) at c.requires.empty in
-    let refused : IsRefused c.in-Refused.fault c.self.inside.inbox = rw c.bytes.ensures.value at (refused_is c.bytes.result.now c.in-Refused.fault c.in-Refused.ensures) in
-    rw (← c.self.view_is, c.put-in-Refused.ensures, c.fault_reply.ensures) (turn_refusal _ _ input output c.in-Refused.fault c.self.invariant empty live refused run_starts)
+    let refused : IsRefused c.in-Refused.fault c.self.inside.inbox =
+    rw c.bytes.ensures.value at (refused_is c.bytes.result.now c.in-Refused.fault c.in-Refused.ensures) in
+    rw (← c.self.view_is, c.put-in-Refused.ensures, c.fault_reply.ensures)
+    (turn_refusal _ _ input output c.in-Refused.fault c.self.invariant empty live refused run_starts)
 
 pub ending_of-self-inside-requires : goal.ending_of-self-inside-requires
 ending_of-self-inside-requires g c =

@@ -25,4 +25,5 @@ returns-after-kind-clause-turn g c = λ output.
     let live = rw (← c.self.view_is) at c.requires.goes in
     let err = c.in-Err.ensures.err in
     let near : length c.fill.new.self ≤ ROOM = rw err.0 c.self.invariant.1 in
-    rw (← c.self.view_is) (turn_grown _ _ (λ es. es ≡ []) _ _ output [] c.self.invariant live (Consumes-kept _ _ _ [] (Consumes-nil _) err.1) (err.0 ∙ sym (append-nil _)) near refl)
+    rw (← c.self.view_is)
+    (turn_grown _ _ (λ es. es ≡ []) _ _ output [] c.self.invariant live (Consumes-kept _ _ _ [] (Consumes-nil _) err.1) (err.0 ∙ sym (append-nil _)) near refl)

@@ -11,10 +11,13 @@ day_is c =
     let parts = rw c.unwrap-date.ensures at c.new.ensures.value in
     let y : c.unwrap-date.result.year ≡ pos c.self.inside.year = parts.0 ∙ to_z_pos w16 c.self.inside.year (omega arith) in
     let mp : pos c.unwrap-date.result.month ≡ pos c.self.inside.month = parts.1 ∙ to_z_pos w8 c.self.inside.month (omega arith) in
-    let dp : pos c.unwrap-date.result.day ≡ pos c.self.inside.day = parts.2 ∙ to_z_pos w8 c.self.inside.day (omega (arith, days_in_month_bounds (pos c.self.inside.year) c.self.inside.month)) in
+    let dp : pos c.unwrap-date.result.day ≡ pos c.self.inside.day =
+    parts.2 ∙ to_z_pos w8 c.self.inside.day (omega (arith, days_in_month_bounds (pos c.self.inside.year) c.self.inside.month)) in
     let m : c.unwrap-date.result.month ≡ c.self.inside.month = cc in
     let d : c.unwrap-date.result.day ≡ c.self.inside.day = cc in
-    let same : days_from_civil c.unwrap-date.result.year c.unwrap-date.result.month c.unwrap-date.result.day ≡ days_from_civil (pos c.self.inside.year) c.self.inside.month c.self.inside.day = λ i. days_from_civil (y i) (m i) (d i) in
+    let same : days_from_civil c.unwrap-date.result.year c.unwrap-date.result.month c.unwrap-date.result.day
+    ≡ days_from_civil (pos c.self.inside.year) c.self.inside.month c.self.inside.day =
+    λ i. days_from_civil (y i) (m i) (d i) in
     let valid : IsMoment c.args.self = subst IsMoment c.self.view_is c.self.invariant in
     c.to_unix_epoch_day.ensures.value ∙ rw c.to_plain.ensures (same ∙ ap (λ (a : Moment). days_from_civil (pos a.year) a.month a.day) c.self.view_is)
     ∙ days_from_civil-day_of c.args.self valid

@@ -7,4 +7,5 @@ pub returns : goal.returns
 returns g c =
     let row = c.args.row.now in
     let it = is_written _ _ _ c.in_ok-value.ensures (g.met.R.ListedRow.as_written row) (g.met.R.ListedRow.no_float row) in
-    IfOk-weaker c.add.result _ _ (λ done added texts has. subst (λ text. HasTexts c.add.new.self (texts ++ text ∷ [])) it.text (added texts it.no_float has)) c.add.ensures.added
+    IfOk-weaker c.add.result _ _
+    (λ done added texts has. subst (λ text. HasTexts c.add.new.self (texts ++ text ∷ [])) it.text (added texts it.no_float has)) c.add.ensures.added

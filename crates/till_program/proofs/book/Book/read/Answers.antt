@@ -10,7 +10,8 @@ returns-clause-place g c clean =
 
 pub returns-clause-marked : goal.returns-clause-marked
 returns-clause-marked g c clean =
-    tells_mark c.args.mark.now _ c.in-Ok.end (state g.S.Store c.args.conn.now) (state g.S.Store c.read_end.new.conn) c.in_ok-at.ensures.marked (c.in-Ok.ensures.found clean)
+    tells_mark c.args.mark.now _ c.in-Ok.end (state g.S.Store c.args.conn.now)
+    (state g.S.Store c.read_end.new.conn) c.in_ok-at.ensures.marked (c.in-Ok.ensures.found clean)
 
 pub returns-clause-own : goal.returns-clause-own
 returns-clause-own g c clean = knows_own c.args.mark.now _ (state g.S.Store c.args.conn.now) (returns-clause-marked g c clean)

@@ -3,4 +3,5 @@ use Rattle.view_texts.proofs.actors.ActorPageTakesRows.take.Goals as goal
 
 pub returns : goal.returns
 returns c first given so_far =
-    actor_taken c.args.self.now.page c.next_actor.new.page c.args.self.now.actor c.take-actor.result c.in_ok-next_actor.field-0 given c.args.row.now c.take-actor.ensures.value c.in_ok-next_actor.ensures so_far
+    actor_taken c.args.self.now.page c.next_actor.new.page c.args.self.now.actor c.take-actor.result
+    c.in_ok-next_actor.field-0 given c.args.row.now c.take-actor.ensures.value c.in_ok-next_actor.ensures so_far

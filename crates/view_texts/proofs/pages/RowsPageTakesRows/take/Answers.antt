@@ -7,8 +7,10 @@ pub returns-in_ok-add_row : goal.returns-in_ok-add_row
 returns-in_ok-add_row g c first given so_far =
     let written = g.R.Listed.ListedRow.written in
     let found = c.in_ok-it.field-0 in
-    let read = subst (λ reader. g.R.ReadsRows.reads reader c.args.row.now (map written (option_to_list found))) so_far.0 c.in_ok-it.ensures in
-    (so_far.0, some_read (g.R.ReadsRows.reads first.reader) written given c.args.row.now found c.in-Some.it _ _ c.in-Some.is read c.in_ok-add_row.ensures so_far.1)
+    let read = subst (λ reader. g.R.ReadsRows.reads reader c.args.row.now (map written (option_to_list found))) so_far.0 c.in_ok-it.ensures in (
+      so_far.0,
+      some_read (g.R.ReadsRows.reads first.reader) written given c.args.row.now found c.in-Some.it _ _ c.in-Some.is read c.in_ok-add_row.ensures so_far.1,
+    )
 
 pub returns-in_default : goal.returns-in_default
 returns-in_default g c first given so_far =

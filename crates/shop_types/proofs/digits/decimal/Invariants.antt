@@ -1,6 +1,6 @@
 use Rattle.shop_model.proofs.Common.{◌≡◌, ◌<◌, ◌^◌, take, true, list_all, is_ascii_digit}
 use Rattle.std.specs.Str.Parse.{digits_value}
-use Rattle.shop_types.proofs.row_number.ten_digits.Given as goal
+use Rattle.shop_types.proofs.digits.decimal.Given as goal
 
 abbrev pub invariant-loop-b : goal.invariant-loop-b
 invariant-loop-b l = record {
