@@ -1,11 +1,6 @@
 -- The values of the fields of a name, one field more.
-use Rattle.std.proofs.Common.{◌≡◌, ℕ, ◌+◌, ◌<◌, ◌*◌, ◌^◌, ◌≤◌, List, [], ◌∷◌, ◌++◌, take, map, length, get_or, refl, ap, arith, true, false, cond, Bool, sym}
-use Rattle.std.proofs.Common.{lit<, add-one}
+use Rattle.std.proofs.Common.{◌≡◌, ℕ, ◌+◌, ◌<◌, List, [], ◌∷◌, ◌++◌, take, map, length, get_or, refl, ap, true, false, cond, Bool, sym}
 use Rattle.std.proofs.lemmas.List.{take_more, map-append}
-use Rattle.std.proofs.Math.Nat.{pow-le-pow_right}
-use Rattle.std.specs.Char.{digit_value}
-use Rattle.std.proofs.lemmas.Str.{digit_value_digit}
-use Rattle.std.proofs.lemmas.Str.Parse.{digit_from_value}
 use Rattle.http_messages.specs.Message.{Pair, values_of, same_name}
 
 pub values_of-snoc : (name : List ℕ) (ps : List Pair) (p : Pair)
@@ -26,15 +21,3 @@ values_of-more f name xs i d h =
 pub values_of-one : (name : List ℕ) (p : Pair) (b : Bool) → b ≡ same_name p.0 name
     → values_of name (p ∷ []) ≡ cond b (p.1 ∷ []) []
 values_of-one name p b e = ap (λ t. cond t (p.1 ∷ []) []) (sym e)
-
--- a digit more keeps the number in 64 bits
-pub nineteen : (n i d : ℕ) → n < 10 ^ i → i < 19 → d < 10 → n * 10 + d < 10 ^ (i + 1)
-nineteen n i d p q r = rw add-one (omega arith)
-
-pub fits_19 : (n i : ℕ) → n < 10 ^ i → i ≤ 19 → n < 18446744073709551616
-fits_19 n i p q =
-    let up : 10 ^ i ≤ 10 ^ 19 = pow-le-pow_right (lit< tt) q in
-    omega arith
-
-pub digit_is : (c : ℕ) → digit_value c < 10 → digit_value c + 48 ≡ c
-digit_is c h = digit_value_digit c (digit_from_value c h)

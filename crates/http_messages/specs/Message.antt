@@ -1,13 +1,12 @@
 -- What a request says: the parts of its head that the service looks at, and its body.
 -- The head is one of RFC 9112 in httparse's grammar. All other fields are ignored, and a missing `host`
 -- is not refused (our own profile).
-use Rattle.std.specs.Prelude.{ℕ, ◌&&◌, ◌||◌, ◌==◌, Bool, true, false, List, [], ◌∷◌, length, map, if◌then◌else◌, nat_le, Option, Some, None, codes}
-use Rattle.std.specs.List.{list_any, list_all}
-use Rattle.std.specs.Char.{is_ascii_digit}
-use Rattle.std.specs.Str.Parse.{digits_value}
+use Rattle.std.specs.Prelude.{ℕ, ◌&&◌, ◌||◌, ◌==◌, Bool, true, false, List, [], ◌∷◌, length, map, if◌then◌else◌, Option, Some, None, codes}
+use Rattle.std.specs.List.{list_any}
 use Rattle.std.specs.Str.{bytes_eq, str_eq_ignore_ascii_case}
 use Rattle.httparse.specs.Grammar.{RequestHead}
 use Rattle.httparse.specs.Spans.{name_and_value}
+use Rattle.shop_types.specs.Digits.{decimal_value}
 use Rattle.http_messages.specs.Items.{says_close}
 
 -- a request: POST or else GET, the target's bytes, the caller's token where there is exactly one,
@@ -36,15 +35,11 @@ values_of name (p ∷ ps) = if same_name p.0 name then p.1 ∷ values_of name ps
 abbrev pub pairs_of : RequestHead → List Pair
 pairs_of h = map name_and_value h.fields
 
--- 1 to 19 digits, so that the number fits 64 bits (our own profile)
-abbrev pub is_size : List ℕ → Bool
-is_size v = nat_le 1 (length v) && nat_le (length v) 19 && list_all is_ascii_digit v
-
 -- the body's size by the values of `content-length`: 0 where there is none (RFC 9112, section 6.3),
 -- and no size where there is more than one, equal ones too (our own profile), or one that is no size
 abbrev pub size_in : List (List ℕ) → Option ℕ
 size_in [] = Some 0
-size_in (v ∷ []) = if is_size v then Some (digits_value 10 v) else None
+size_in (v ∷ []) = decimal_value v
 size_in (v ∷ w ∷ vs) = None
 
 -- the value, where there is exactly one

@@ -1,7 +1,6 @@
 //! What the fields of a request's head say.
 
 ghost use Rattle.std.specs.Prelude.{◌≡◌, ℕ, List, ◌++◌, ◌≤◌, ◌<◌, ◌^◌, length, map, take, All, codes, ◌∷◌, [], Some, None, true, false, IsTrue, option_map, ◌↔◌};
-ghost use Rattle.std.specs.Str.Parse.{digits_value};
 ghost use Rattle.std.specs.List.{list_any};
 ghost use Rattle.httparse.specs.Spans.{header_bytes, IsHeaderWithin};
 ghost use Rattle.http_messages.specs.Items.{says_close};
@@ -10,6 +9,7 @@ ghost use Rattle.http_messages.specs.Shown.{IsFound};
 
 use crate::lists::lists_close;
 use httparse::spans::HeaderSpan;
+use shop_types::decimal;
 
 /// The values of the fields of one name.
 #[derive(Clone, Copy)]
@@ -51,23 +51,6 @@ fn find<'b>(bytes: &'b [u8], headers: &[HeaderSpan], name: &[u8]) -> Found<'b>
     found
 }
 
-/// Returns the number that 1 to 19 digits give, which fits 64 bits.
-fn size_of_value(value: &[u8]) -> Option<u64>
-    ensures { result ≡ size_in (value.now ∷ []) }
-{
-    if value.is_empty() || value.len() > 19 {
-        return None;
-    }
-    let mut size = 0u64;
-    for digit in value {
-        if !digit.is_ascii_digit() {
-            return None;
-        }
-        size = size * 10 + u64::from(*digit - b'0');
-    }
-    Some(size)
-}
-
 pub(crate) fn is_post_method(method: &[u8]) -> bool
     ensures { result ≡ is_post method.now }
 {
@@ -93,7 +76,7 @@ pub(crate) fn size_of_body(bytes: &[u8], method: &[u8], headers: &[HeaderSpan]) 
     };
     match find(bytes, headers, b"content-length") {
         Found::Absent => Some(0),
-        Found::One(value) => size_of_value(value),
+        Found::One(value) => decimal(value),
         Found::Many => None,
     }
 }

@@ -7,6 +7,7 @@ pub mod NumberLists
 pub mod Verdicts
 pub mod Decisions
 pub mod Texts
+pub mod Digits
 pub mod Numbers
 pub mod LimitValues
 pub mod Moments

@@ -1,10 +1,9 @@
 -- Amounts in dollars and lists of numbers, as they are typed.
-use Rattle.std.specs.Prelude.{ℕ, ◌+◌, ◌*◌, ◌-◌, ◌==◌, ◌&&◌, Bool, List, [], ◌∷◌, length, take, drop, nat_le, nat_lt, Option, Some, None, option_and_then}
+use Rattle.std.specs.Prelude.{ℕ, ◌+◌, ◌*◌, ◌-◌, ◌==◌, ◌&&◌, Bool, List, [], ◌∷◌, length, take, drop, nat_le, Option, Some, None, option_and_then}
 use Rattle.std.specs.Prelude.{option_map, if◌then◌else◌, slice_index}
-use Rattle.std.specs.List.{list_all, slice_split}
-use Rattle.std.specs.Char.{is_ascii_digit}
-use Rattle.std.specs.Str.Parse.{digits_value}
+use Rattle.std.specs.List.{slice_split}
 use Rattle.clap.specs.Words.{Text}
+use Rattle.shop_types.specs.Digits.{decimal_value}
 use Rattle.shop_types.specs.Numbers.{row_number_of}
 
 -- the function's result for the value, if there is a value
@@ -15,8 +14,7 @@ with_value found f = option_and_then f found
 
 -- the number that 1 to 5 digits write
 abbrev pub five_digits_value : Text → Option ℕ
-five_digits_value bytes = if nat_lt 0 (length bytes) && (nat_le (length bytes) 5 && list_all is_ascii_digit bytes)
-    then Some (digits_value 10 bytes) else None
+five_digits_value bytes = if nat_le (length bytes) 5 then decimal_value bytes else None
 
 -- the text without its dollar sign (36), if it begins with one
 abbrev pub without_dollar : Text → Text

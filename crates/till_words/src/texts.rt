@@ -4,7 +4,7 @@ ghost use Rattle.std.specs.Prelude.{◌≡◌, ◌<◌, ◌==◌, true, IfOk, If
 ghost use Rattle.std.specs.List.{slice_split};
 ghost use Rattle.till_words.specs.Texts as spec;
 
-use shop_types::RowNumber;
+use shop_types::{RowNumber, decimal};
 use std::alloc::{AllocError, Global};
 
 // ---- amounts
@@ -14,17 +14,11 @@ fn five_digits(bytes: &[u8]) -> Option<u32>
     ensures value { result ≡ spec.five_digits_value bytes.now }
     ensures bound { IfSome result (λ n. n < 100_000) }
 {
-    if bytes.is_empty() || bytes.len() > 5 {
+    if bytes.len() > 5 {
         return None;
     }
-    let mut number = 0u32;
-    for b in bytes {
-        if !b.is_ascii_digit() {
-            return None;
-        }
-        number = number * 10 + u32::from(*b - b'0');
-    }
-    Some(number)
+    let number = decimal(bytes)?;
+    Some(number as u32)
 }
 
 /// Returns the text without its dollar sign, if it begins with one.
