@@ -1,6 +1,6 @@
 use Rattle.std.proofs.Common.{arith}
-use Rattle.chain_files.proofs.Opening.{clean_store, holds_one}
-use Rattle.chain_files.proofs.files.give_back.Goals as goal
+use Rattle.sql_files.proofs.Keeping.{clean_store, holds_one}
+use Rattle.sql_files.proofs.files.close.Goals as goal
 
 pub returns-clause-left : goal.returns-clause-left
 returns-clause-left g c honest =
