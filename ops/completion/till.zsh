@@ -28,7 +28,7 @@ _till() {
         [send]=""
         [last]="--count"
         [help]=""
-        [init]="--address --token --staff --office"
+        [init]="--address --token --staff --zone --office"
         [office]=""
     )
     local -a office=(country-add language-add category-add city-add actor-add film-add film-price film-withdraw cast-add branch-add staff-add staff-leave manager-set balance-rule sales custody transit audit)
