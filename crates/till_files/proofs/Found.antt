@@ -1,12 +1,11 @@
 -- The database that opening finds in files.
 use Rattle.std.proofs.Common.{◌⊎◌}
-use Rattle.shop_schema.proofs.Common.{◌≡◌, ◌≢◌, ◌∙◌, inl, inr, refl, sym, ap, subst, List, [], ◌∷◌, AllZip, ∥∥₁_elim, ∥∥₁_map, Trees, Trees-set, AreListed}
-use Rattle.shop_schema.proofs.Common.{IsTableRow, IsIndexRow, IsViewRow, Database, Schema, State, HasCleanDisk, Survives, Held, HoldsDatabase, Finds, IsOpened}
-use Rattle.shop_schema.proofs.Common.{IsEmpty, file_state, image_of, no_schema, opened_keyed, one_schema, HoldsOne, IsHeldIn, IsFoundIn, HoldsNoTable}
+use Rattle.shop_schema.proofs.Common.{◌≡◌, ◌≢◌, ◌∙◌, inl, inr, refl, sym, ap, subst, [], ◌∷◌, ∥∥₁_elim, ∥∥₁_map, Trees-set}
+use Rattle.shop_schema.proofs.Common.{Database, Schema, State, HasCleanDisk, Survives, Held, Finds, IsOpened}
+use Rattle.shop_schema.proofs.Common.{file_state, image_of, no_schema, opened_keyed, one_schema, HoldsOne}
 use Rattle.shop_schema.proofs.Common.{OpenFailed}
 use Rattle.sqlite_disk.specs.declared.Disk.{Ghosts}
 use Rattle.sqlite_disk.specs.declared.Files.{Files}
-use Rattle.sqlite_value.specs.Order.{Row}
 use Rattle.sqlite_wal.proofs.LogLemmas.{SeenMayStay}
 use Rattle.sqlite_store.specs.declared.store.FileStore.{FileStore}
 use Rattle.sqlite_catalog.specs.Listing.{IsSound as IsDatabaseOf}
@@ -16,7 +15,7 @@ use Rattle.till_files.specs.Migrations.{first_schema, HoldsFirst, LeavesFilled}
 use Rattle.till_book.specs.Steps.{Rests}
 use Rattle.till_files.specs.declared.faults.BookFault.{BookFault}
 use Rattle.till_files.specs.declared.faults.BookFault.TheVariants as fault
-use Rattle.till_files.specs.Files.{HasBook, HasNoBook, HoldsBook, KeepsBook, KeepsEither, StandsForEither, LeavesMade, IsNoneOrNew, HasFirstBook}
+use Rattle.till_files.specs.Files.{HasBook, HasNoBook, HoldsBook, KeepsBook, KeepsEither, StandsForEither, HasFirstBook}
 use Rattle.till_files.specs.Files.{HasNoFirstBook, HoldsFirstBook, KeepsFirstBook, IsMigratedFrom}
 use Rattle.till_files.specs.Openings.{IsNotOpened, IsNotMade, IsNotMigrated}
 use Rattle.till_files.proofs.Deciding.{stands_in_any, written_in_any}
