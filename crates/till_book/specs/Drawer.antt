@@ -79,7 +79,8 @@ late_of settled = map (λ (it : ℕ × Answer). it.0) (filter (λ (it : ℕ × A
 abbrev pub is_among : ℕ → List ℕ → Bool
 is_among n numbers = list_any (λ (m : ℕ). m == n) numbers
 
--- The entry of that number was accepted since the closing: by its first reply, if that came after the first n replies, or by a settlement that isn't a known one.
+-- The entry of that number was accepted since the closing: by its first reply, if that came after the first n replies, or by a settlement
+-- that isn't a known one.
 abbrev pub is_new : ℕ → List ℕ → List ℕ → ℕ → Option Answer → Bool
 is_new n known late number reply = nat_lt n number && is_accepted reply || is_among number late && not (is_among number known)
 
