@@ -13,3 +13,6 @@ pub mod RentTexts
 pub mod EndTexts
 pub mod Puttings
 pub mod Resting
+pub mod Differences
+pub mod Drawers
+pub mod Made

@@ -10,3 +10,5 @@ pub mod Held
 pub mod Register
 pub mod Ends
 pub mod Steps
+pub mod Drawer
+pub mod Tallies

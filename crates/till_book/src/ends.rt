@@ -96,7 +96,7 @@ fn count_by(last: Option<EntryNumber>) -> u32
 }
 
 /// Counts the replies.
-fn reply_count<S: Alter>(tx: &mut Transaction<'_, S>) -> Result<u32, StoreFault>
+pub fn reply_count<S: Alter>(tx: &mut Transaction<'_, S>) -> Result<u32, StoreFault>
     ensures { DoesInside S.Store tx.old.conn tx.new.conn result
         (λ n. Finds (λ journal. n ≡ length journal.replies)) }
 {

@@ -115,7 +115,7 @@ fn all_replies<S: Alter>(alloc: Global, tx: &mut Transaction<'_, S>) -> Result<R
 const SELECT_ALL_SETTLED: &str = "SELECT number, status, body FROM settled ORDER BY number";
 
 /// Reads the replies that settled entries, in the order of the entries.
-fn all_settled<S: Alter>(
+pub fn all_settled<S: Alter>(
     alloc: Global,
     tx: &mut Transaction<'_, S>,
 ) -> Result<Settlements, StoreFault>

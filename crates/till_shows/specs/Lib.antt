@@ -11,3 +11,4 @@ pub mod Tables
 pub mod Lists
 pub mod Looks
 pub mod Sheets
+pub mod Drawers

@@ -4,6 +4,7 @@
 
 mod bodies;
 mod cents;
+mod drawers;
 mod entries;
 mod lists;
 mod looks;
@@ -18,6 +19,7 @@ mod told;
 
 pub use bodies::NotShown;
 pub use cents::money;
+pub use drawers::{all_line, came_line, closing_line, not_closed_line, taken_line};
 pub use entries::asks_for;
 pub use lists::{
     arrivals, customer_named, customers_with, film_named, films_with, overdue,

@@ -74,7 +74,7 @@ fn plural(count: u64) -> &'static str
 }
 
 /// Returns the count and the word, in the plural unless the count is 1.
-fn counted(alloc: Global, count: u64, word: &str) -> Result<String, AllocError>
+pub(crate) fn counted(alloc: Global, count: u64, word: &str) -> Result<String, AllocError>
     ensures { IfOk result (λ s. string_bytes s ≡ counted_text count word.now) }
 {
     let plural = plural(count);
