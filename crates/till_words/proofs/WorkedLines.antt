@@ -1,5 +1,5 @@
 -- Lines that are known: the definition computes on words that are written out.
-use Rattle.std.proofs.Common.{◌≡◌, refl, [], ◌∷◌, Some, None, true, false, codes}
+use Rattle.std.proofs.Common.{◌≡◌, refl, ℕ, List, [], ◌∷◌, Some, None, true, false, codes}
 use Rattle.clap.proofs.OnLiterals.{clap_on_literals}
 use Rattle.shop_types.specs.declared.command.Act.TheVariants as act
 use Rattle.till_words.specs.declared.words.TillAct.{TillAct}
@@ -73,6 +73,33 @@ customer_by_number = refl
 pub customer_by_name : till_line_of (codes "customer" ∷ codes "MARY" ∷ []) ≡ Some (line (till.Look (look.Customers (codes "MARY"))))
 unfolding clap_on_literals read_of till_line_of
 customer_by_name = refl
+
+-- ---- the book's zone
+
+pub zone_by_place : till_line_of (codes "zone" ∷ codes "UTC-07:00" ∷ []) ≡ Some (line (till.Zone (codes "UTC-07:00")))
+unfolding clap_on_literals read_of till_line_of
+zone_by_place = refl
+
+pub zone_west_by_name : till_line_of (codes "zone" ∷ codes "--name=-07:00" ∷ []) ≡ Some (line (till.Zone (codes "-07:00")))
+unfolding clap_on_literals read_of till_line_of
+zone_west_by_name = refl
+
+abbrev token : List ℕ
+token = codes "11111111111111111111111111111111"
+
+pub init_in_a_zone : till_line_of (codes "init" ∷ codes "a:1" ∷ token ∷ codes "--staff" ∷ codes "1" ∷ codes "--zone" ∷ codes "UTC" ∷ [])
+    ≡ Some (line (till.Init (record { address = codes "a:1"; token = token; staff = Some 1; zone = Some (codes "UTC") })))
+unfolding clap_on_literals read_of till_line_of
+init_in_a_zone = refl
+
+pub init_without_a_zone : till_line_of (codes "init" ∷ codes "a:1" ∷ token ∷ codes "--staff" ∷ codes "1" ∷ []) ≡ None
+unfolding clap_on_literals read_of till_line_of
+init_without_a_zone = refl
+
+pub init_of_an_office : till_line_of (codes "init" ∷ codes "a:1" ∷ token ∷ codes "--office" ∷ [])
+    ≡ Some (line (till.Init (record { address = codes "a:1"; token = token; staff = None; zone = None })))
+unfolding clap_on_literals read_of till_line_of
+init_of_an_office = refl
 
 -- ---- options before the word, and words after `office`
 

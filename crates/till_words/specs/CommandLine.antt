@@ -82,7 +82,11 @@ last_shape = word_shape (codes "last") (default_row_rule (codes "count") (codes 
 
 abbrev pub init_shape : Shape
 init_shape = word_shape (codes "init")
-    (text_rule (codes "address") ∷ text_rule (codes "token") ∷ optional_row_rule (codes "staff") ∷ flag_rule (codes "office") ∷ [])
+    (text_rule (codes "address") ∷ text_rule (codes "token") ∷ optional_row_rule (codes "staff") ∷ flag_rule (codes "office")
+    ∷ optional_rule (codes "zone") ∷ [])
+
+abbrev pub zone_shape : Shape
+zone_shape = word_shape (codes "zone") (text_rule (codes "name") ∷ [])
 
 -- ---- the whole line
 
@@ -104,7 +108,7 @@ listed_shapes = word_shape (codes "overdue") [] ∷ word_shape (codes "arrivals"
 
 abbrev pub till_shapes : List Shape
 till_shapes = word_shape (codes "waiting") [] ∷ word_shape (codes "send") [] ∷ last_shape ∷ word_shape (codes "help") []
-    ∷ init_shape ∷ word_shape (codes "office") [] ∷ []
+    ∷ init_shape ∷ zone_shape ∷ word_shape (codes "office") [] ∷ []
 
 -- the command line before its words
 abbrev pub top_app : App

@@ -37,7 +37,8 @@ abbrev pub till_places : Text → List Text
 till_places word = if bytes_eq word (codes "rewards") then codes "--purchases" ∷ codes "--amount" ∷ []
     else (if bytes_eq word (codes "last") then codes "--count" ∷ []
     else (if bytes_eq word (codes "init") then codes "--address" ∷ codes "--token" ∷ []
-    else []))
+    else (if bytes_eq word (codes "zone") then codes "--name" ∷ []
+    else [])))
 
 abbrev pub found_places : Text → List Text
 found_places word = if bytes_eq word (codes "customer") then find_place

@@ -26,7 +26,7 @@ static OPTIONS: [(&'static str, Kind); 3] = [
 ];
 
 /// The words, in the order in which help lists them.
-static SUBCOMMANDS: [Subcommand; 27] = [
+static SUBCOMMANDS: [Subcommand; 28] = [
     // ---- at the counter
     Subcommand {
         name: "rent",
@@ -173,13 +173,19 @@ static SUBCOMMANDS: [Subcommand; 27] = [
     },
     Subcommand {
         name: "init",
-        about: "Make a new book: init ADDRESS TOKEN, with --staff N or --office",
+        about: "Make a new book: init ADDRESS TOKEN, with --staff N --zone NAME or --office",
         options: &[
             ("address", Kind::Text),
             ("token", Kind::Text),
             ("staff", Kind::OptionalRow),
             ("office", Kind::Flag),
+            ("zone", Kind::OptionalText),
         ],
+    },
+    Subcommand {
+        name: "zone",
+        about: "Set the book's zone: zone America/Edmonton, zone UTC-07:00 or zone UTC",
+        options: &[("name", Kind::Text)],
     },
     Subcommand {
         name: "office",

@@ -14,4 +14,4 @@ mod words;
 
 pub use clap_words::{asks_for_help, help_text, read_till_words};
 pub use lines::split_line;
-pub use words::{Beginning, FileName, TillAct, TillLine, TillLook, WordList};
+pub use words::{Beginning, FileName, TillAct, TillLine, TillLook, WordList, ZoneText};

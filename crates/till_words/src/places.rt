@@ -10,6 +10,7 @@ fn till_places(word: &str) -> &'static [&'static str]
         "rewards" => &["--purchases", "--amount"],
         "last" => &["--count"],
         "init" => &["--address", "--token"],
+        "zone" => &["--name"],
         _ => &[],
     }
 }
