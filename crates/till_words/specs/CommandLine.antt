@@ -1,4 +1,4 @@
--- The command line of a till, as the library `clap` sees it: `[--book FILE] [--json] [--staff N] WORD [OPTION]..`, without the program's name.
+-- The command line of a till, as the library `clap` sees it: `[--book FILE] [--json] [--staff N] [--yes] WORD [OPTION]..`, without the program's name.
 use Rattle.std.specs.Prelude.{true, List, [], ◌∷◌, Some, codes, fold}
 use Rattle.clap.specs.Words.{App, Rule, Shape, Text, new_rule, with_subcommand}
 use Rattle.clap.specs.Simple.{new_shape}
@@ -114,7 +114,7 @@ till_shapes = word_shape (codes "waiting") [] ∷ word_shape (codes "send") [] �
 abbrev pub top_app : App
 top_app = record {
   top = record (new_shape (codes "till")) {
-    rules = optional_rule (codes "book") ∷ flag_rule (codes "json") ∷ optional_row_rule (codes "staff") ∷ [];
+    rules = optional_rule (codes "book") ∷ flag_rule (codes "json") ∷ optional_row_rule (codes "staff") ∷ flag_rule (codes "yes") ∷ [];
     no_binary_name = true;
     disable_help_subcommand = true;
   };

@@ -1,9 +1,12 @@
 pub mod CommandLine
 pub mod Table
+pub mod Labels
 pub mod Places
+pub mod Spoken
 pub mod Texts
 pub mod Given
 pub mod Acts
 pub mod Line
 pub mod PromptLine
 pub mod Seen
+pub mod Usage

@@ -5,11 +5,14 @@ mod acts;
 mod clap_words;
 mod commands;
 mod given;
+mod labels;
 mod lines;
 mod named;
 mod options;
 mod places;
+mod spoken;
 mod texts;
+mod usage;
 mod words;
 
 pub use clap_words::{asks_for_help, help_text, read_till_words};

@@ -112,6 +112,8 @@ pub struct TillLine {
     pub book: Option<FileName>,
     /// Whether the answer is to be JSON.
     pub is_json: bool,
+    /// Whether what can't be undone is to be done without a question.
+    pub is_sure: bool,
     /// The member of staff at the till, if another than the one that the book was made for.
     pub staff: Option<StaffNo>,
     pub act: TillAct,
