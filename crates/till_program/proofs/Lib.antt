@@ -1,4 +1,6 @@
 pub mod GoingOn
 pub mod Giving
 pub mod Doing
+pub mod LastMoment
 pub mod Marks
+pub mod StandardLemmas

@@ -67,13 +67,13 @@ key_said mark request one command r first says is =
     is ∙ ap (λ (it : Command). has_mark mark it.key) (one_command request first.0 says.0 one command first.1 says.1)
 
 -- an entry says a command, or there is neither
-abbrev SaysBoth : Option (List ℕ) → Option Command → Type 0
+abbrev pub SaysBoth : Option (List ℕ) → Option Command → Type 0
 SaysBoth None None = ⊤
 SaysBoth None (Some command) = ⊥
 SaysBoth (Some bytes) None = ⊥
 SaysBoth (Some bytes) (Some command) = Says bytes command
 
-last_says : (entries : List (List ℕ)) (commands : List Command) (entry : Option (List ℕ)) (command : Option Command)
+pub last_says : (entries : List (List ℕ)) (commands : List Command) (entry : Option (List ℕ)) (command : Option Command)
     → Say entries commands → SaysBoth entry command
     → SaysBoth (last_or entry entries) (last_or command commands)
 last_says [] [] entry command say both = both
@@ -81,10 +81,10 @@ last_says [] (c ∷ cs) entry command say both = absurd say
 last_says (b ∷ bs) [] entry command say both = absurd say
 last_says (b ∷ bs) (c ∷ cs) entry command say both = last_says bs cs (Some b) (Some c) say.1 say.0
 
-none_some : (command : Command) → ◌≡◌ {A = Option Command} None (Some command) → ⊥
+pub none_some : (command : Command) → ◌≡◌ {A = Option Command} None (Some command) → ⊥
 none_some command e = cc
 
-some_same : (one two : Command) → ◌≡◌ {A = Option Command} (Some one) (Some two) → one ≡ two
+pub some_same : (one two : Command) → ◌≡◌ {A = Option Command} (Some one) (Some two) → one ≡ two
 some_same one two e = cc
 
 last_marked : (mark : Text) (is_own : Bool) (entry : Option (List ℕ)) (last : Option Command) → SaysBoth entry last → TellsLastMark mark is_own entry

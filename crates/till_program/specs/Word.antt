@@ -84,6 +84,7 @@ EntersOrSends (act.Look look) = ⊥
 EntersOrSends act.Waiting = ⊥
 EntersOrSends (act.Last count) = ⊥
 EntersOrSends act.Help = ⊥
+EntersOrSends (act.Zone name) = ⊥
 EntersOrSends act.Prompt = ⊥
 
 -- ---- for which book a word is
@@ -111,6 +112,7 @@ IsFor staff act.Waiting = ⊤
 IsFor staff act.Send = ⊤
 IsFor staff (act.Last count) = ⊤
 IsFor staff act.Help = ⊤
+IsFor staff (act.Zone name) = ⊤
 IsFor staff act.Prompt = ⊤
 
 -- the fault tells one of the desk's, at which sending ended, and why

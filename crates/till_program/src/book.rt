@@ -6,6 +6,7 @@ ghost use Rattle.sqlite.specs.State.{HasCleanDisk};
 ghost use Rattle.till_model.specs.Numbered.{has_mark};
 ghost use Rattle.till_book.specs.Steps.{Stays};
 ghost use Rattle.till_program.specs.Faults.{IsReading};
+ghost use Rattle.till_program.specs.LastMoment.{IsMomentOf, TellsMoment};
 ghost use Rattle.till_program.specs.Word.{IsPlaceOf, KnowsOwn, TellsLastMark, TellsMark};
 
 use crate::fault::TillFault;
@@ -68,6 +69,7 @@ fn shown_by(
     request: &[u8],
 ) -> Result<LastEntry, TillFault>
     ensures marked { IfOk result (λ it. TellsLastMark mark.now it.is_own (Some request.now)) }
+    ensures moment { IfOk result (λ it. IsMomentOf it.at (Some request.now)) }
     ensures fault { IfErr result IsReading }
 {
     match command_of(alloc, routes, request) {
@@ -91,6 +93,7 @@ fn shown_at(
     end: &BookEnd,
 ) -> Result<LastEntry, TillFault>
     ensures marked { IfOk result (λ it. TellsLastMark mark.now it.is_own end.now.last) }
+    ensures moment { IfOk result (λ it. IsMomentOf it.at end.now.last) }
     ensures fault { IfErr result IsReading }
 {
     match &end.last {
@@ -103,8 +106,8 @@ fn shown_at(
 }
 
 impl Book {
-    /// Reads how far the book goes, and whether its last entry was entered with the mark. The book stays. A till's
-    /// book under that mark is its own.
+    /// Reads how far the book goes, whether its last entry was entered with the mark, and that entry's moment. The
+    /// book stays. A till's book under that mark is its own.
     pub fn read<S: Alter>(
         alloc: Global,
         routes: &Routes,
@@ -120,6 +123,8 @@ impl Book {
             → IfOk result (λ book. IsPlaceOf book.place (state S.Store conn.old)) }
         ensures marked { HasCleanDisk (state S.Store conn.new)
             → IfOk result (λ book. TellsMark mark.now book.is_own (state S.Store conn.old)) }
+        ensures moment { HasCleanDisk (state S.Store conn.new)
+            → IfOk result (λ book. TellsMoment book.last (state S.Store conn.old)) }
         ensures own { HasCleanDisk (state S.Store conn.new)
             → IfOk result (λ book. KnowsOwn mark.now book.is_own (state S.Store conn.old)) }
         ensures fault { IfErr result IsReading }

@@ -9,6 +9,7 @@ ghost use Rattle.till_client.specs.Replies.{seen_answer};
 ghost use Rattle.till_shows.specs.Told.{Tells};
 ghost use Rattle.till_work.specs.Told.{IsTold};
 ghost use Rattle.till_work.specs.Desk.{GoesOn, Stays};
+ghost use Rattle.till_program.specs.Clock.{local_clock};
 ghost use Rattle.till_program.specs.Faults.{IsBookKept, giver_of};
 ghost use Rattle.till_program.specs.Giving.{IsDated, IsRequest, EntersTry, Tries, IsBack, Gives};
 
@@ -85,7 +86,7 @@ fn next_date<K: WallClock, V: Server, L: Shelf>(
     last: Option<Moment>,
     ahead: u64,
 ) -> Result<Moment, TillFault>
-    ensures { IfOk result (IsDated (K.shows desk.now.clock.now) last ahead) }
+    ensures { IfOk result (IsDated (local_clock (K.shows desk.now.clock.now) desk.now.settings.now.zone) last ahead) }
 {
     let now = desk.now()?;
     let Some(at) = next_moment(now, last, ahead) else {
@@ -102,7 +103,7 @@ fn next_request<K: WallClock, V: Server, L: Shelf>(
     act: &Act,
     ahead: u64,
 ) -> Result<Prepared, TillFault>
-    ensures { IfOk result (λ it. IsRequest (K.shows desk.now.clock.now) desk.now.settings.now.token
+    ensures { IfOk result (λ it. IsRequest (local_clock (K.shows desk.now.clock.now) desk.now.settings.now.zone) desk.now.settings.now.token
         (giver_of desk.now.settings.now.staff desk.now.staff) (seen_act act.now) it.request.items) }
 {
     let staff = desk.giver()?;
@@ -133,7 +134,7 @@ fn enter_act<S: Alter, K: WallClock, V: Server, L: Shelf>(
     requires { conn.old.in_transaction ≡ false }
     ensures ended { conn.new.in_transaction ≡ false }
     ensures clean { HasCleanDisk (state S.Store conn.new) → HasCleanDisk (state S.Store conn.old) }
-    ensures entered { HasCleanDisk (state S.Store conn.new) → OnOk result (EntersTry (K.shows desk.now.clock.now)
+    ensures entered { HasCleanDisk (state S.Store conn.new) → OnOk result (EntersTry (local_clock (K.shows desk.now.clock.now) desk.now.settings.now.zone)
         desk.now.settings.now.mark desk.now.settings.now.token
         (giver_of desk.now.settings.now.staff desk.now.staff) (seen_act act.now) book.old.place
         (state S.Store conn.old) book.new.place (state S.Store conn.new)) }
@@ -163,7 +164,7 @@ fn give_once<S: Alter, K: WallClock, V: Server, L: Shelf, W: Watch>(
     ensures ended { conn.new.in_transaction ≡ false }
     ensures clean { HasCleanDisk (state S.Store conn.new) → HasCleanDisk (state S.Store conn.old) }
     ensures tried { HasCleanDisk (state S.Store conn.new) → IfOk result (λ told. Tries
-        (IsTold (V.opens desk.now.server.now) V.Reader.remaining V.Writer.contents) (K.shows desk.now.clock.now)
+        (IsTold (V.opens desk.now.server.now) V.Reader.remaining V.Writer.contents) (local_clock (K.shows desk.now.clock.now) desk.now.settings.now.zone)
         desk.now.settings.now.mark desk.now.settings.now.token
         (giver_of desk.now.settings.now.staff desk.now.staff) (seen_act act.now) (seen_answer told.answer ∷ [])
         book.old.place (state S.Store conn.old) book.new.place (state S.Store conn.new)) }
@@ -196,7 +197,7 @@ pub(crate) fn give<S: Alter, K: WallClock, V: Server, L: Shelf, W: Watch>(
     ensures ended { conn.new.in_transaction ≡ false }
     ensures clean { HasCleanDisk (state S.Store conn.new) → HasCleanDisk (state S.Store conn.old) }
     ensures given { HasCleanDisk (state S.Store conn.new) → IfOk result (λ told. Gives
-        (IsTold (V.opens desk.now.server.now) V.Reader.remaining V.Writer.contents) (K.shows desk.now.clock.now)
+        (IsTold (V.opens desk.now.server.now) V.Reader.remaining V.Writer.contents) (local_clock (K.shows desk.now.clock.now) desk.now.settings.now.zone)
         desk.now.settings.now.mark desk.now.settings.now.token
         (giver_of desk.now.settings.now.staff desk.now.staff) (seen_act act.now) (seen_answer told.answer)
         book.old.place (state S.Store conn.old) book.new.place (state S.Store conn.new)) }

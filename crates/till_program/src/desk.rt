@@ -2,17 +2,20 @@
 
 ghost use Rattle.std.specs.Prelude.{◌≡◌, IfOk, IsSome, OnOk};
 ghost use Rattle.shop_model.specs.Calendar.{seconds_of};
+ghost use Rattle.till_program.specs.Clock.{local_clock};
 ghost use Rattle.till_program.specs.Faults.{giver_of};
 
 use crate::caches::Shelf;
 use crate::clock::WallClock;
 use crate::fault::TillFault;
+use crate::wall::on_wall;
 use counter_routes::Routes;
+use jiff_tz::TimeZone;
 use shop_types::{Moment, StaffNo};
 use std::alloc::Global;
 use std::time::Duration;
 use till_client::{Answer, ask};
-use till_requests::{Settings, moment_at};
+use till_requests::{Settings, moment_at, zone_offset, zone_second};
 use till_work::{Identity, Server};
 
 /// How often something is asked for that changes nothing.
@@ -28,6 +31,8 @@ pub struct Desk<'d, K: WallClock, V: Server, L: Shelf> {
     pub shelf: &'d L,
     pub routes: &'d Routes,
     pub settings: &'d Settings,
+    /// The zone of the clock on the wall, by which moments are shown.
+    pub wall: TimeZone<'d>,
     /// Who gives the word, where it isn't whose till it is.
     pub staff: Option<StaffNo>,
     /// Whether the server's bodies are printed as they are.
@@ -47,7 +52,7 @@ impl<K: WallClock, V: Server, L: Shelf> Desk<'_, K, V, L> {
         }
     }
 
-    /// Reads the seconds since 1970 from the clock.
+    /// Reads the seconds since 1970 from the clock, by UTC.
     pub(crate) fn seconds(&self) -> Result<u64, TillFault>
         ensures { IfOk result (K.shows self.now.clock.now) }
     {
@@ -57,11 +62,17 @@ impl<K: WallClock, V: Server, L: Shelf> Desk<'_, K, V, L> {
         }
     }
 
-    /// Reads the moment from the clock.
+    /// Reads the moment from the clock, by the standard time of the till's zone. Fails with `System` if the moment is
+    /// before 1970 or after 9999.
     pub(crate) fn now(&self) -> Result<Moment, TillFault>
-        ensures { IfOk result (λ moment. K.shows self.now.clock.now (seconds_of moment)) }
+        ensures { IfOk result (λ moment. local_clock (K.shows self.now.clock.now) self.now.settings.now.zone
+            (seconds_of moment)) }
     {
-        match moment_at(self.seconds()?) {
+        let seconds = self.seconds()?;
+        let Some(second) = zone_second(&self.settings.zone, seconds) else {
+            return Err(TillFault::System);
+        };
+        match moment_at(second) {
             Some(moment) => Ok(moment),
             None => Err(TillFault::System),
         }
@@ -74,6 +85,11 @@ impl<K: WallClock, V: Server, L: Shelf> Desk<'_, K, V, L> {
             Some(last) if now.is_earlier(last) => Ok(last),
             Some(_) | None => Ok(now),
         }
+    }
+
+    /// Returns what the clock on the wall showed at an entry's moment.
+    pub(crate) fn on_wall(&self, at: Moment) -> Moment {
+        on_wall(self.wall, zone_offset(&self.settings.zone), at)
     }
 
     /// Who gives a branch's word: at head office's book nobody does, also where somebody is named.

@@ -61,6 +61,10 @@ pub enum TillFault {
     IsOffice,
     /// Head office's word at a branch's book.
     IsBranch,
+    /// The system has no zone of that name.
+    NoZone,
+    /// The last entry's moment is ahead of the clock of that zone.
+    ZoneBehind,
 }
 
 impl TillFault {
@@ -77,6 +81,8 @@ impl TillFault {
             | TillFault::NotSent
             | TillFault::IsOffice
             | TillFault::IsBranch
+            | TillFault::NoZone
+            | TillFault::ZoneBehind
             | TillFault::Already
             | TillFault::NotKept => 1,
             TillFault::Unanswered | TillFault::NotNow | TillFault::NotKnown | TillFault::Silent => {
@@ -104,7 +110,7 @@ impl TillFault {
             TillFault::Busy =>
                 "Another window has this till's book. Wait for its word, and say this one again.",
             TillFault::NoBook =>
-                "There is no book of that name. Make one: init ADDRESS TOKEN --staff N.",
+                "There is no book of that name. Make one: init ADDRESS TOKEN --staff N --zone NAME.",
             TillFault::NotABook => "That file is no till's book. Name another by --book.",
             TillFault::Already =>
                 "There is a book of that name, or a file of one. Take it, or name another by --book.",
@@ -113,10 +119,10 @@ impl TillFault {
                 "There is no memory left. Close other programs, and say the word again.",
             TillFault::System => "A file, the clock or the terminal failed. Say the word again.",
             TillFault::Settings =>
-                "The settings beside the book are missing or spoilt. Make a new book: init ADDRESS TOKEN --staff N.",
+                "The settings beside the book are missing or spoilt. Make a new book: init ADDRESS TOKEN --staff N --zone NAME.",
             TillFault::NotKept => "The settings can't keep that address. Write it as HOST:PORT.",
             TillFault::OtherBook =>
-                "The book and its settings aren't of one till. Make a new book: init ADDRESS TOKEN --staff N.",
+                "The book and its settings aren't of one till. Make a new book: init ADDRESS TOKEN --staff N --zone NAME.",
             TillFault::Ahead(_) => "The last entry is too far ahead of the clock.",
             TillFault::Unanswered =>
                 "No answer came. What was said is in the book and goes again by itself, once.",
@@ -137,6 +143,10 @@ impl TillFault {
             TillFault::NotSent => "That can't be sent as it stands. Say it in other words.",
             TillFault::IsOffice => "This book is head office's. Say office and its words.",
             TillFault::IsBranch => "This book is a branch's. Head office has a book of its own.",
+            TillFault::NoZone =>
+                "There is no zone of that name here. Say one as America/Edmonton, UTC-07:00 or UTC.",
+            TillFault::ZoneBehind =>
+                "The last entry is ahead of that zone's clock, so the zone stays. Say the word again when that clock is past it: see last.",
         }
     }
 }

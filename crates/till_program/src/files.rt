@@ -55,6 +55,17 @@ pub(crate) fn write_own(rt: &HostRuntime, path: &str, bytes: &[u8]) -> io::Resul
     fs::write(rt, path, bytes)
 }
 
+/// Writes a file of the till's beside the one that is there, and then puts it in that one's place: what is read there is
+/// the one or the other as a whole.
+pub(crate) fn replace_own(rt: &HostRuntime, path: &str, bytes: &[u8]) -> Result<(), TillFault> {
+    let alloc = rt.alloc();
+    let beside = format!(in alloc; "{path}.new")?;
+    write_own(rt, beside.as_str(), bytes)?;
+    fs::File::open(rt, beside.as_str())?.sync_all()?;
+    fs::rename(rt, beside.as_str(), path)?;
+    Ok(())
+}
+
 /// Whether the file holds nothing, or begins as a database does.
 pub(crate) fn may_be_book(rt: &HostRuntime, path: &str) -> bool {
     match fs::read(rt, path) {

@@ -3,13 +3,14 @@
 use crate::fault::TillFault;
 use crate::files::{begin_at, is_there, may_be_book, write_own};
 use crate::said::Said;
+use crate::zones::zone_named;
 use std::fs;
 use till_files::close_book;
-use till_requests::{NoSettings, Settings, new_mark, read_settings, settings_text};
-use till_words::Beginning;
+use till_requests::{NoSettings, Settings, Zone, new_mark, read_settings, settings_text};
+use till_words::{Beginning, ZoneText};
 
 /// The file of a book's settings.
-fn settings_path(rt: &HostRuntime, book: &str) -> Result<String, TillFault> {
+pub(crate) fn settings_path(rt: &HostRuntime, book: &str) -> Result<String, TillFault> {
     let alloc = rt.alloc();
     Ok(format!(in alloc; "{book}.conf")?)
 }
@@ -43,12 +44,20 @@ fn is_free(rt: &HostRuntime, book: &str) -> Result<bool, TillFault> {
 }
 
 /// The text of the settings, which `read_settings` reads.
-fn text_of(rt: &HostRuntime, settings: &Settings) -> Result<Vec<u8>, TillFault> {
+pub(crate) fn text_of(rt: &HostRuntime, settings: &Settings) -> Result<Vec<u8>, TillFault> {
     let text = settings_text(rt.alloc(), settings)?;
     match read_settings(rt.alloc(), text.as_slice()) {
         Ok(_) => Ok(text),
         Err(NoSettings::Form) => Err(TillFault::NotKept),
         Err(NoSettings::Memory) => Err(TillFault::Memory),
+    }
+}
+
+/// Returns the zone that was typed, if one was.
+fn zone_typed(rt: &HostRuntime, zone: Option<ZoneText>) -> Result<Option<Zone>, TillFault> {
+    match zone {
+        Some(name) => Ok(Some(zone_named(rt, name.as_str())?)),
+        None => Ok(None),
     }
 }
 
@@ -62,12 +71,14 @@ pub(crate) fn begin(rt: &HostRuntime, book: &str, beginning: Beginning) -> Resul
         address,
         token,
         staff,
+        zone,
     } = beginning;
     let settings = Settings {
         address,
         token,
         staff,
         mark: new_mark(rt)?,
+        zone: zone_typed(rt, zone)?,
     };
     let text = text_of(rt, &settings)?;
     let conn = begin_at(rt, book)?;

@@ -13,7 +13,6 @@ use crate::desk::Desk;
 use crate::entries::EntriesAfter;
 use crate::fault::TillFault;
 use crate::said::Said;
-use counter_routes::Routes;
 use serde_json::Value;
 use sqlite::{Alter, Connection};
 use std::alloc::Global;
@@ -99,16 +98,18 @@ fn words_line(alloc: Global, request: Option<&[u8]>) -> Result<String, TillFault
     Ok(line)
 }
 
-/// Returns what the entry at that place asks for.
-fn asked_at(
-    alloc: Global,
-    routes: &Routes,
+/// Returns what the entry at that place asks for. Its moment is shown by the clock on the wall.
+fn asked_at<K: WallClock, V: Server, L: Shelf>(
+    desk: &Desk<'_, K, V, L>,
     entries: &EntriesAfter,
     at: usize,
 ) -> Result<String, TillFault> {
-    match entries.command_at(alloc, routes, at) {
-        Ok(command) => asks_for(alloc, &command).map_err(|_| TillFault::Memory),
-        Err(TillFault::OtherBook) => words_line(alloc, entries.request_at(at)),
+    match entries.command_at(desk.alloc, desk.routes, at) {
+        Ok(mut command) => {
+            command.at = desk.on_wall(command.at);
+            asks_for(desk.alloc, &command).map_err(|_| TillFault::Memory)
+        }
+        Err(TillFault::OtherBook) => words_line(desk.alloc, entries.request_at(at)),
         Err(fault) => Err(fault),
     }
 }
@@ -130,15 +131,14 @@ fn add_row(
 }
 
 /// Adds a row for the entry at that place.
-fn add_entry(
-    alloc: Global,
-    routes: &Routes,
-    is_office: bool,
+fn add_entry<K: WallClock, V: Server, L: Shelf>(
+    desk: &Desk<'_, K, V, L>,
     entries: &EntriesAfter,
     at: usize,
     table: &mut Table,
 ) -> Result<(), TillFault> {
-    let what = asked_at(alloc, routes, entries, at)?;
+    let (alloc, is_office) = (desk.alloc, desk.settings.staff.is_none());
+    let what = asked_at(desk, entries, at)?;
     let became = outcome(alloc, is_office, entries.reply_at(at))?;
     add_row(alloc, entries.number_at(at), what, became, table)
 }
@@ -160,16 +160,14 @@ const COLUMNS: [Column; 3] = [
 ];
 
 /// Returns a table of the first entries, up to that many.
-fn entries_table(
-    alloc: Global,
-    routes: &Routes,
-    is_office: bool,
+fn entries_table<K: WallClock, V: Server, L: Shelf>(
+    desk: &Desk<'_, K, V, L>,
     entries: &EntriesAfter,
     most: usize,
 ) -> Result<Table, TillFault> {
-    let mut table = Table::new(alloc, &COLUMNS)?;
+    let mut table = Table::new(desk.alloc, &COLUMNS)?;
     for at in 0..entries.len().min(most) {
-        add_entry(alloc, routes, is_office, entries, at, &mut table)?;
+        add_entry(desk, entries, at, &mut table)?;
     }
     Ok(table)
 }
@@ -181,10 +179,9 @@ fn shown<K: WallClock, V: Server, L: Shelf>(
     most: u32,
     none: &str,
 ) -> Result<Said, TillFault> {
-    let (alloc, is_office) = (desk.alloc, desk.settings.staff.is_none());
-    let table = entries_table(alloc, desk.routes, is_office, entries, most as usize)?;
-    let mut said = Said::done(alloc);
-    says_table(alloc, &table, none, &mut said)?;
+    let table = entries_table(desk, entries, most as usize)?;
+    let mut said = Said::done(desk.alloc);
+    says_table(desk.alloc, &table, none, &mut said)?;
     Ok(said)
 }
 

@@ -5,18 +5,23 @@ ghost use Rattle.std.specs.Prelude.{◌≡◌, false, IfOk, IfSome};
 use crate::fault::TillFault;
 use crate::files::{is_asked_for, is_there, open_at, unask};
 use crate::init::settings_of;
+use crate::zones::rules_for;
 use counter_routes::Routes;
+use jiff_tz::TimeZoneDatabase;
 use sqlite::{Connection, FileStore};
 use sqlite_std_file::File;
 use till_files::close_book;
 use till_requests::Settings;
 
-/// What a word needs beside the open book: its file's name, its settings, and the server's own reader of requests.
+/// What a word needs beside the open book: its file's name, its settings, the server's own reader of requests, and the
+/// rules of its zone.
 #[derive(Drop)]
 pub(crate) struct Tools {
     pub(crate) name: String,
     pub(crate) settings: Settings,
     pub(crate) routes: Routes,
+    /// The rules of the till's zone, if the system has them.
+    pub(crate) rules: TimeZoneDatabase,
 }
 
 /// An open book. No other process can open the book until it is closed.
@@ -35,10 +40,12 @@ fn tools_of(rt: &HostRuntime, name: &str) -> Result<Tools, TillFault> {
     let Ok(routes) = Routes::new(rt.alloc()) else {
         return Err(TillFault::Memory);
     };
+    let rules = rules_for(rt, &settings.zone)?;
     Ok(Tools {
         name: String::from_str(rt.alloc(), name)?,
         settings,
         routes,
+        rules,
     })
 }
 

@@ -18,6 +18,8 @@ use crate::said::Said;
 use crate::settling::make_sure;
 use crate::tcp::Tcp;
 use crate::word::do_word;
+use crate::zone_word::set_zone;
+use crate::zones::wall_zone;
 use shop_types::{Act, StaffNo, StockFile, Usage};
 use sqlite::{Alter, Connection, FileStore};
 use sqlite_std_file::File;
@@ -175,6 +177,7 @@ fn with_tools<'x, W: Write, E: Write>(
         shelf: &shelf,
         routes: &tools.routes,
         settings: &tools.settings,
+        wall: wall_zone(&tools.rules, &tools.settings.zone),
         staff,
         is_json,
     };
@@ -210,7 +213,7 @@ fn at_book<W: Write, E: Write>(
 }
 
 /// Returns the name of the book's file.
-fn book_of(rt: &HostRuntime, named: &Option<FileName>) -> Result<String, TillFault> {
+pub(crate) fn book_of(rt: &HostRuntime, named: &Option<FileName>) -> Result<String, TillFault> {
     let name = match named {
         Some(name) => name.as_str(),
         None => BOOK,
@@ -243,6 +246,11 @@ fn perform_line<W: Write, E: Write>(
             Ok(print(begin(rt, book.as_str(), beginning), out, err))
         }
         TillAct::Help | TillAct::Prompt => Ok(print(help(rt), out, err)),
+        TillAct::Zone(zone) => Ok(print(
+            set_zone(rt, book.as_str(), held, zone.as_str()),
+            out,
+            err,
+        )),
         act => {
             let act = with_file(rt, act)?;
             let word = Word {

@@ -3,11 +3,12 @@
 ghost use Rattle.std.specs.Prelude.{◌≡◌, false, IfSome};
 
 use crate::fault::TillFault;
+use crate::greeting::greeting;
 use crate::input::has_input;
 use crate::opening::{OpenBook, close_held, close_if_asked};
-use crate::program::perform_words;
+use crate::program::{book_of, perform_words};
 use std::io::{ErrorKind, Write};
-use till_words::split_line;
+use till_words::{TillLine, read_till_words, split_line};
 
 /// For how many milliseconds a line is waited for before another look at whether another window asks for the book.
 const LOOKS: i32 = 500;
@@ -114,15 +115,29 @@ fn perform_lines<W: Write, E: Write>(
     Ok(())
 }
 
+/// Prints who is at the till, and the date and the time. Prints nothing if the settings of the book that the words before
+/// the prompt's own name can't be read.
+fn greet<W: Write>(rt: &HostRuntime, before: &[String], out: &mut W) -> Result<(), TillFault> {
+    let Ok(TillLine { book, staff, .. }) = read_till_words(rt.alloc(), before) else {
+        return Ok(());
+    };
+    let book = book_of(rt, &book)?;
+    if let Ok(line) = greeting(rt, book.as_str(), staff) {
+        writeln!(out, "{line}")?;
+    }
+    Ok(())
+}
+
 /// Reads lines of words to the end of the input, or to `exit` or `quit`, and does what each asks for. The words
 /// before the prompt's own, which name the book, are put before each line. The book is held open from word to word,
-/// until another window asks for it.
+/// until another window asks for it. First it says who is at the till, and when.
 pub(crate) fn prompt<W: Write, E: Write>(
     rt: &HostRuntime,
     before: &[String],
     out: &mut W,
     err: &mut E,
 ) -> Result<u8, TillFault> {
+    greet(rt, before, out)?;
     let mut held = None;
     let ended = perform_lines(rt, before, &mut held, out, err);
     close_held(&mut held);

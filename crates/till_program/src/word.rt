@@ -7,6 +7,7 @@ ghost use Rattle.shop_types.specs.Seen.{seen_act};
 ghost use Rattle.till_book.specs.Steps.{Stays};
 ghost use Rattle.till_work.specs.Told.{IsTold};
 ghost use Rattle.till_work.specs.Desk.{GoesOn, Grows};
+ghost use Rattle.till_program.specs.Clock.{local_clock};
 ghost use Rattle.till_program.specs.Faults.{IsBookKept, IsReading, giver_of, others_fault};
 ghost use Rattle.till_program.specs.Giving.{GivesAct};
 ghost use Rattle.till_program.specs.Word.{
@@ -220,9 +221,8 @@ fn plan_of<S: Alter, K: WallClock, V: Server, L: Shelf>(
         TillAct::Look(it) => look_plan(desk, it),
         TillAct::Waiting => Ok(Plan::Waiting),
         TillAct::Last(count) => Ok(Plan::Last(count)),
-        TillAct::Help | TillAct::Init(_) | TillAct::Import { .. } | TillAct::Prompt => {
-            Ok(Plan::Usage)
-        }
+        TillAct::Help | TillAct::Init(_) | TillAct::Import { .. } => Ok(Plan::Usage),
+        TillAct::Zone(_) | TillAct::Prompt => Ok(Plan::Usage),
     }
 }
 
@@ -267,7 +267,7 @@ fn give_and_tell<S: Alter, K: WallClock, V: Server, L: Shelf, W: Watch>(
     ensures clean { HasCleanDisk (state S.Store conn.new) → HasCleanDisk (state S.Store conn.old) }
     ensures given { HasCleanDisk (state S.Store conn.new)
         → OnOk result (GivesAct (IsTold (V.opens desk.now.server.now) V.Reader.remaining V.Writer.contents)
-        (K.shows desk.now.clock.now) desk.now.settings.now.mark desk.now.settings.now.token
+        (local_clock (K.shows desk.now.clock.now) desk.now.settings.now.zone) desk.now.settings.now.mark desk.now.settings.now.token
         (giver_of desk.now.settings.now.staff desk.now.staff) (seen_act act.now) book.old.place
         (state S.Store conn.old) book.new.place (state S.Store conn.new)) }
     ensures keeps { HasCleanDisk (state S.Store conn.new) → IsBookKept result
@@ -305,7 +305,7 @@ fn carry_out<S: Alter, K: WallClock, V: Server, L: Shelf, W: Watch>(
     ensures clean { HasCleanDisk (state S.Store conn.new) → HasCleanDisk (state S.Store conn.old) }
     ensures done { HasCleanDisk (state S.Store conn.new)
         → OnOk result (IsCarriedOut (IsTold (V.opens desk.now.server.now) V.Reader.remaining V.Writer.contents)
-        (K.shows desk.now.clock.now) desk.now.settings.now.mark desk.now.settings.now.token
+        (local_clock (K.shows desk.now.clock.now) desk.now.settings.now.zone) desk.now.settings.now.mark desk.now.settings.now.token
         (giver_of desk.now.settings.now.staff desk.now.staff) plan book.old.place
         (state S.Store conn.old) book.new.place (state S.Store conn.new)) }
     ensures keeps { HasCleanDisk (state S.Store conn.new) → IsBookKept result → IsSome desk.now.settings.now.staff
@@ -337,7 +337,7 @@ fn carry_out<S: Alter, K: WallClock, V: Server, L: Shelf, W: Watch>(
 /// or look at head office's book is refused, whoever gives it: `IsOffice`. Head office's words at a branch's book are
 /// refused: `IsBranch`. If the last entry was entered with another mark than the settings', a word that enters or sends
 /// is refused, and the book stays: `OtherBook`. A word that makes a book, a prompt, or a stock file that is still to be
-/// read is answered as a usage.
+/// read is answered as a usage. So is a word that sets the book's zone.
 pub fn do_word<S: Alter, K: WallClock, V: Server, L: Shelf, W: Watch>(
     desk: &Desk<'_, K, V, L>,
     conn: &mut Connection<S>,
@@ -349,7 +349,7 @@ pub fn do_word<S: Alter, K: WallClock, V: Server, L: Shelf, W: Watch>(
     ensures clean { HasCleanDisk (state S.Store conn.new) → HasCleanDisk (state S.Store conn.old) }
     ensures done { HasCleanDisk (state S.Store conn.new)
         → OnOk result (DoesWord (IsTold (V.opens desk.now.server.now) V.Reader.remaining V.Writer.contents)
-        (K.shows desk.now.clock.now) desk.now.settings.now.mark desk.now.settings.now.token
+        (local_clock (K.shows desk.now.clock.now) desk.now.settings.now.zone) desk.now.settings.now.mark desk.now.settings.now.token
         (giver_of desk.now.settings.now.staff desk.now.staff) act (state S.Store conn.old) (state S.Store conn.new)) }
     ensures keeps { HasCleanDisk (state S.Store conn.new) → IsBookKept result → IsSome desk.now.settings.now.staff
         → KeepsATillsBook (IsTold (V.opens desk.now.server.now) V.Reader.remaining V.Writer.contents)

@@ -16,5 +16,6 @@ mod shop;
 mod texts;
 mod word;
 mod world;
+mod zones;
 
 pub use rows::play_days;

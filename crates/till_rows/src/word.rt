@@ -11,7 +11,7 @@ use crate::world::World;
 use shop_types::{Act, LotName, StockFile};
 use sqlite::{Alter, Connection};
 use std::alloc::Global;
-use till_program::{Desk, Quiet, Said, TillFault, do_word, make_sure};
+use till_program::{Desk, Quiet, Said, TillFault, accept_zone, do_word, make_sure, zone_said};
 use till_words::{TillAct, TillLine, read_till_words, split_line};
 
 /// Returns the import of the stock file as a lot of that name.
@@ -94,6 +94,42 @@ fn tell(alloc: Global, said: Result<Said, TillFault>, told: &mut Texts) -> Resul
     }
 }
 
+/// Returns what the till works with, in the zone with that number.
+fn desk_in<'x, C: Counter>(
+    alloc: Global,
+    world: &'x World,
+    kit: &'x Kit<C>,
+    server: &'x Line<'x, C>,
+    number: usize,
+) -> Result<Desk<'x, Hands, Line<'x, C>, Board>, Fault> {
+    let zone = world.zones().at(number)?;
+    Ok(Desk {
+        alloc,
+        clock: kit.clock(),
+        server,
+        shelf: kit.shelf(),
+        routes: world.routes(),
+        settings: &zone.settings,
+        wall: zone.wall,
+        staff: None,
+        is_json: false,
+    })
+}
+
+/// Sets the till's zone to the desk's, which has that number, if the book accepts that zone, as the program does.
+fn set<S: Alter, C: Counter>(
+    desk: &Desk<'_, Hands, Line<'_, C>, Board>,
+    conn: &mut Connection<S>,
+    kit: &Kit<C>,
+    number: usize,
+) -> Result<Said, TillFault>
+    requires { conn.old.in_transaction ≡ false }
+{
+    accept_zone(desk, conn)?;
+    kit.moves_to(number);
+    zone_said(desk.alloc, desk.settings)
+}
+
 /// Types the line at a till's book, and puts what is printed into `told`. Returns false if the book's disk has failed.
 pub fn type_at<'x, S: Alter, C: Counter>(
     alloc: Global,
@@ -107,18 +143,16 @@ pub fn type_at<'x, S: Alter, C: Counter>(
         return Err(NO_BOOK);
     }
     let server = Line { wire: kit.wire() };
-    let desk = Desk {
-        alloc,
-        clock: kit.clock(),
-        server: &server,
-        shelf: kit.shelf(),
-        routes: world.routes(),
-        settings: world.settings(),
-        staff: None,
-        is_json: false,
-    };
     match act_of(alloc, world.stock(), line) {
-        Ok(act) => tell(alloc, done(&desk, conn, act), told),
+        Ok(TillAct::Zone(name)) => {
+            let number = world.zones().number_of(name.as_str())?;
+            let desk = desk_in(alloc, world, kit, &server, number)?;
+            tell(alloc, set(&desk, conn, kit, number), told)
+        }
+        Ok(act) => {
+            let desk = desk_in(alloc, world, kit, &server, kit.zone())?;
+            tell(alloc, done(&desk, conn, act), told)
+        }
         Err(fault) => Err(fault),
     }
 }

@@ -1,5 +1,6 @@
 use Rattle.sql_rows.proofs.Common.{state}
 use Rattle.shop_types.specs.Seen.{seen_act}
+use Rattle.till_program.specs.Clock.{local_clock}
 use Rattle.till_program.specs.Faults.{giver_of}
 use Rattle.till_program.proofs.GoingOn.{desk_kept}
 use Rattle.till_program.proofs.Giving.{enters_try}
@@ -7,7 +8,7 @@ use Rattle.till_program.proofs.commands.enter_act.Goals as goal
 
 pub returns-in-Ok-clause-entered : goal.returns-in-Ok-clause-entered
 returns-in-Ok-clause-entered g c clean =
-    enters_try (g.K.WallClock.shows c.args.desk.now.clock.now) c.args.desk.now.settings.now.mark
+    enters_try (local_clock (g.K.WallClock.shows c.args.desk.now.clock.now) c.args.desk.now.settings.now.zone) c.args.desk.now.settings.now.mark
     c.args.desk.now.settings.now.token c.identity.result.mark.now c.identity.result.token.now
     (giver_of c.args.desk.now.settings.now.staff c.args.desk.now.staff)
     (seen_act c.args.act.now) c.in_ok-request.field-0.request.items c.args.book.now.place c.enter.new.place

@@ -3,6 +3,7 @@ use Rattle.shop_types.specs.Seen.{seen_act}
 use Rattle.till_client.specs.Replies.{seen_answer}
 use Rattle.till_work.specs.Told.{IsTold}
 use Rattle.till_work.specs.Desk.{GoesOn}
+use Rattle.till_program.specs.Clock.{local_clock}
 use Rattle.till_program.specs.declared.commands.Told.{Told}
 use Rattle.till_program.specs.Faults.{giver_of}
 use Rattle.till_program.proofs.Giving.{SoFar}
@@ -16,6 +17,6 @@ invariant-tries g l =
     × (HasCleanDisk (state g.S.Store l.conn)
     → GoesOn tells l.desk.settings.now.mark l.initial.book.place (state g.S.Store l.initial.conn) l.book.place (state g.S.Store l.conn))
     × (HasCleanDisk (state g.S.Store l.conn)
-    → SoFar tells (g.K.WallClock.shows l.desk.clock.now) l.desk.settings.now.mark l.desk.settings.now.token
+    → SoFar tells (local_clock (g.K.WallClock.shows l.desk.clock.now) l.desk.settings.now.zone) l.desk.settings.now.mark l.desk.settings.now.token
     (giver_of l.desk.settings.now.staff l.desk.staff) (seen_act l.act) (λ (it : Told). seen_answer it.answer) l.told
     l.initial.book.place (state g.S.Store l.initial.conn) l.book.place (state g.S.Store l.conn))

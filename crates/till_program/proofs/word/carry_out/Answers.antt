@@ -1,5 +1,6 @@
 use Rattle.sqlite.specs.Held.{state}
 use Rattle.till_work.specs.Told.{IsTold}
+use Rattle.till_program.specs.Clock.{local_clock}
 use Rattle.till_program.specs.Faults.{giver_of}
 use Rattle.till_program.specs.declared.word.Plan.TheVariants as plan
 use Rattle.till_program.proofs.Doing.{on_ok, carried_out}
@@ -18,28 +19,28 @@ returns-in-Send-clause-grows g c clean kept office planned = c.send.ensures.grow
 pub returns-in-Give-clause-done : goal.returns-in-Give-clause-done
 returns-in-Give-clause-done g c clean =
     carried_out c.give_and_tell.result (IsTold (g.V.Server.opens c.args.desk.now.server.now) g.V.Reader.Read.remaining g.V.Writer.Write.contents)
-    (g.K.WallClock.shows c.args.desk.now.clock.now)
+    (local_clock (g.K.WallClock.shows c.args.desk.now.clock.now) c.args.desk.now.settings.now.zone)
     c.args.desk.now.settings.now.mark c.args.desk.now.settings.now.token (giver_of c.args.desk.now.settings.now.staff c.args.desk.now.staff) c.args.plan
     (plan.Give c.in-Give.act c.in-Give.customer) _ _ _ _ c.in-Give.is (c.give_and_tell.ensures.given clean)
 
 pub returns-in-Send-clause-done : goal.returns-in-Send-clause-done
 returns-in-Send-clause-done g c clean =
     carried_out c.send.result (IsTold (g.V.Server.opens c.args.desk.now.server.now) g.V.Reader.Read.remaining g.V.Writer.Write.contents)
-    (g.K.WallClock.shows c.args.desk.now.clock.now)
+    (local_clock (g.K.WallClock.shows c.args.desk.now.clock.now) c.args.desk.now.settings.now.zone)
     c.args.desk.now.settings.now.mark c.args.desk.now.settings.now.token (giver_of c.args.desk.now.settings.now.staff c.args.desk.now.staff) c.args.plan
     plan.Send _ _ _ _ c.in-Send.is (c.send.ensures.sent clean)
 
 pub returns-in-Waiting-clause-done : goal.returns-in-Waiting-clause-done
 returns-in-Waiting-clause-done g c clean =
     carried_out c.waiting_entries.result (IsTold (g.V.Server.opens c.args.desk.now.server.now) g.V.Reader.Read.remaining g.V.Writer.Write.contents)
-    (g.K.WallClock.shows c.args.desk.now.clock.now)
+    (local_clock (g.K.WallClock.shows c.args.desk.now.clock.now) c.args.desk.now.settings.now.zone)
     c.args.desk.now.settings.now.mark c.args.desk.now.settings.now.token (giver_of c.args.desk.now.settings.now.staff c.args.desk.now.staff) c.args.plan
     plan.Waiting _ _ _ _ c.in-Waiting.is (on_ok _ (c.waiting_entries.ensures.stays clean))
 
 pub returns-in-Last-clause-done : goal.returns-in-Last-clause-done
 returns-in-Last-clause-done g c clean =
     carried_out c.last_entries.result (IsTold (g.V.Server.opens c.args.desk.now.server.now) g.V.Reader.Read.remaining g.V.Writer.Write.contents)
-    (g.K.WallClock.shows c.args.desk.now.clock.now)
+    (local_clock (g.K.WallClock.shows c.args.desk.now.clock.now) c.args.desk.now.settings.now.zone)
     c.args.desk.now.settings.now.mark c.args.desk.now.settings.now.token (giver_of c.args.desk.now.settings.now.staff c.args.desk.now.staff) c.args.plan
     (plan.Last c.in-Last.count) _ _ _ _ c.in-Last.is (on_ok _ (c.last_entries.ensures.stays clean))
 

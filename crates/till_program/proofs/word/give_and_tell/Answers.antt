@@ -2,6 +2,7 @@ use Rattle.sqlite.specs.Held.{state}
 use Rattle.till_client.specs.Replies.{seen_answer}
 use Rattle.shop_types.specs.Seen.{seen_act}
 use Rattle.till_work.specs.Told.{IsTold}
+use Rattle.till_program.specs.Clock.{local_clock}
 use Rattle.till_program.specs.Faults.{giver_of}
 use Rattle.till_program.proofs.Doing.{gives_told}
 use Rattle.till_program.proofs.GoingOn.{kept_ok, kept_as, goes_stays}
@@ -25,7 +26,7 @@ returns-clause-keeps g c clean kept =
 pub returns-clause-given : goal.returns-clause-given
 returns-clause-given g c clean =
     gives_told (IsTold (g.V.Server.opens c.args.desk.now.server.now) g.V.Reader.Read.remaining g.V.Writer.Write.contents)
-    (g.K.WallClock.shows c.args.desk.now.clock.now)
+    (local_clock (g.K.WallClock.shows c.args.desk.now.clock.now) c.args.desk.now.settings.now.zone)
     c.args.desk.now.settings.now.mark c.args.desk.now.settings.now.token
     (giver_of c.args.desk.now.settings.now.staff c.args.desk.now.staff) c.told.result (seen_act c.args.act.now)
     (seen_answer c.in-Ok.it.answer) c.args.book.now.place c.give.new.book.place

@@ -1,6 +1,7 @@
 use Rattle.std.proofs.Common.{refl}
 use Rattle.sqlite.specs.Held.{state}
 use Rattle.till_program.proofs.GoingOn.{place_of}
+use Rattle.till_program.proofs.LastMoment.{tells_moment}
 use Rattle.till_program.proofs.Marks.{tells_mark, knows_own}
 use Rattle.till_program.proofs.book.Book.read.Goals as goal
 
@@ -12,6 +13,11 @@ pub returns-clause-marked : goal.returns-clause-marked
 returns-clause-marked g c clean =
     tells_mark c.args.mark.now _ c.in-Ok.end (state g.S.Store c.args.conn.now)
     (state g.S.Store c.read_end.new.conn) c.in_ok-at.ensures.marked (c.in-Ok.ensures.found clean)
+
+pub returns-clause-moment : goal.returns-clause-moment
+returns-clause-moment g c clean =
+    tells_moment _ c.in-Ok.end (state g.S.Store c.args.conn.now)
+    (state g.S.Store c.read_end.new.conn) c.in_ok-at.ensures.moment (c.in-Ok.ensures.found clean)
 
 pub returns-clause-own : goal.returns-clause-own
 returns-clause-own g c clean = knows_own c.args.mark.now _ (state g.S.Store c.args.conn.now) (returns-clause-marked g c clean)
