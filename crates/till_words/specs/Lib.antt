@@ -3,6 +3,7 @@ pub mod Table
 pub mod Places
 pub mod Texts
 pub mod Given
+pub mod Days
 pub mod Acts
 pub mod Line
 pub mod PromptLine

@@ -6,7 +6,7 @@ ghost use Rattle.till_words.specs.declared.words.TillLook.TheVariants as look;
 
 use crate::given::{NUMBER, PAYMENT, RETURN, TOKEN, WHOSE};
 use crate::words::{Beginning, TillAct, TillLook, WordList};
-use crate::{given, named};
+use crate::{days, given, named};
 use clap::ArgMatches;
 use shop_types::{
     Act, CopyNo, L45, NewCustomer, Person, RentalNo, RowNumber, StaffNo, T45, T128, Usage,
@@ -317,6 +317,7 @@ pub(crate) fn act(
         "waiting" => Ok(TillAct::Waiting),
         "send" => Ok(TillAct::Send),
         "last" => Ok(TillAct::Last(given::of_kind(alloc, count(given, "count"), NUMBER)?)),
+        "day" => Ok(TillAct::Day(days::drawer(alloc, given)?)),
         "help" => Ok(TillAct::Help),
         "init" => Ok(TillAct::Init(beginning(alloc, given)?)),
         "office" => office(alloc, words),

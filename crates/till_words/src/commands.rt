@@ -26,7 +26,7 @@ static OPTIONS: [(&'static str, Kind); 3] = [
 ];
 
 /// The words, in the order in which help lists them.
-static SUBCOMMANDS: [Subcommand; 27] = [
+static SUBCOMMANDS: [Subcommand; 28] = [
     // ---- at the counter
     Subcommand {
         name: "rent",
@@ -165,6 +165,11 @@ static SUBCOMMANDS: [Subcommand; 27] = [
         name: "last",
         about: "The book's last entries: last COUNT",
         options: &[("count", Kind::DefaultRow("10"))],
+    },
+    Subcommand {
+        name: "day",
+        about: "What is in the drawer: day. Close it: day --count 412.50. How it was closed: day 2026-03-09",
+        options: &[("date", Kind::OptionalText), ("count", Kind::OptionalText)],
     },
     Subcommand {
         name: "help",

@@ -4,6 +4,7 @@
 mod acts;
 mod clap_words;
 mod commands;
+mod days;
 mod given;
 mod lines;
 mod named;
@@ -14,4 +15,4 @@ mod words;
 
 pub use clap_words::{asks_for_help, help_text, read_till_words};
 pub use lines::split_line;
-pub use words::{Beginning, FileName, TillAct, TillLine, TillLook, WordList};
+pub use words::{Beginning, DayText, Drawer, FileName, TillAct, TillLine, TillLook, WordList};
