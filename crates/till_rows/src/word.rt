@@ -8,7 +8,7 @@ use crate::line::{Counter, Line};
 use crate::shelf::{Board, Hands};
 use crate::texts::Texts;
 use crate::world::World;
-use shop_types::{Act, LotName, StockFile};
+use shop_types::{Act, LotName, StaffNo, StockFile};
 use sqlite::{Alter, Connection};
 use std::alloc::Global;
 use till_program::{Desk, Quiet, Said, TillFault, do_word, make_sure};
@@ -41,15 +41,32 @@ fn words_in(alloc: Global, line: &str) -> Result<Vec<String>, Fault> {
     }
 }
 
+/// What is typed, and who types it, if that isn't the member of staff whose till it is.
+#[derive(Drop)]
+struct Typed {
+    act: TillAct,
+    staff: Option<StaffNo>,
+}
+
 /// Reads what the words ask for, with the stock file instead of its name.
-fn act_of(alloc: Global, stock: &[u8], line: &str) -> Result<TillAct, Fault> {
+fn typed(alloc: Global, stock: &[u8], line: &str) -> Result<Typed, Fault> {
     let words = words_in(alloc, line)?;
     let read = read_till_words(alloc, words.as_slice());
     drop(words);
     match read {
-        Ok(TillLine { book, act, .. }) => {
+        Ok(
+            TillLine {
+                book,
+                staff,
+                act,
+                ..
+            },
+        ) => {
             drop(book);
-            with_stock(alloc, act, stock)
+            match with_stock(alloc, act, stock) {
+                Ok(act) => Ok(Typed { act, staff }),
+                Err(fault) => Err(fault),
+            }
         }
         Err(usage) => {
             drop(usage);
@@ -106,6 +123,10 @@ pub fn type_at<'x, S: Alter, C: Counter>(
     if !conn.is_autocommit() {
         return Err(NO_BOOK);
     }
+    let Typed { act, staff } = match typed(alloc, world.stock(), line) {
+        Ok(it) => it,
+        Err(fault) => return Err(fault),
+    };
     let server = Line { wire: kit.wire() };
     let desk = Desk {
         alloc,
@@ -114,11 +135,8 @@ pub fn type_at<'x, S: Alter, C: Counter>(
         shelf: kit.shelf(),
         routes: world.routes(),
         settings: world.settings(),
-        staff: None,
+        staff,
         is_json: false,
     };
-    match act_of(alloc, world.stock(), line) {
-        Ok(act) => tell(alloc, done(&desk, conn, act), told),
-        Err(fault) => Err(fault),
-    }
+    tell(alloc, done(&desk, conn, act), told)
 }
