@@ -228,7 +228,7 @@ class RealTill:
 
     def __init__(self, folder, name, served, branch, staff):
         self.path, self.folder = os.path.join(folder, name), folder
-        who = ["--staff", str(staff)] if staff else ["--office"]
+        who = ["--staff", str(staff), "--zone", "UTC"] if staff else ["--office"]
         subprocess.run([TILL, "--book", self.path, "init", f"127.0.0.1:{served.port}", token(branch), *who], check=True, stdout=subprocess.DEVNULL)
         self.opens()
 

@@ -10,6 +10,7 @@ import sqlite3
 
 from page_parts import Column, days_before, month_text
 from report_queries import rows
+from zones import moment_at, standard_offset
 
 WEEKS = 13
 ALWAYS = ("1970-01-01T00:00:00", "9999-12-31T23:59:59")
@@ -45,11 +46,13 @@ COLUMNS["overdue"] = COLUMNS["copies-out"]
 
 
 class Chain:
-    """A copy of a chain at a moment: what the branches share, and what head office alone may see."""
+    """A copy of a chain at a moment: what the branches share, and what head office alone may see. A branch of `zones` has the moment by its own clock."""
 
-    def __init__(self, file, at):
-        self.file, self.at = file, at
-        self.branches, self.limits, self.transit = rows("branches", file), rows("limits", file), rows("transit", file, at=at)
+    def __init__(self, file, at, zones=None):
+        self.file, self.at, self.zones = file, at, zones or {}
+        self.branches, self.limits = rows("branches", file), rows("limits", file)
+        self.moments = {it["number"]: self.moment_of(it["number"]) for it in self.branches}
+        self.transit = self.read_transit()
         self.sales = {it["branch"]: it["total"] for it in rows("sales-by-branch", file)}
         self.staff = {it["number"]: f"{it['first']} {it['last']}" for it in rows("staff", file)}
         it = sqlite3.connect(f"file:{file}?mode=ro", uri=True)
@@ -60,6 +63,14 @@ class Chain:
             it.close()
         for row in self.transit:
             spell_films(row, self.titles)
+
+    def moment_of(self, branch):
+        return moment_at(self.at, standard_offset(self.zones[branch])) if branch in self.zones else self.at
+
+    def read_transit(self):
+        """Returns the consignments on their way, each with its days by its sender's clock."""
+        lists = {at: rows("transit", self.file, at=at) for at in sorted(set(self.moments.values()))}
+        return [lists[self.moments[row["from"]]][place] for place, row in enumerate(next(iter(lists.values()), []))]
 
 
 def spell_films(row, titles):
@@ -77,10 +88,11 @@ class BranchFigures:
         self.number, self.address, self.city, self.last_moment = branch["number"], branch["address"], branch["city"], branch["last_moment"]
         self.manager = chain.staff.get(branch["manager"])
         self.is_by_comment, self.file = chain.is_by_comment, chain.file
-        day_later = (datetime.datetime.fromisoformat(chain.at) + datetime.timedelta(days=1)).isoformat() if chain.at < "9999-12-31" else chain.at
+        self.zone, now = chain.zones.get(self.number), chain.moments[self.number]
+        day_later = (datetime.datetime.fromisoformat(now) + datetime.timedelta(days=1)).isoformat() if now < "9999-12-31" else now
         self.clock_was_ahead = self.last_moment is not None and self.last_moment > day_later
-        # The branch's clock may be that of another time zone than the copy's.
-        self.at = chain.at if self.last_moment is None or self.clock_was_ahead else max(chain.at, self.last_moment)
+        # The branch may be in another time zone than is known of it.
+        self.at = now if self.last_moment is None or self.clock_was_ahead else max(now, self.last_moment)
         self.day, self.month = self.at[:10], self.at[:7]
         self.last_month = days_before(self.month + "-01", 1)[:7]
         self.spans = {"in all": ALWAYS} | {month_text(month): (f"{month}-01T00:00:00", f"{month}-31T23:59:59") for month in (self.month, self.last_month)}

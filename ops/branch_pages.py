@@ -29,7 +29,7 @@ def in_order(columns, *names):
 def heads(it, copied):
     """The lines below a page's heading."""
     place = ", ".join(part for part in (it.address, it.city) if part)
-    return [place + (f". Manager: {it.manager}" if it.manager else ""), f"As of {moment_text(it.at)}. {copied}"]
+    return [place + (f". Manager: {it.manager}" if it.manager else ""), f"As of {moment_text(it.at)}{f', in the standard time of {it.zone}' if it.zone else ''}. {copied}"]
 
 
 def chart_of_days(it):

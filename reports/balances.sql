@@ -1,13 +1,15 @@
 -- Who owes how much: each customer of a branch whose balance isn't 0, the greatest first, by the rule that the chain goes by, as `GET /balance`.
--- Asked: @branch, the branch's number; @at, a moment, which is this machine's clock where none is set.
+-- Asked: @branch, the branch's number; @at, a moment, or else now in the time of @zone; @zone, an offset as -07:00, or else UTC.
 -- Units: cents; below 0 is what the branch owes the customer. `rentals` and `payments` are what the customer's rentals cost and the payments brought.
 -- sqlite3 -readonly -bail -box -cmd ".parameter set @branch 1" -cmd ".parameter set @at 2026-03-31T18:00:00" COPY < reports/balances.sql
 .parameter init
-INSERT OR IGNORE INTO temp.sqlite_parameters VALUES ('@at', strftime('%Y-%m-%dT%H:%M:%S', 'now', 'localtime'));
-CREATE TEMP TABLE asked (branch, at,
+INSERT OR IGNORE INTO temp.sqlite_parameters VALUES ('@zone', '+00:00');
+INSERT OR IGNORE INTO temp.sqlite_parameters VALUES ('@at', strftime('%Y-%m-%dT%H:%M:%S', 'now', @zone));
+CREATE TEMP TABLE asked (branch, zone, at,
     CONSTRAINT "@branch is a branch's number" CHECK (typeof(branch) = 'integer'),
-    CONSTRAINT "@at is a moment" CHECK (at GLOB '????-??-??T??:??:??'));
-INSERT INTO asked VALUES (@branch, @at);
+    CONSTRAINT "@zone is an offset, as -07:00" CHECK (zone GLOB '[+-][0-9][0-9]:[0-9][0-9]'),
+    CONSTRAINT "@at is a moment" CHECK (coalesce(at, '') GLOB '????-??-??T??:??:??'));
+INSERT INTO asked VALUES (@branch, @zone, @at);
 WITH
 fees AS (
     -- what each rental that began by the moment costs, by the rule that the chain goes by

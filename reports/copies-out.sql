@@ -1,13 +1,15 @@
 -- What is out: each copy that a customer of a branch has, with the rental, the customer and the last day of its period.
--- Asked: @branch, the branch's number; @at, a moment, which is this machine's clock where none is set.
+-- Asked: @branch, the branch's number; @at, a moment, or else now in the time of @zone; @zone, an offset as -07:00, or else UTC.
 -- Units: `late` is the days by which the moment is past that day, whether or not anything is charged for them.
 -- sqlite3 -readonly -bail -box -cmd ".parameter set @branch 1" -cmd ".parameter set @at 2026-03-31T18:00:00" COPY < reports/copies-out.sql
 .parameter init
-INSERT OR IGNORE INTO temp.sqlite_parameters VALUES ('@at', strftime('%Y-%m-%dT%H:%M:%S', 'now', 'localtime'));
-CREATE TEMP TABLE asked (branch, at,
+INSERT OR IGNORE INTO temp.sqlite_parameters VALUES ('@zone', '+00:00');
+INSERT OR IGNORE INTO temp.sqlite_parameters VALUES ('@at', strftime('%Y-%m-%dT%H:%M:%S', 'now', @zone));
+CREATE TEMP TABLE asked (branch, zone, at,
     CONSTRAINT "@branch is a branch's number" CHECK (typeof(branch) = 'integer'),
-    CONSTRAINT "@at is a moment" CHECK (at GLOB '????-??-??T??:??:??'));
-INSERT INTO asked VALUES (@branch, @at);
+    CONSTRAINT "@zone is an offset, as -07:00" CHECK (zone GLOB '[+-][0-9][0-9]:[0-9][0-9]'),
+    CONSTRAINT "@at is a moment" CHECK (coalesce(at, '') GLOB '????-??-??T??:??:??'));
+INSERT INTO asked VALUES (@branch, @zone, @at);
 SELECT o.rental, o.copy, c.film, f.title, r.customer, cu.last || ', ' || cu.first AS name, cu.phone, r.moment AS rented,
     date(r.moment, '+' || t.period || ' days') AS due,
     max(0, CAST(julianday(date(a.at)) - julianday(date(r.moment)) AS INTEGER) - t.period) AS late

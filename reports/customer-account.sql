@@ -1,15 +1,17 @@
 -- One customer's account: rentals with what they cost and payments, one after another, by the rule that the chain goes by. The balance behind the
 -- last row is that of `GET /balance`; behind an earlier one it has what rentals up to there cost as it is known at the moment.
--- Asked: @branch, the branch's number; @customer, the customer's number there; @at, a moment, which is this machine's clock where none is set.
+-- Asked: @branch, the branch's number; @customer, the customer's number there; @at, a moment, or else now in the time of @zone; @zone, an offset as -07:00, or else UTC.
 -- Units: cents, a payment's below 0; `late` is days.
 -- sqlite3 -readonly -bail -box -cmd ".parameter set @branch 1" -cmd ".parameter set @customer 1" -cmd ".parameter set @at 2026-03-31T18:00:00" COPY < reports/customer-account.sql
 .parameter init
-INSERT OR IGNORE INTO temp.sqlite_parameters VALUES ('@at', strftime('%Y-%m-%dT%H:%M:%S', 'now', 'localtime'));
-CREATE TEMP TABLE asked (branch, customer, at,
+INSERT OR IGNORE INTO temp.sqlite_parameters VALUES ('@zone', '+00:00');
+INSERT OR IGNORE INTO temp.sqlite_parameters VALUES ('@at', strftime('%Y-%m-%dT%H:%M:%S', 'now', @zone));
+CREATE TEMP TABLE asked (branch, customer, zone, at,
     CONSTRAINT "@branch is a branch's number" CHECK (typeof(branch) = 'integer'),
     CONSTRAINT "@customer is a customer's number" CHECK (typeof(customer) = 'integer'),
-    CONSTRAINT "@at is a moment" CHECK (at GLOB '????-??-??T??:??:??'));
-INSERT INTO asked VALUES (@branch, @customer, @at);
+    CONSTRAINT "@zone is an offset, as -07:00" CHECK (zone GLOB '[+-][0-9][0-9]:[0-9][0-9]'),
+    CONSTRAINT "@at is a moment" CHECK (coalesce(at, '') GLOB '????-??-??T??:??:??'));
+INSERT INTO asked VALUES (@branch, @customer, @zone, @at);
 WITH
 fees AS (
     -- what each rental that began by the moment costs, by the rule that the chain goes by

@@ -1,14 +1,16 @@
 -- A branch's books as a journal of hledger: what its rentals cost, by the rule that the chain goes by, and what was paid. `assets:drawer` is the takings, and
 -- `assets:customers:N` what customer N owes, as `GET /balance`. Days are of the branch's own moments.
--- Asked: @branch, the branch's number; @at, a moment, which is this machine's clock where none is set.
+-- Asked: @branch, the branch's number; @at, a moment, or else now in the time of @zone; @zone, an offset as -07:00, or else UTC.
 -- Units: dollars. A late day and a replacement are of the day of the return, or of the moment's day where the copy is out.
 -- sqlite3 -readonly -bail -list -noheader -cmd ".parameter set @branch 1" -cmd ".parameter set @at 2026-03-31T18:00:00" COPY < reports/journal.sql
 .parameter init
-INSERT OR IGNORE INTO temp.sqlite_parameters VALUES ('@at', strftime('%Y-%m-%dT%H:%M:%S', 'now', 'localtime'));
-CREATE TEMP TABLE asked (branch, at,
+INSERT OR IGNORE INTO temp.sqlite_parameters VALUES ('@zone', '+00:00');
+INSERT OR IGNORE INTO temp.sqlite_parameters VALUES ('@at', strftime('%Y-%m-%dT%H:%M:%S', 'now', @zone));
+CREATE TEMP TABLE asked (branch, zone, at,
     CONSTRAINT "@branch is a branch's number" CHECK (typeof(branch) = 'integer'),
-    CONSTRAINT "@at is a moment" CHECK (at GLOB '????-??-??T??:??:??'));
-INSERT INTO asked VALUES (@branch, @at);
+    CONSTRAINT "@zone is an offset, as -07:00" CHECK (zone GLOB '[+-][0-9][0-9]:[0-9][0-9]'),
+    CONSTRAINT "@at is a moment" CHECK (coalesce(at, '') GLOB '????-??-??T??:??:??'));
+INSERT INTO asked VALUES (@branch, @zone, @at);
 WITH
 fees AS (
     -- what each rental that began by the moment costs, by the rule that the chain goes by

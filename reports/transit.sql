@@ -1,12 +1,14 @@
 -- For head office: the consignments that aren't received, as its word `transit`, with when they were sent and their age at a moment.
--- Asked: @at, a moment, which is this machine's clock where none is set.
+-- Asked: @at, a moment, or else now in the time of @zone; @zone, an offset as -07:00, or else UTC.
 -- Units: `days` are those of the sender's calendar. `films` are the lines' films by their numbers.
 -- sqlite3 -readonly -bail -box -cmd ".parameter set @at 2026-03-31T18:00:00" COPY < reports/transit.sql
 .parameter init
-INSERT OR IGNORE INTO temp.sqlite_parameters VALUES ('@at', strftime('%Y-%m-%dT%H:%M:%S', 'now', 'localtime'));
-CREATE TEMP TABLE asked (at,
-    CONSTRAINT "@at is a moment" CHECK (at GLOB '????-??-??T??:??:??'));
-INSERT INTO asked VALUES (@at);
+INSERT OR IGNORE INTO temp.sqlite_parameters VALUES ('@zone', '+00:00');
+INSERT OR IGNORE INTO temp.sqlite_parameters VALUES ('@at', strftime('%Y-%m-%dT%H:%M:%S', 'now', @zone));
+CREATE TEMP TABLE asked (zone, at,
+    CONSTRAINT "@zone is an offset, as -07:00" CHECK (zone GLOB '[+-][0-9][0-9]:[0-9][0-9]'),
+    CONSTRAINT "@at is a moment" CHECK (coalesce(at, '') GLOB '????-??-??T??:??:??'));
+INSERT INTO asked VALUES (@zone, @at);
 WITH sent AS (
     -- when a consignment was sent stands in the command that is kept of it: behind four bytes the moment, then a 7
     SELECT k.caller AS source, json_extract(k.reply, '$.to') AS addressee, json_extract(k.reply, '$.consignment') AS number,

@@ -1,4 +1,4 @@
-# Completion for `till`, for Bash: its words and their options, and head office's words after `office`. bench/packages holds them against what the program says.
+# Completion for `till`, for Bash: its words and their options, zones after `--zone`, and head office's words after `office`. bench/packages holds them against what the program says.
 
 _till() {
     local -A options=(
@@ -26,8 +26,14 @@ _till() {
         [waiting]=""
         [send]=""
         [last]="--count"
+        [day]="--date --count"
+        [slip]=""
+        [today]="--date"
+        [zone]="--name"
+        [desk]="--port"
+        [window]="--address --staff"
         [help]=""
-        [init]="--address --token --staff --office"
+        [init]="--address --token --staff --zone --office"
         [office]=""
     )
     local office="country-add language-add category-add city-add actor-add film-add film-price film-withdraw cast-add branch-add staff-add staff-leave manager-set balance-rule sales custody transit audit"
@@ -40,10 +46,13 @@ _till() {
     done
     case $previous in
         --book | --file) compopt -o default ;;
-        --json | --office) ;&
+        --zone) offered="UTC $(awk -F '\t' '!/^#/ {print $3}' /usr/share/zoneinfo/zone.tab 2>/dev/null)" ;;
+        --json | --yes | --office) ;&
         [!-]*)
             if [[ -z $word ]]; then
-                offered="${!options[*]} --book --json --staff --help"
+                offered="${!options[*]} --book --json --staff --yes --help"
+            elif [[ $word == help ]]; then
+                ((at + 1 < COMP_CWORD)) || offered="${!options[*]}"
             elif [[ $word == office ]]; then
                 ((at + 1 < COMP_CWORD)) || offered=$office
             elif [[ $word == import && $previous == import ]]; then

@@ -1,5 +1,5 @@
 #compdef till
-# Completion for `till`, for Zsh: its words and their options, and head office's words after `office`. bench/packages holds them against what the program says.
+# Completion for `till`, for Zsh: its words and their options, zones after `--zone`, and head office's words after `office`. bench/packages holds them against what the program says.
 
 _till() {
     local -A options=(
@@ -27,8 +27,14 @@ _till() {
         [waiting]=""
         [send]=""
         [last]="--count"
+        [day]="--date --count"
+        [slip]=""
+        [today]="--date"
+        [zone]="--name"
+        [desk]="--port"
+        [window]="--address --staff"
         [help]=""
-        [init]="--address --token --staff --office"
+        [init]="--address --token --staff --zone --office"
         [office]=""
     )
     local -a office=(country-add language-add category-add city-add actor-add film-add film-price film-withdraw cast-add branch-add staff-add staff-leave manager-set balance-rule sales custody transit audit)
@@ -41,9 +47,12 @@ _till() {
     done
     case $words[CURRENT-1] in
         --book | --file) _files ;;
-        --json | --office | [^-]*)
+        --zone) compadd -- UTC ${(f)"$(awk -F '\t' '!/^#/ {print $3}' /usr/share/zoneinfo/zone.tab 2>/dev/null)"} ;;
+        --json | --yes | --office | [^-]*)
             if [[ -z $word ]]; then
-                compadd -- ${(k)options} --book --json --staff --help
+                compadd -- ${(k)options} --book --json --staff --yes --help
+            elif [[ $word == help ]]; then
+                (( at + 1 < CURRENT )) || compadd -- ${(k)options}
             elif [[ $word == office ]]; then
                 (( at + 1 < CURRENT )) || compadd -a office
             elif [[ $word == import && $words[CURRENT-1] == import ]]; then

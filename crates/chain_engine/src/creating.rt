@@ -5,8 +5,9 @@ ghost use Rattle.shop_schema.specs.Shop.{first_books};
 ghost use Rattle.chain_files.specs.Openings.{IsCreated, IsNotCreated};
 
 use crate::chain::Chain;
-use chain_files::{FirstRows, OpenFault, connect, create, first_values, give_back};
+use chain_files::{FirstRows, OpenFault, connect, create, first_values};
 use shop_types::{Limits, Token};
+use sql_files::close;
 use sqlite::{FileStore, Files};
 use sqlite_disk::Disk;
 use std::alloc::Global;
@@ -29,7 +30,7 @@ impl<D: Disk + Drop> Chain<FileStore<D>> {
         let mut conn = connect(alloc, files)?;
         match create(&mut conn, &first) {
             Ok(()) => Ok(Chain::over(alloc, conn, limits)),
-            Err(fault) => Err((fault, give_back(conn))),
+            Err(fault) => Err((fault, close(conn))),
         }
     }
 }

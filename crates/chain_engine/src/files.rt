@@ -12,8 +12,9 @@ ghost use Rattle.sql_rows.specs.Files.{HoldsOne};
 ghost use Rattle.chain_files.specs.Openings.{IsOpenedIn, IsNotOpened};
 
 use crate::chain::Chain;
-use chain_files::{OpenFault, connect, examine, give_back};
+use chain_files::{OpenFault, connect, examine};
 use shop_types::Limits;
+use sql_files::close;
 use sqlite::{FileStore, Files};
 use sqlite_disk::Disk;
 use std::alloc::Global;
@@ -33,7 +34,7 @@ impl<D: Disk + Drop> Chain<FileStore<D>> {
         let mut conn = connect(alloc, files)?;
         match examine(alloc, &mut conn) {
             Ok(()) => Ok(Chain::over(alloc, conn, limits)),
-            Err(fault) => Err((fault, give_back(conn))),
+            Err(fault) => Err((fault, close(conn))),
         }
     }
 
@@ -56,7 +57,7 @@ impl<D: Disk + Drop> Chain<FileStore<D>> {
             conn,
             alloc: _,
         } = self;
-        give_back(conn)
+        close(conn)
     }
 
     /// Closes the chain and opens its files again, with the limits that it had. The new chain has the same books. If

@@ -4,8 +4,9 @@ ghost use Rattle.std.specs.Prelude.{◌≡◌, IfOk, IfErr};
 ghost use Rattle.chain_files.specs.Openings.{IsMigratedIn, IsNotMigrated};
 
 use crate::chain::Chain;
-use chain_files::{OpenFault, connect, give_back, migrate_first};
+use chain_files::{OpenFault, connect, migrate_first};
 use shop_types::Limits;
+use sql_files::close;
 use sqlite::{FileStore, Files};
 use sqlite_disk::Disk;
 use std::alloc::Global;
@@ -27,7 +28,7 @@ impl<D: Disk + Drop> Chain<FileStore<D>> {
         let mut conn = connect(alloc, files)?;
         match migrate_first(alloc, &mut conn) {
             Ok(()) => Ok(Chain::over(alloc, conn, limits)),
-            Err(fault) => Err((fault, give_back(conn))),
+            Err(fault) => Err((fault, close(conn))),
         }
     }
 }

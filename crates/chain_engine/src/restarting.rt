@@ -14,21 +14,10 @@ ghost use Rattle.chain_files.specs.Openings.{IsNotOpened};
 use crate::chain::Chain;
 use chain_files::OpenFault;
 use shop_types::Limits;
+use sql_files::crashed;
 use sqlite::{FileStore, Files};
 use sqlite_disk::Crash;
 use std::alloc::Global;
-
-/// Crashes the disks of both files, and returns the files as the crash leaves them.
-fn crashed<D: Crash + Drop>(files: Files<D>) -> Files<D>
-    ensures left { (image : Image) → outcomes D.Disk result.log result.db image
-        → outcomes D.Disk files.log files.db image }
-    ensures clean { AreClean D.Disk result.log result.db → AreClean D.Disk files.log files.db }
-{
-    let Files { mut log, mut db } = files;
-    log.crash();
-    db.crash();
-    Files { log, db }
-}
 
 /// Stops a chain, lets its disks crash, and opens the files that are left, with the given limits. The new chain has
 /// the books of the old one. If the store had failed, it has the books before the request at which it failed, or the

@@ -22,8 +22,9 @@ use Rattle.chain_files.specs.Migrations.{StandsSoundlyForVersion1, AreMigrated, 
 use Rattle.chain_files.specs.Openings.{IsNotMigrated}
 use Rattle.chain_files.proofs.Deciding.{stands_in_any}
 use Rattle.chain_files.proofs.FirstRow.{first_row}
-use Rattle.chain_files.proofs.Opening.{kept_one, only_committed, one_version, begins_with_some, version_there, same_trees, shows_found, shows_what_is_held}
-use Rattle.chain_files.proofs.Opening.{committed_database, is_database, holds_no_chain}
+use Rattle.sql_files.proofs.Keeping.{kept_one, only_committed}
+use Rattle.sql_files.proofs.Found.{same_trees, shows_found, shows_what_is_held, committed_database, is_database, shows_one}
+use Rattle.chain_files.proofs.Opening.{one_version, begins_with_some, version_there, holds_no_chain}
 
 -- ---- the version in the first table
 
@@ -125,7 +126,7 @@ module _ {D : Type 0} {g : Ghosts D} (c : Held (FileStore D g)) (files : Files D
   -- the books that the files keep, in one of the two versions
   in_either : SeenMayStay g → (books : Books) → KeepsInEither g files books → ∥ StandsInEither books opened_state.committed.trees ∥₁
   in_either stays books keeps =
-      ∥∥₁_map (keeps.left found.honest (image_of g files) (stays _, stays _)) (λ it. subst (StandsInEither books) (sym (found.holds it.0 it.2)) it.1)
+      shows_one c files opened found stays (StandsInEither books) (keeps.left found.honest)
 
   becomes : (books : Books) (db : Trees) → IsFirst opened_state → AreMigrated opened_state.now.trees db
       → KeepsInEither g files books → StandsInEither books opened_state.committed.trees → StandsFor db (migrated books)

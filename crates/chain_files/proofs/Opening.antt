@@ -1,13 +1,13 @@
 -- What opening files finds, and what files hold after the store is closed.
 use Rattle.std.proofs.Common.{◌⊎◌}
 use Rattle.std.specs.Prelude.{◌==◌}
-use Rattle.shop_schema.proofs.Common.{[], ◌≡◌, ◌≢◌, ◌∙◌, inl, inr, refl, sym, ap, subst, true, false, IsTrue, arith, map, take, ℕ, List, ◌∷◌, pos, negsuc}
-use Rattle.shop_schema.proofs.Common.{AllZip, cases_Bool, length_permutation, ∥∥₁_elim, ∥∥₁_map, column, Value, Null, Int, Real, Blob, Trees, IsClean}
-use Rattle.shop_schema.proofs.Common.{Trees-set, no_doubt, AreListed, IsTableRow, IsIndexRow, IsViewRow, Database, State, HasCleanDisk, Survives, Held}
-use Rattle.shop_schema.proofs.Common.{AreDatabases, HoldsDatabase, Finds, IsOpened, IsEmpty, over_files, file_state, image_of, one_permutation, opens_again}
+use Rattle.shop_schema.proofs.Common.{[], ◌≡◌, ◌≢◌, ◌∙◌, inl, inr, refl, sym, ap, subst, true, false, arith, map, take, ℕ, List, ◌∷◌, pos, negsuc}
+use Rattle.shop_schema.proofs.Common.{cases_Bool, length_permutation, ∥∥₁_elim, ∥∥₁_map, column, Value, Null, Int, Real, Blob, Trees}
+use Rattle.shop_schema.proofs.Common.{Trees-set, Database, State, Held}
+use Rattle.shop_schema.proofs.Common.{Finds, IsOpened, over_files, file_state, image_of, one_permutation}
 use Rattle.shop_schema.proofs.Common.{no_schema, columns_of, HasRows, number_value, opened_keyed, one_schema, Books, IsSound, AreValues, shop_schema}
 use Rattle.shop_schema.proofs.Common.{HasVersion, StandsFor, this_version, first_version, versioned_columns, Schema, version_of, version_told, HoldsOne}
-use Rattle.shop_schema.proofs.Common.{IsHeldIn, IsFoundIn, OpenFailed}
+use Rattle.shop_schema.proofs.Common.{IsHeldIn, OpenFailed}
 use Rattle.shop_schema.specs.declared.known.KnownVersion.{KnownVersion}
 use Rattle.shop_schema.specs.declared.known.KnownVersion.TheVariants.{This, First, Other}
 use mathlib.Core.HLevel.{⊥_prop}
@@ -15,42 +15,24 @@ use Rattle.sqlite_disk.specs.declared.Disk.{Ghosts}
 use Rattle.sqlite_disk.specs.declared.Files.{Files}
 use Rattle.sqlite_value.specs.Order.{Row}
 use Rattle.sqlite.specs.declared.types.Value.TheVariants.{Text}
-use Rattle.sqlite_wal.specs.Files.{outcomes}
 use Rattle.sqlite_wal.specs.Reads.{AreClean}
 use Rattle.sqlite_wal.proofs.LogLemmas.{SeenMayStay}
-use Rattle.sqlite_pool.proofs.StateLemmas.{clean_is, may_leave_is}
 use Rattle.sqlite_store.specs.declared.store.FileStore.{FileStore}
-use Rattle.sqlite_store.specs.FileStore.{view, recovers, files as store_files}
-use Rattle.sqlite_store.specs.Laws.{settled_at}
+use Rattle.sqlite_store.specs.FileStore.{files as store_files}
 use Rattle.sqlite_catalog.specs.Listing.{IsSound as IsDatabaseOf}
 use Rattle.shop_schema.specs.declared.known.KnownVersion.TheVariants.{Missing}
 use Rattle.chain_requests.specs.Chains.{Rests, IsAt, StandsForEither, StandsSoundly, widest_rules}
 use Rattle.chain_caches.proofs.FilmRows.{no_rows}
 use Rattle.chain_caches.proofs.CallerSteps.{no_callers}
 use Rattle.chain_requests.specs.Holding.{Chained}
+use Rattle.sql_files.proofs.Keeping.{kept_one, only_committed}
+use Rattle.sql_files.proofs.Found.{same_trees, shows_found, committed_database, is_database, shows_what_is_held, shows_one, still_one}
 use Rattle.chain_files.proofs.Deciding.{stands_in_any}
 use Rattle.chain_files.specs.declared.faults.OpenFault.{OpenFault}
 use Rattle.chain_files.specs.declared.faults.OpenFault.TheVariants as fault
 use Rattle.chain_files.specs.Files.{HoldsBooks, KeepsBooks, KeepsEither, HoldsNoChain, HoldsSoundly, HoldsDamage, HasThisVersion, HasNoVersion, HasOtherVersion}
 use Rattle.chain_files.specs.Files.{TellsVersion, Knows}
 use Rattle.chain_files.specs.Openings.{IsNotOpened}
-
-pub clean_store : {D : Type 0} {g : Ghosts D} (it : FileStore D g) (files : Files D)
-    → (files.log, files.db) ≡ store_files it → AreClean g files.log files.db → IsClean (view it)
-clean_store {D} {g} it files is honest = no_doubt _ (clean_is it.pool ∙ subst (λ (p : D × D). AreClean g p.0 p.1) is honest)
-
--- any outcome of a crash of a closed store's files is a database that the store allowed
-pub holds_one : {D : Type 0} {g : Ghosts D} (it : FileStore D g) (files : Files D) (P : Trees → Type 0)
-    → (files.log, files.db) ≡ store_files it → AreClean g files.log files.db
-    → IsTrue (view it).is_numbered → AreDatabases (recovers it) → ((db : Trees) → recovers it db → P db) → HoldsOne g files P
-holds_one {D} {g} it files P is honest numbered sound within image may =
-    let clean = subst (λ (p : D × D). AreClean g p.0 p.1) is honest in
-    ∥∥₁_map (opens_again it numbered sound image (may_leave_is it.pool image clean (subst (λ (p : D × D). outcomes g p.0 p.1 image) is may)))
-    (λ found. let r : (db : Trees) × P db × HoldsDatabase image db = (found.0, within found.0 found.1, found.2) in r)
-
-pub kept_one : {D : Type 0} (g : Ghosts D) (files : Files D) (P Q : Trees → Type 0) → HoldsOne g files P → ((db : Trees) → P db → Q db) → HoldsOne g files Q
-kept_one g files P Q holds weaker image may =
-    ∥∥₁_map (holds image may) (λ found. let r : (db : Trees) × Q db × HoldsDatabase image db = (found.0, weaker found.0 found.1, found.2) in r)
 
 -- the files of a chain that is closed keep its books
 pub keeps_books : {D : Type 0} {g : Ghosts D} (chain : Chained (FileStore D g)) (files : Files D)
@@ -91,26 +73,6 @@ opened_at chain books live none nobody sound values rests = record {
     apart : false ≡ true → ⊥
     apart e = cc
 
--- while a connection is open, a crash leaves only the last commit
-pub only_committed : {D : Type 0} {g : Ghosts D} (c : Held (FileStore D g)) → SeenMayStay g
-    → IsTrue (file_state c).is_open → (db : Trees) → (file_state c).may_leave db → db ≡ (file_state c).committed.trees
-only_committed c stays live db may = settled_at c.store stays db live may
-
--- ---- tables
-
-nothing_listed : {A B : Type 0} (P : A → B → Type 0) (ys : List B) → AllZip P [] ys → ys ≡ []
-nothing_listed P [] h = refl
-nothing_listed P (y ∷ ys) h = elim h [ ]
-
--- an empty database has no table
-empty_has_none : (schema : Schema) (db : Trees) → IsEmpty db → IsDatabaseOf schema db → schema ≡ no_schema
-empty_has_none schema db empty sound =
-    let listed : AreListed [] schema = subst (λ (rows : List Row). AreListed rows schema) empty.1 sound.lists.listed in
-    let tables : schema.tables ≡ [] = nothing_listed IsTableRow schema.tables listed.tables in
-    let indexes : schema.indexes ≡ [] = nothing_listed (IsIndexRow schema.tables) schema.indexes listed.indexes in
-    let views : schema.views ≡ [] = nothing_listed IsViewRow schema.views listed.views in
-    λ i. record { tables = tables i; indexes = indexes i; views = views i }
-
 -- a database that begins with the table of the version has a table
 pub begins_with_some : (schema : Schema) → HasVersion schema → schema ≢ no_schema
 begins_with_some schema begins none = subst HasVersion none begins
@@ -149,13 +111,6 @@ module _ {D : Type 0} {g : Ghosts D} (c : Held (FileStore D g)) (files : Files D
   abbrev opened_state : State
   opened_state = file_state c
 
-  pub same_trees : opened_state.now.trees ≡ opened_state.committed.trees
-  same_trees = ap (λ (d : Database). d.trees) opened.0.clean
-
-  -- the database of the files is what the connection shows
-  pub shows_found : (db : Trees) → HoldsDatabase (image_of g files) db → opened_state.now.trees ≡ db
-  shows_found db held = same_trees ∙ found.holds db held
-
   rests_on : SeenMayStay g → opened_state.now.schema ≡ shop_schema → (books : Books) → StandsFor opened_state.committed.trees books → Rests opened_state books
   rests_on stays schema books stands =
       record {
@@ -176,125 +131,84 @@ module _ {D : Type 0} {g : Ghosts D} (c : Held (FileStore D g)) (files : Files D
 
   -- the books that an audit found
   pub sound_rests : SeenMayStay g → opened_state.now.schema ≡ shop_schema → (books : Books) → StandsFor opened_state.now.trees books → Rests opened_state books
-  sound_rests stays schema books stands = rests_on stays schema books (subst (λ (t : Trees). StandsFor t books) same_trees stands)
+  sound_rests stays schema books stands = rests_on stays schema books (subst (λ (t : Trees). StandsFor t books) (same_trees c files opened found) stands)
 
   -- the books that were closed
   pub kept_rests : SeenMayStay g → opened_state.now.schema ≡ shop_schema → (books : Books) → KeepsBooks g files books → Rests opened_state books
   kept_rests stays schema books keeps =
-      rests_on stays schema books (stands_in_any _ books
-      (∥∥₁_map (keeps.left found.honest (image_of g files) (stays _, stays _)) (λ it. subst (λ t. StandsFor t books) (sym (found.holds it.0 it.2)) it.1)))
+      rests_on stays schema books (stands_in_any _ books (shows_one c files opened found stays (λ db. StandsFor db books) (keeps.left found.honest)))
 
   -- or the books of one of the two
   pub either_rests : SeenMayStay g → opened_state.now.schema ≡ shop_schema → (books besides : Books) → KeepsEither g files books besides
       → ∥ Rests opened_state books ⊎ (IsSound widest_rules besides × AreValues besides × Rests opened_state besides) ∥₁
   either_rests stays schema books besides keeps =
-      ∥∥₁_map (keeps.left found.honest (image_of g files) (stays _, stays _)) (λ it.
-      let stands : StandsForEither books besides opened_state.committed.trees = subst (StandsForEither books besides) (sym (found.holds it.0 it.2)) it.1 in
-      elim stands [
+      ∥∥₁_map (shows_one c files opened found stays (StandsForEither books besides) (keeps.left found.honest)) (λ stands. elim stands [
         | inl first ↦ inl (rests_on stays schema books first)
         | inr other ↦ inr (other.0, other.1, rests_on stays schema besides other.2)
       ])
 
-  pub committed_database : IsDatabaseOf opened_state.now.schema opened_state.committed.trees
-  committed_database = subst (IsDatabaseOf opened_state.now.schema) same_trees (opened.1 opened.0.is_open).0
-
-  -- what is found in the files is what the connection shows
-  pub shows_what_is_found : IsFoundIn (image_of g files) opened_state.committed.trees
-  shows_what_is_found = elim found.reads [
-    | inl it ↦ inl (record { recovers = it; only = found.holds })
-    | inr none ↦ inr (none.0, none.1, found.holds)
-  ]
-
-  -- and if the database has a table, the files hold the database
-  pub shows_what_is_held : opened_state.now.schema ≢ no_schema → IsHeldIn (image_of g files) opened_state.committed.trees
-  shows_what_is_held some = elim found.reads [
-    | inl it ↦ record { recovers = it; only = found.holds }
-    | inr none ↦ absurd (some (empty_has_none opened_state.now.schema opened_state.committed.trees none.1 committed_database))
-  ]
-
   held_of_shop : opened_state.now.schema ≡ shop_schema → IsHeldIn (image_of g files) opened_state.committed.trees
-  held_of_shop schema = shows_what_is_held (begins_with_some opened_state.now.schema (subst HasVersion (sym schema) refl))
+  held_of_shop schema = shows_what_is_held c files opened found (begins_with_some opened_state.now.schema (subst HasVersion (sym schema) refl))
 
   pub holds_sound : opened_state.now.schema ≡ shop_schema → (books : Books) → StandsFor opened_state.now.trees books → HoldsSoundly (image_of g files) books
-  holds_sound schema books stands = (opened_state.committed.trees, held_of_shop schema, subst (λ (t : Trees). StandsFor t books) same_trees stands)
-
-  pub is_database : (db : Trees) → HoldsDatabase (image_of g files) db → IsDatabaseOf opened_state.now.schema db
-  is_database db held = subst (IsDatabaseOf opened_state.now.schema) (shows_found db held) (opened.1 opened.0.is_open).0
+  holds_sound schema books stands = (opened_state.committed.trees, held_of_shop schema, subst (λ (t : Trees). StandsFor t books) (same_trees c files opened found) stands)
 
   pub holds_no_chain : Knows Missing opened_state → HoldsNoChain (image_of g files)
   holds_no_chain (inl none) db held sound books stands =
-      let same = one_schema opened_state.now.schema shop_schema db (is_database db held) sound refl in
+      let same = one_schema opened_state.now.schema shop_schema db (is_database c files opened found db held) sound refl in
       let begins : HasVersion shop_schema = refl in
       none (subst HasVersion (sym same) begins)
   holds_no_chain (inr (inl none)) db held sound books stands =
-      one_version (db 0) _ stands.chain (subst (λ (t : Trees). version_of (map (columns_of 1) (t 0)) ≡ Missing) (shows_found db held) none)
+      one_version (db 0) _ stands.chain (subst (λ (t : Trees). version_of (map (columns_of 1) (t 0)) ≡ Missing) (shows_found c files opened found db held) none)
   holds_no_chain (inr (inr (told, other))) db held sound books stands =
-      other (one_schema opened_state.now.schema shop_schema db (is_database db held) sound refl)
+      other (one_schema opened_state.now.schema shop_schema db (is_database c files opened found db held) sound refl)
 
   pub has_this_version : Knows This opened_state → HasThisVersion (image_of g files)
   has_this_version it = (
     opened_state.committed.trees,
     held_of_shop it.0,
-    subst (λ (schema : Schema). IsDatabaseOf schema opened_state.committed.trees) it.0 committed_database,
-    subst (λ (t : Trees). version_of (map (columns_of 1) (t 0)) ≡ This) same_trees it.1,
+    subst (λ (schema : Schema). IsDatabaseOf schema opened_state.committed.trees) it.0 (committed_database c files opened found),
+    subst (λ (t : Trees). version_of (map (columns_of 1) (t 0)) ≡ This) (same_trees c files opened found) it.1,
   )
 
   pub holds_damage : Knows This opened_state → ¬ StandsSoundly opened_state.now.trees → HoldsDamage (image_of g files)
   unfolding has_this_version
-  holds_damage it none = let this = has_this_version it in (this.0, this.1, this.2, this.3, λ sound. none (subst StandsSoundly (sym same_trees) sound))
+  holds_damage it none = let this = has_this_version it in (this.0, this.1, this.2, this.3, λ sound. none (subst StandsSoundly (sym (same_trees c files opened found)) sound))
 
   pub has_no_version : Knows Missing opened_state → HasNoVersion (image_of g files)
-  has_no_version (inl none) db held = (opened_state.now.schema, is_database db held, inl none)
+  has_no_version (inl none) db held = (opened_state.now.schema, is_database c files opened found db held, inl none)
   has_no_version (inr (inl none)) db held = (
     opened_state.now.schema,
-    is_database db held,
-    inr (inl (subst (λ (t : Trees). version_of (map (columns_of 1) (t 0)) ≡ Missing) (shows_found db held) none)),
+    is_database c files opened found db held,
+    inr (inl (subst (λ (t : Trees). version_of (map (columns_of 1) (t 0)) ≡ Missing) (shows_found c files opened found db held) none)),
   )
   has_no_version (inr (inr (told, other))) db held = (
     opened_state.now.schema,
-    is_database db held,
-    inr (inr (subst (λ (t : Trees). version_of (map (columns_of 1) (t 0)) ≡ This) (shows_found db held) told, other)),
+    is_database c files opened found db held,
+    inr (inr (subst (λ (t : Trees). version_of (map (columns_of 1) (t 0)) ≡ This) (shows_found c files opened found db held) told, other)),
   )
 
   pub tells_version : (known : KnownVersion) → HasVersion opened_state.now.schema
       → version_of (map (columns_of 1) (opened_state.now.trees 0)) ≡ known → TellsVersion known (image_of g files)
   tells_version known begins told = (
     opened_state.committed.trees,
-    shows_what_is_held (begins_with_some opened_state.now.schema begins),
+    shows_what_is_held c files opened found (begins_with_some opened_state.now.schema begins),
     opened_state.now.schema,
-    committed_database,
+    committed_database c files opened found,
     begins,
-    subst (λ (t : Trees). version_of (map (columns_of 1) (t 0)) ≡ known) same_trees told,
+    subst (λ (t : Trees). version_of (map (columns_of 1) (t 0)) ≡ known) (same_trees c files opened found) told,
   )
 
   pub has_other_version : Knows First opened_state ⊎ Knows Other opened_state → HasOtherVersion (image_of g files)
   has_other_version (inl it) = inl (tells_version First it.0 it.1)
   has_other_version (inr it) = inr (tells_version Other it.0 it.1)
 
-  -- calls that commit nothing leave the files so
-  pub left_as_found : SeenMayStay g → (new : Held (FileStore D g)) (now : Files D)
-      → Survives (file_state c) (file_state new) (λ _. ⊥) → HasCleanDisk (file_state new)
-      → HoldsOne g now (file_state new).may_leave → HoldsOne g now (λ left. left ≡ opened_state.committed.trees)
-  left_as_found stays new now survives clean holds =
-      kept_one g now _ _ holds (λ left may. elim (survives.crash clean left may) [
-        | inl before ↦ only_committed c stays opened.0.is_open left before
-        | inr none ↦ absurd none
-      ])
-
-  -- files that hold what was found keep what the first files kept
-  still_one : SeenMayStay g → (now : Files D) → HoldsOne g now (λ left. left ≡ opened_state.committed.trees)
-      → (P : Trees → Type 0) → HoldsOne g files P → HoldsOne g now P
-  still_one stays now same P holds image may =
-      ∥∥₁_elim (holds (image_of g files) (stays _, stays _)) squash₁ (λ it.
-      let is : P opened_state.committed.trees = subst P (sym (found.holds it.0 it.2)) it.1 in
-      ∥∥₁_map (same image may) (λ one. let r : (db : Trees) × P db × HoldsDatabase image db = (one.0, subst P (sym one.1) is, one.2) in r))
-
   pub still_books : SeenMayStay g → (now : Files D) → HoldsOne g now (λ left. left ≡ opened_state.committed.trees)
       → (books : Books) → KeepsBooks g files books → KeepsBooks g now books
   still_books stays now same books keeps = record {
     sound = keeps.sound;
     values = keeps.values;
-    left = λ _. still_one stays now same (λ db. StandsFor db books) (keeps.left found.honest);
+    left = λ _. still_one c files opened found stays now same (λ db. StandsFor db books) (keeps.left found.honest);
   }
 
   pub still_either : SeenMayStay g → (now : Files D) → HoldsOne g now (λ left. left ≡ opened_state.committed.trees)
@@ -302,7 +216,7 @@ module _ {D : Type 0} {g : Ghosts D} (c : Held (FileStore D g)) (files : Files D
   still_either stays now same books besides keeps = record {
     sound = keeps.sound;
     values = keeps.values;
-    left = λ _. still_one stays now same (StandsForEither books besides) (keeps.left found.honest);
+    left = λ _. still_one c files opened found stays now same (StandsForEither books besides) (keeps.left found.honest);
   }
 
 -- the files of a closed chain hold no damage, even if its store had failed

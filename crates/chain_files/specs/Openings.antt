@@ -23,13 +23,14 @@ use Rattle.chain_files.specs.Migrations.{AreMigrated}
 use Rattle.chain_files.specs.Files.{HoldsBooks, KeepsBooks, KeepsEither, HoldsNoChain, HoldsSoundly, HoldsDamage, HasThisVersion, HasNoVersion, HasOtherVersion}
 use Rattle.chain_files.specs.Files.{TellsVersion, HoldsVersion1Books, HoldsVersion1Soundly, KeepsVersion1Books, KeepsInEither, HoldsNoVersion1, HasVersion1}
 use Rattle.chain_files.specs.Files.{HasNeitherVersion, HoldsVersion1Damage}
+use Rattle.sql_files.specs.Making.{IsNoneOr}
 use Rattle.sql_rows.specs.Files.{HoldsOne, IsHeldIn, IsFoundIn, OpenFailed, HoldsNoTable}
 
 -- ---- making
 
 -- a database with no table, or a database whose tables stand for the books
 abbrev pub IsNoneOrNew : Books → Trees → Type 0
-IsNoneOrNew books db = IsDatabaseOf no_schema db ⊎ StandsFor db books
+IsNoneOrNew books = IsNoneOr (λ db. StandsFor db books)
 
 -- a chain was made in the files, with the limits and the books
 pub record IsCreated {D : Type 0} {g : Ghosts D} (files : Files D) (given : Limits) (books : Books) (chain : Chained (FileStore D g)) : Type 0 where

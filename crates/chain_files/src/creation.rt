@@ -1,6 +1,6 @@
 //! Makes a chain's tables with their first rows, all in one transaction.
 
-ghost use Rattle.std.specs.Prelude.{◌≡◌, ◌≢◌, ◌↔◌, false, IsTrue, IfOk, OnOk, IfErr};
+ghost use Rattle.std.specs.Prelude.{◌≡◌, ◌≢◌, false, IfOk, OnOk, IfErr};
 ghost use Rattle.sqlite.specs.Held.{state};
 ghost use Rattle.sqlite.specs.Steps.{over_memory};
 ghost use Rattle.sqlite.specs.State.{HasCleanDisk, Survives};
@@ -14,9 +14,9 @@ use crate::faults::{OpenFault, named};
 use shop_schema::create_tables;
 use shop_store::opening::{put_opening, put_token};
 use shop_types::Token;
+use sql_files::has_no_table;
 use sql_rows::{StoreFault, fault_of};
 use sqlite::{Alter, Connection, MemStore, Transaction};
-use sqlite_schema::schema::Schema;
 use std::alloc::Global;
 
 /// The first rows in a new chain's tables.
@@ -72,12 +72,6 @@ fn make<S: Alter>(conn: &mut Connection<S>, first: &FirstRows<'_>) -> Result<(),
     }
 }
 
-fn is_empty(schema: &Schema) -> bool
-    ensures { IsTrue result ↔ (schema.now ≡ no_schema) }
-{
-    schema.tables.is_empty() && schema.indexes.is_empty() && schema.views.is_empty()
-}
-
 /// Makes the tables and the first rows in a database that has no table. Either all is made or nothing. If the database
 /// has a table, returns `Already` and doesn't touch it.
 pub fn create<S: Alter>(conn: &mut Connection<S>, first: &FirstRows<'_>) -> Result<(), OpenFault>
@@ -95,7 +89,7 @@ pub fn create<S: Alter>(conn: &mut Connection<S>, first: &FirstRows<'_>) -> Resu
     ensures version { IfErr result (λ e. e ≢ OpenFault.OtherVersion) }
     ensures damaged { IfErr result (λ e. e ≢ OpenFault.Damaged) }
 {
-    if !is_empty(conn.schema()) {
+    if !has_no_table(conn.schema()) {
         return Err(OpenFault::Already);
     }
     match make(conn, first) {

@@ -1,22 +1,20 @@
-//! Opens the database in two files, reads its version, and gives the files back.
+//! Opens the database in two files, and reads its version.
 
 ghost use Rattle.std.specs.Prelude.{◌≡◌, ◌≢◌, ◌⊎◌, true, false, Ok, IfOk, OnOk, IfErr, map};
 ghost use Rattle.sqlite.specs.Held.{IsNew, state};
 ghost use Rattle.sqlite.specs.State.{HasCleanDisk, Survives};
-ghost use Rattle.sqlite.specs.Files.{Finds, IsOpened, file_state, image_of};
-ghost use Rattle.sqlite_wal.specs.Files.{outcomes};
-ghost use Rattle.sqlite_wal.specs.Reads.{AreClean};
+ghost use Rattle.sqlite.specs.Files.{Finds, IsOpened, file_state};
 ghost use Rattle.sql_rows.specs.Rows.{columns_of};
 ghost use Rattle.shop_model.specs.Books.{Books};
 ghost use Rattle.shop_schema.specs.Shop.{HasVersion};
 ghost use Rattle.shop_schema.specs.Versions.{version_of};
 ghost use Rattle.chain_requests.specs.Chains.{Rests, StaysAsFound};
-ghost use Rattle.sql_rows.specs.Files.{HoldsOne, OpenFailed};
+ghost use Rattle.sql_rows.specs.Files.{OpenFailed};
 
 use crate::faults::{OpenFault, named};
 use shop_schema::{KnownVersion, version};
-use sql_rows::{StoreFault, fault_of};
-use sqlite::{Alter, Connection, FileStore, Files, Options};
+use sql_rows::StoreFault;
+use sqlite::{Alter, Connection, FileStore, Files};
 use sqlite_disk::Disk;
 use std::alloc::Global;
 
@@ -34,22 +32,10 @@ pub fn connect<D: Disk + Drop>(
     ensures damaged { IfErr result (λ e. e.0 ≢ OpenFault.Damaged) }
     ensures already { IfErr result (λ e. e.0 ≢ OpenFault.Already) }
 {
-    if !files.may_be_used() {
-        return Err((OpenFault::Store, files));
-    }
-    match Connection::open_files(alloc, files, Options::new(1)) {
+    match sql_files::connect(alloc, files) {
         Ok(conn) => Ok(conn),
-        Err((error, left)) => Err((named(fault_of(error)), left.into_files())),
+        Err((fault, left)) => Err((named(fault), left)),
     }
-}
-
-/// Closes the store and returns the files. Nothing more is written, so the last commits may be only in the log.
-pub fn give_back<D: Disk + Drop>(conn: Connection<FileStore<D>>) -> Files<D>
-    ensures left { AreClean D.Disk result.log result.db → HoldsOne D.Disk result (file_state conn).may_leave }
-    ensures clean { AreClean D.Disk result.log result.db → HasCleanDisk (file_state conn) }
-    ensures seen { outcomes D.Disk result.log result.db (image_of D.Disk result) }
-{
-    conn.into_store().close()
 }
 
 /// Reads the version in the first table, in a transaction that changes nothing.

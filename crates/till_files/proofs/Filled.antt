@@ -1,10 +1,9 @@
 -- How a book that was made before it had tables beside the journal gets them.
-use Rattle.sql_rows.proofs.Common.{◌≡◌, ◌≢◌, ◌∙◌, ◌≤◌, ◌==◌, ◌&&◌, ℕ, Bool, not, true, false, cond, is_gt, cases_Bool, inl, inr, None, List, [], ◌∷◌, map}
-use Rattle.sql_rows.proofs.Common.{filter, length, Ok, refl, sym, ap, subst, arith, AllByRecursion, IsPermutation, IsPermutation-refl, IsPermutation-sym}
-use Rattle.sql_rows.proofs.Common.{IsPermutation-trans, IsPermutation-map, all-permutation, State, Trees, Schema, Table, IsShaped, Index, Tally, Database}
+use Rattle.sql_rows.proofs.Common.{◌≡◌, ◌≢◌, ◌∙◌, ◌==◌, ◌&&◌, ℕ, Bool, not, true, false, cond, is_gt, None, List, [], ◌∷◌, map}
+use Rattle.sql_rows.proofs.Common.{Ok, refl, sym, ap, subst, arith, AllByRecursion, IsPermutation, IsPermutation-refl, IsPermutation-sym}
+use Rattle.sql_rows.proofs.Common.{all-permutation, State, Trees, Schema, Table, IsShaped, Index, Tally, Database}
 use Rattle.sql_rows.proofs.Common.{CreateIndex, Writes, Executes, ExecutesInside, Defines, mode_of, runs_as, created, next_tree, MakesIndex, MakeAll, no_schema}
-use Rattle.sql_rows.proofs.Common.{Differ, by, sort_by, insert_sorted, HasRows, filter_same}
-use Rattle.std.specs.List.{list_any, list_all}
+use Rattle.sql_rows.proofs.Common.{Differ, by, insert_sorted, HasRows, filter_same}
 use Rattle.std.proofs.lemmas.List.Sorted.{list_any-IsPermutation}
 use Rattle.sqlite_trees.specs.declared.store.Shape.TheVariants.{Table as TableShape}
 use Rattle.sqlite_tied.specs.Compute.{everything}
@@ -18,13 +17,11 @@ use Rattle.sql_rows.proofs.Fills.{adds}
 use Rattle.sql_rows.proofs.Creates.{makes_one}
 use Rattle.sql_rows.proofs.Bags.{number_total}
 use Rattle.shop_model.specs.Rows.{numbered}
-use Rattle.shop_model.specs.Values.{Command}
 use Rattle.shop_model.specs.Answers.{Answer}
 use Rattle.till_book.specs.Tables.{book_schema, entry_table, reply_table, settled_table, unsure_table, rented_table, returned_table}
-use Rattle.till_book.specs.Saying.{Say}
-use Rattle.till_book.specs.Marks.{Rented, Returned, rents_told, returns_told, rented_in, returned_in, is_unsure}
-use Rattle.till_book.specs.Journal.{Journal, IsJournal, StandsFor, IsWritten, IsBare, AreMarked, HoldsBare, FindsBare, Holds, is_refused, is_unsettled}
-use Rattle.till_book.specs.Journal.{unsure_of, unsure_columns, rented_columns, returned_columns, entries_in}
+use Rattle.till_book.specs.Marks.{Rented, Returned, rents_told, returns_told, is_unsure}
+use Rattle.till_book.specs.Journal.{Journal, IsBare, AreMarked, HoldsBare, FindsBare, is_refused, is_unsettled}
+use Rattle.till_book.specs.Journal.{unsure_of, unsure_columns, rented_columns, returned_columns}
 use Rattle.till_book.specs.Read.{IsReadOf, in_order}
 use Rattle.till_book.specs.declared.lists.BookRows.{BookRows}
 use Rattle.till_book.proofs.Numbers.{number}
@@ -33,8 +30,8 @@ use Rattle.till_book.proofs.InOrder.{accepted_in_order}
 use Rattle.till_book.proofs.JournalTexts.{entry_text, reply_text, settled_text, makes_entry, makes_reply, makes_settled, unsure_text, rented_text}
 use Rattle.till_book.proofs.JournalTexts.{returned_text, rented_as_text, stage, placeless, rented_as, makes_unsure, makes_rented, makes_returned}
 use Rattle.till_book.proofs.JournalTexts.{makes_rented_as}
-use Rattle.till_files.specs.Migrations.{first_schema, HoldsFirst, HasTables, AddsTables, Fills}
-use Rattle.till_files.specs.Playing.{journal_of, HasMarkedTo, MarksReplies, MarksSettlements}
+use Rattle.till_files.specs.Migrations.{first_schema, AddsTables, Fills}
+use Rattle.till_files.specs.Playing.{journal_of, MarksReplies, MarksSettlements}
 
 -- ---- the tables
 

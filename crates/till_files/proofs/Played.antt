@@ -1,19 +1,18 @@
 -- What the tables beside the journal are after a reply, or a settlement, was played.
 use Rattle.sql_rows.proofs.Common.{◌≡◌, ◌≢◌, ◌∙◌, ◌+◌, ◌<◌, ◌≤◌, ◌==◌, ℕ, zero, suc, true, false, List, [], ◌∷◌, ◌++◌, map, filter, length, take, slice_get}
-use Rattle.sql_rows.proofs.Common.{get_or, Option, Some, None, option_to_list, refl, sym, ap, subst, subst₂, arith, not, AllByRecursion, State, Differ}
+use Rattle.sql_rows.proofs.Common.{get_or, Option, Some, option_to_list, refl, sym, ap, subst, subst₂, arith, not, AllByRecursion, State, Differ}
 use Rattle.std.specs.List.{list_any}
 use Rattle.shop_model.specs.Rows.{numbered}
 use Rattle.shop_model.specs.Answers.{Answer}
 use Rattle.shop_model.proofs.RowLemmas.{differ_test}
 use Rattle.shop_model.proofs.Resends.{same_some, same_none}
-use Rattle.till_book.specs.Tables.{book_schema}
 use Rattle.till_book.specs.Journal.{Journal, is_refused, settled_of}
 use Rattle.till_book.specs.Statements.{DropsUnsure, Marks}
 use Rattle.till_book.specs.Marking.{IsMarkOf, IsReplyMark}
 use Rattle.till_book.specs.declared.marks.Mark.{Mark}
 use Rattle.till_book.proofs.JournalTexts.{picked}
 use Rattle.till_book.proofs.Puttings.{marks_reply, marks_settled}
-use Rattle.till_files.specs.Playing.{journal_of, HasMarkedTo, MarksTo, MarksReply, MarksReplies, MarksSettlement, MarksSettlements}
+use Rattle.till_files.specs.Playing.{journal_of, MarksTo, MarksReply, MarksReplies, MarksSettlement, MarksSettlements}
 
 -- ---- one after another
 

@@ -8,7 +8,7 @@ use Rattle.sqlite_trees.specs.Tree.{Trees}
 use Rattle.sqlite_catalog.specs.Listing.{IsSound as IsDatabaseOf}
 use Rattle.sqlite.specs.State.{State}
 use Rattle.sqlite.specs.Files.{HoldsDatabase}
-use Rattle.sql_rows.specs.Books.{no_schema}
+use Rattle.sql_files.specs.Making.{LeavesMade as MayLeave, IsNoneOr}
 use Rattle.sql_rows.specs.Files.{IsHeldIn, HoldsOne}
 use Rattle.till_book.specs.Tables.{book_schema}
 use Rattle.till_book.specs.Journal.{Journal, StandsFor, IsWritten}
@@ -54,11 +54,11 @@ KeepsEither g files journal besides = AreClean g files.log files.db → HoldsOne
 
 -- what a commit that makes the tables may leave on the disk
 abbrev pub LeavesMade : State → Trees → Type 0
-LeavesMade old db = old.now.schema ≡ no_schema → StandsFor db empty_journal
+LeavesMade old = MayLeave (λ db. StandsFor db empty_journal) old
 
 -- a database with no table, or the tables of a book without an entry
 abbrev pub IsNoneOrNew : Trees → Type 0
-IsNoneOrNew db = IsDatabaseOf no_schema db ⊎ StandsFor db empty_journal
+IsNoneOrNew = IsNoneOr (λ db. StandsFor db empty_journal)
 
 -- ---- books that were made before they had tables beside the journal
 

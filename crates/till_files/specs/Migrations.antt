@@ -1,9 +1,8 @@
 -- How a book that was made before it had tables beside the journal gets them.
-use Rattle.std.specs.Prelude.{◌≡◌, ◌+◌, ℕ, List, [], ◌∷◌, codes, map, take}
+use Rattle.std.specs.Prelude.{◌≡◌, [], ◌∷◌, codes}
 use Rattle.sqlite_trees.specs.Tree.{Trees}
 use Rattle.sqlite.specs.Schema.{Schema}
 use Rattle.sqlite.specs.State.{State}
-use Rattle.sqlite_catalog.specs.Listing.{IsSound as IsDatabaseOf}
 use Rattle.sql_rows.specs.Tables.{automatic_of}
 use Rattle.sql_rows.specs.Books.{IsOf, IsKeyed}
 use Rattle.sql_rows.specs.Calls as calls

@@ -1,6 +1,6 @@
 //! Makes a book in two files that hold no table.
 
-ghost use Rattle.std.specs.Prelude.{◌≡◌, ◌≢◌, ◌↔◌, false, IsTrue, IfOk, OnOk, IfErr};
+ghost use Rattle.std.specs.Prelude.{◌≡◌, ◌≢◌, false, IfOk, OnOk, IfErr};
 ghost use Rattle.sqlite.specs.Held.{state};
 ghost use Rattle.sqlite.specs.State.{HasCleanDisk, Survives};
 ghost use Rattle.sql_rows.specs.Books.{no_schema};
@@ -11,10 +11,10 @@ ghost use Rattle.till_files.specs.Openings.{IsBookMade, IsNotMade};
 
 use crate::faults::{BookFault, named};
 use crate::files::{close_book, connect};
+use sql_files::has_no_table;
 use sql_rows::{StoreFault, fault_of};
 use sqlite::{Alter, Connection, FileStore, Files};
 use sqlite_disk::Disk;
-use sqlite_schema::schema::Schema;
 use std::alloc::Global;
 use till_book::make_journal;
 
@@ -36,12 +36,6 @@ pub fn make<S: Alter>(conn: &mut Connection<S>) -> Result<(), StoreFault>
     }
 }
 
-fn is_empty(schema: &Schema) -> bool
-    ensures { IsTrue result ↔ (schema.now ≡ no_schema) }
-{
-    schema.tables.is_empty() && schema.indexes.is_empty() && schema.views.is_empty()
-}
-
 /// Makes an empty book in a database without a table. Fails with `Already` if the database has a table, and then
 /// changes nothing.
 fn create<S: Alter>(conn: &mut Connection<S>) -> Result<(), BookFault>
@@ -55,7 +49,7 @@ fn create<S: Alter>(conn: &mut Connection<S>) -> Result<(), BookFault>
     ensures crash { Survives (state S.Store conn.old) (state S.Store conn.new) (LeavesMade (state S.Store conn.old)) }
     ensures book { IfErr result (λ e. e ≢ BookFault.NotABook) }
 {
-    if !is_empty(conn.schema()) {
+    if !has_no_table(conn.schema()) {
         return Err(BookFault::Already);
     }
     match make(conn) {

@@ -12,8 +12,7 @@ ghost use Rattle.till_files.specs.Files.{KeepsBook, KeepsEither, LeavesEither};
 ghost use Rattle.sql_rows.specs.Files.{HoldsOne, OpenFailed};
 
 use crate::faults::{BookFault, named};
-use sql_rows::fault_of;
-use sqlite::{Connection, FileStore, Files, Options};
+use sqlite::{Connection, FileStore, Files};
 use sqlite_disk::Disk;
 use std::alloc::Global;
 
@@ -29,12 +28,9 @@ pub fn connect<D: Disk + Drop>(
     ensures book { IfErr result (λ e. e.0 ≢ BookFault.NotABook) }
     ensures already { IfErr result (λ e. e.0 ≢ BookFault.Already) }
 {
-    if !files.may_be_used() {
-        return Err((BookFault::Store, files));
-    }
-    match Connection::open_files(alloc, files, Options::new(1)) {
+    match sql_files::connect(alloc, files) {
         Ok(conn) => Ok(conn),
-        Err((error, left)) => Err((named(fault_of(error)), left.into_files())),
+        Err((fault, left)) => Err((named(fault), left)),
     }
 }
 
@@ -49,5 +45,5 @@ pub fn close_book<D: Disk + Drop>(conn: Connection<FileStore<D>>) -> Files<D>
     ensures clean { AreClean D.Disk result.log result.db → HasCleanDisk (file_state conn) }
     ensures seen { outcomes D.Disk result.log result.db (image_of D.Disk result) }
 {
-    conn.into_store().close()
+    sql_files::close(conn)
 }

@@ -3,9 +3,6 @@
 ghost use Rattle.std.specs.Prelude.{◌≡◌, ◌⊎◌, false, IfOk};
 ghost use Rattle.sqlite.specs.State.{HasCleanDisk};
 ghost use Rattle.sqlite.specs.Files.{file_state};
-ghost use Rattle.sqlite_wal.specs.Files.{outcomes};
-ghost use Rattle.sqlite_wal.specs.Reads.{AreClean};
-ghost use Rattle.sqlite_wal.specs.Recovery.{Image};
 ghost use Rattle.till_book.specs.Journal.{Journal, IsUnsettled, with_entry, with_reply, with_settled};
 ghost use Rattle.till_book.specs.Steps.{Rests, IsNext, IsNextReply};
 ghost use Rattle.till_files.specs.Files.{LeavesEither};
@@ -14,22 +11,11 @@ use crate::faults::BookFault;
 use crate::files::close_book;
 use crate::opening::open_book;
 use counter_routes::Routes;
+use sql_files::crashed;
 use sqlite::{Connection, FileStore, Files};
 use sqlite_disk::Crash;
 use std::alloc::Global;
 use till_book::{enter, note_settled, record};
-
-/// Returns the files after a crash of their disks.
-fn crashed<D: Crash + Drop>(files: Files<D>) -> Files<D>
-    ensures left { (image : Image) → outcomes D.Disk result.log result.db image
-        → outcomes D.Disk files.log files.db image }
-    ensures clean { AreClean D.Disk result.log result.db → AreClean D.Disk files.log files.db }
-{
-    let Files { mut log, mut db } = files;
-    log.crash();
-    db.crash();
-    Files { log, db }
-}
 
 /// Stops a book, lets its disks crash, and opens the files that are left. The opened book is the book that rested. If a
 /// change was under way, or its outcome wasn't known, the opened book is the book before or after the change.

@@ -1,6 +1,7 @@
--- The text of a till's settings: four lines (our own form).
+-- The text of a till's settings: four lines, and a fifth one if there is a zone (our own form).
 use Rattle.std.specs.Prelude.{ℕ, List, [], ◌∷◌, ◌++◌, codes, decimal, Option, Some, None}
 use Rattle.till_requests.specs.declared.settings.Settings.{Settings}
+use Rattle.till_requests.specs.Zones.{zone_line}
 
 abbrev pub line_end : List ℕ
 line_end = 10 ∷ []
@@ -14,3 +15,4 @@ abbrev pub settings_lines : Settings → List ℕ
 settings_lines settings =
     codes "address " ++ settings.address ++ line_end ++ codes "token " ++ settings.token ++ line_end
     ++ staff_line settings.staff ++ line_end ++ codes "mark " ++ settings.mark ++ line_end
+    ++ zone_line settings.zone

@@ -11,6 +11,8 @@ mod office;
 mod same;
 mod settings;
 mod sole;
+mod zone_parts;
+mod zones;
 
 pub use commands::{NotBuilt, command_request, key_text};
 pub use looks::{get_bytes, look_request, view_request};
@@ -20,3 +22,5 @@ pub use office::{
     NotSaid, OfficeLookSealed, OfficeSealed, is_office_look, office_look_request, office_request,
 };
 pub use settings::{NoSettings, Settings, read_settings, settings_text};
+pub use zone_parts::{ZoneName, ZoneOffset};
+pub use zones::{Zone, zone_offset, zone_second};

@@ -1,8 +1,11 @@
+pub mod LabelLemmas
+pub mod JoinLemmas
 pub mod LineLemmas
 pub mod NamedLemmas
 pub mod PromptLemmas
 pub mod ReadingLemmas
 pub mod TableLemmas
 pub mod TextLemmas
+pub mod UsageLemmas
 pub mod TillIsSimple
 pub mod WorkedLines

@@ -5,7 +5,8 @@ use Rattle.clap.specs.Walk.{is_empty}
 use Rattle.clap.specs.Words.{Row, Text}
 use Rattle.clap.specs.declared.error.kind.ErrorKind.{ErrorKind}
 use Rattle.till_words.specs.Places.{office_words, named_words}
-use Rattle.till_words.specs.Line.{read_of, till_line_of}
+use Rattle.till_words.specs.Line.{read_of, full_line_of, till_line_of}
+use Rattle.till_words.specs.Spoken.{spoken}
 
 not_zero : (n : ℕ) → (suc n == 0) ≡ false
 not_zero n = grind arith
@@ -36,7 +37,11 @@ pub not_entered : {S : Type 0} (sub : Option S) (name_of : S → Text) (rows_of 
 not_entered None name_of rows_of e = refl
 not_entered (Some s) name_of rows_of e = absurd (cc e)
 
--- words with each value after its option's name are the line of the words that were typed
-pub by_names : (words named : List Text) → named ≡ named_words words → read_of (office_words words) named ≡ till_line_of words
-unfolding till_line_of
+-- words with each value after its option's name are the line of the words that are typed in full
+pub by_names : (words named : List Text) → named ≡ named_words words → read_of (office_words words) named ≡ full_line_of words
 by_names words named e = ap (read_of (office_words words)) e
+
+-- words that are typed in full are the line of the words that were typed
+pub by_spoken : (words full : List Text) → full ≡ spoken words → full_line_of full ≡ till_line_of words
+unfolding till_line_of
+by_spoken words full e = ap full_line_of e

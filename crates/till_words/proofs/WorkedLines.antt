@@ -1,5 +1,5 @@
 -- Lines that are known: the definition computes on words that are written out.
-use Rattle.std.proofs.Common.{◌≡◌, refl, [], ◌∷◌, Some, None, true, false, codes}
+use Rattle.std.proofs.Common.{◌≡◌, refl, ℕ, List, [], ◌∷◌, Some, None, true, false, codes}
 use Rattle.clap.proofs.OnLiterals.{clap_on_literals}
 use Rattle.shop_types.specs.declared.command.Act.TheVariants as act
 use Rattle.till_words.specs.declared.words.TillAct.{TillAct}
@@ -12,7 +12,7 @@ use Rattle.till_words.specs.PromptLine.{words_of}
 
 -- a line with nothing before its word
 abbrev line : TillAct → TillLine
-line act = record { book = None; is_json = false; staff = None; act = act }
+line act = record { book = None; is_json = false; is_sure = false; staff = None; act = act }
 
 -- ---- places and names
 
@@ -75,14 +75,68 @@ pub customer_by_name : till_line_of (codes "customer" ∷ codes "MARY" ∷ []) �
 unfolding clap_on_literals read_of till_line_of
 customer_by_name = refl
 
+pub film_by_words : till_line_of (codes "film" ∷ codes "river" ∷ codes "dawn" ∷ []) ≡ Some (line (till.Look (look.Films (codes "river dawn"))))
+unfolding clap_on_literals read_of till_line_of
+film_by_words = refl
+
+-- ---- labels
+
+pub rent_by_labels : till_line_of (codes "rent" ∷ codes "K17" ∷ codes "C4" ∷ []) ≡ Some (line (till.Do (act.Rent 17 4)))
+unfolding clap_on_literals read_of till_line_of
+rent_by_labels = refl
+
+pub label_of_the_other : till_line_of (codes "rent" ∷ codes "C17" ∷ codes "C4" ∷ []) ≡ None
+unfolding clap_on_literals read_of till_line_of
+label_of_the_other = refl
+
+pub copy_alone : till_line_of (codes "C4" ∷ []) ≡ Some (line (till.Look (look.InStock 4)))
+unfolding clap_on_literals read_of till_line_of
+copy_alone = refl
+
+pub customer_alone : till_line_of (codes "K17" ∷ []) ≡ Some (line (till.Look (look.Customer 17)))
+unfolding clap_on_literals read_of till_line_of
+customer_alone = refl
+
+-- ---- the book's zone
+
+pub zone_by_place : till_line_of (codes "zone" ∷ codes "UTC-07:00" ∷ []) ≡ Some (line (till.Zone (codes "UTC-07:00")))
+unfolding clap_on_literals read_of till_line_of
+zone_by_place = refl
+
+pub zone_west_by_name : till_line_of (codes "zone" ∷ codes "--name=-07:00" ∷ []) ≡ Some (line (till.Zone (codes "-07:00")))
+unfolding clap_on_literals read_of till_line_of
+zone_west_by_name = refl
+
+abbrev token : List ℕ
+token = codes "11111111111111111111111111111111"
+
+pub init_in_a_zone : till_line_of (codes "init" ∷ codes "a:1" ∷ token ∷ codes "--staff" ∷ codes "1" ∷ codes "--zone" ∷ codes "UTC" ∷ [])
+    ≡ Some (line (till.Init (record { address = codes "a:1"; token = token; staff = Some 1; zone = Some (codes "UTC") })))
+unfolding clap_on_literals read_of till_line_of
+init_in_a_zone = refl
+
+pub init_without_a_zone : till_line_of (codes "init" ∷ codes "a:1" ∷ token ∷ codes "--staff" ∷ codes "1" ∷ []) ≡ None
+unfolding clap_on_literals read_of till_line_of
+init_without_a_zone = refl
+
+pub init_of_an_office : till_line_of (codes "init" ∷ codes "a:1" ∷ token ∷ codes "--office" ∷ [])
+    ≡ Some (line (till.Init (record { address = codes "a:1"; token = token; staff = None; zone = None })))
+unfolding clap_on_literals read_of till_line_of
+init_of_an_office = refl
+
 -- ---- options before the word, and words after `office`
+
+pub yes_before : till_line_of (codes "--yes" ∷ codes "scrap" ∷ codes "4" ∷ [])
+    ≡ Some (record { book = None; is_json = false; is_sure = true; staff = None; act = till.Do (act.Scrap 4) })
+unfolding clap_on_literals read_of till_line_of
+yes_before = refl
 
 pub no_words : till_line_of [] ≡ Some (line till.Prompt)
 unfolding clap_on_literals read_of till_line_of
 no_words = refl
 
 pub office_of_a_book : till_line_of (codes "--book" ∷ codes "b" ∷ codes "--json" ∷ codes "office" ∷ codes "audit" ∷ codes "--db" ∷ [])
-    ≡ Some (record { book = Some (codes "b"); is_json = true; staff = None; act = till.Office (codes "audit" ∷ codes "--db" ∷ []) })
+    ≡ Some (record { book = Some (codes "b"); is_json = true; is_sure = false; staff = None; act = till.Office (codes "audit" ∷ codes "--db" ∷ []) })
 unfolding clap_on_literals read_of till_line_of
 office_of_a_book = refl
 

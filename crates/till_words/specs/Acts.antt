@@ -7,13 +7,15 @@ use Rattle.shop_types.specs.declared.command.Act.{Act}
 use Rattle.shop_types.specs.declared.command.Act.TheVariants as act
 use Rattle.till_words.specs.declared.acts.Names.{Names}
 use Rattle.till_words.specs.declared.acts.Contact.{Contact}
+use Rattle.till_words.specs.declared.acts.Owner.{Owner}
 use Rattle.till_words.specs.declared.words.Beginning.{Beginning}
 use Rattle.till_words.specs.declared.words.TillLook.{TillLook}
 use Rattle.till_words.specs.declared.words.TillLook.TheVariants as look
 use Rattle.till_words.specs.declared.words.TillAct.{TillAct}
 use Rattle.till_words.specs.declared.words.TillAct.TheVariants as till
 use Rattle.till_words.specs.Texts.{with_value}
-use Rattle.till_words.specs.Given.{text_given, lot_given, token_given, flag_given, row_given, optional_row_given, amount_given, numbers_given}
+use Rattle.till_words.specs.Given.{text_given, optional_text_given, lot_given, token_given, flag_given, row_given, optional_row_given, amount_given}
+use Rattle.till_words.specs.Given.{numbers_given}
 use Rattle.till_words.specs.Given.{any_numbers_given}
 use Rattle.till_words.specs.Days.{drawer_of}
 
@@ -123,12 +125,25 @@ whose _ _ = None
 abbrev pub whose_of : List Row → Option (Option ℕ)
 whose_of rows = with_value (optional_row_given (codes "staff") rows) (λ staff. whose staff (flag_given (codes "office") rows))
 
+-- a member of staff's book has a zone; head office's may have none
+abbrev pub zoned : Option ℕ → Option Text → Option Owner
+zoned (Some staff) None = None
+zoned (Some staff) (Some zone) = Some (record { staff = Some staff; zone = Some zone })
+zoned None zone = Some (record { staff = None; zone = zone })
+
+-- whose a book is, and its zone
+abbrev pub owner_of : List Row → Option Owner
+owner_of rows =
+    with_value (whose_of rows) (λ staff.
+    with_value (optional_text_given 1 60 (codes "zone") rows) (λ zone.
+    zoned staff zone))
+
 abbrev pub beginning_of : List Row → Option Beginning
 beginning_of rows =
     with_value (token_given rows) (λ token.
-    with_value (whose_of rows) (λ staff.
+    with_value (owner_of rows) (λ owner.
     with_value (text_given 1 128 (codes "address") rows) (λ address.
-    Some (record { address = address; token = token; staff = staff }))))
+    Some (record { address = address; token = token; staff = owner.staff; zone = owner.zone }))))
 
 -- ---- by their names
 
@@ -176,5 +191,6 @@ act_of office name rows = if bytes_eq name (codes "waiting") then Some till.Wait
     else (if bytes_eq name (codes "day") then option_map till.Day (drawer_of rows)
     else (if bytes_eq name (codes "help") then Some till.Help
     else (if bytes_eq name (codes "init") then option_map till.Init (beginning_of rows)
+    else (if bytes_eq name (codes "zone") then option_map till.Zone (text_given 1 60 (codes "name") rows)
     else (if bytes_eq name (codes "office") then Some (till.Office office)
-    else counter_act_of name rows))))))
+    else counter_act_of name rows)))))))

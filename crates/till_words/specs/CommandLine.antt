@@ -1,4 +1,4 @@
--- The command line of a till, as the library `clap` sees it: `[--book FILE] [--json] [--staff N] WORD [OPTION]..`, without the program's name.
+-- The command line of a till, as the library `clap` sees it: `[--book FILE] [--json] [--staff N] [--yes] WORD [OPTION]..`, without the program's name.
 use Rattle.std.specs.Prelude.{true, List, [], ◌∷◌, Some, codes, fold}
 use Rattle.clap.specs.Words.{App, Rule, Shape, Text, new_rule, with_subcommand}
 use Rattle.clap.specs.Simple.{new_shape}
@@ -85,7 +85,11 @@ day_shape = word_shape (codes "day") (optional_rule (codes "date") ∷ optional_
 
 abbrev pub init_shape : Shape
 init_shape = word_shape (codes "init")
-    (text_rule (codes "address") ∷ text_rule (codes "token") ∷ optional_row_rule (codes "staff") ∷ flag_rule (codes "office") ∷ [])
+    (text_rule (codes "address") ∷ text_rule (codes "token") ∷ optional_row_rule (codes "staff") ∷ flag_rule (codes "office")
+    ∷ optional_rule (codes "zone") ∷ [])
+
+abbrev pub zone_shape : Shape
+zone_shape = word_shape (codes "zone") (text_rule (codes "name") ∷ [])
 
 -- ---- the whole line
 
@@ -107,13 +111,13 @@ listed_shapes = word_shape (codes "overdue") [] ∷ word_shape (codes "arrivals"
 
 abbrev pub till_shapes : List Shape
 till_shapes = word_shape (codes "waiting") [] ∷ word_shape (codes "send") [] ∷ last_shape ∷ day_shape ∷ word_shape (codes "help") []
-    ∷ init_shape ∷ word_shape (codes "office") [] ∷ []
+    ∷ init_shape ∷ zone_shape ∷ word_shape (codes "office") [] ∷ []
 
 -- the command line before its words
 abbrev pub top_app : App
 top_app = record {
   top = record (new_shape (codes "till")) {
-    rules = optional_rule (codes "book") ∷ flag_rule (codes "json") ∷ optional_row_rule (codes "staff") ∷ [];
+    rules = optional_rule (codes "book") ∷ flag_rule (codes "json") ∷ optional_row_rule (codes "staff") ∷ flag_rule (codes "yes") ∷ [];
     no_binary_name = true;
     disable_help_subcommand = true;
   };

@@ -1,6 +1,8 @@
 pub mod CommandLine
 pub mod Table
+pub mod Labels
 pub mod Places
+pub mod Spoken
 pub mod Texts
 pub mod Given
 pub mod Days
@@ -8,3 +10,4 @@ pub mod Acts
 pub mod Line
 pub mod PromptLine
 pub mod Seen
+pub mod Usage

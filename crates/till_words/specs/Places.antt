@@ -3,6 +3,7 @@ use Rattle.std.specs.Prelude.{ℕ, suc, ◌==◌, ◌&&◌, ◌||◌, Bool, fals
 use Rattle.std.specs.List.{list_any, starts_with, before_first}
 use Rattle.std.specs.Str.{bytes_eq}
 use Rattle.clap.specs.Words.{Text}
+use Rattle.till_words.specs.Labels.{value_for}
 
 -- ---- options among the words
 
@@ -16,7 +17,7 @@ option_name word = before_first (λ b. b == 61) word
 
 -- the options without a value
 abbrev pub is_flag : Text → Bool
-is_flag word = bytes_eq word (codes "--json") || bytes_eq word (codes "--office")
+is_flag word = bytes_eq word (codes "--json") || (bytes_eq word (codes "--office") || bytes_eq word (codes "--yes"))
 
 -- an option whose value is the next word
 abbrev pub awaits_value : Text → Bool
@@ -38,7 +39,8 @@ till_places word = if bytes_eq word (codes "rewards") then codes "--purchases" �
     else (if bytes_eq word (codes "last") then codes "--count" ∷ []
     else (if bytes_eq word (codes "day") then codes "--date" ∷ []
     else (if bytes_eq word (codes "init") then codes "--address" ∷ codes "--token" ∷ []
-    else [])))
+    else (if bytes_eq word (codes "zone") then codes "--name" ∷ []
+    else []))))
 
 abbrev pub found_places : Text → List Text
 found_places word = if bytes_eq word (codes "customer") then find_place
@@ -80,7 +82,7 @@ free_places words names = filter (λ name. not (is_given words name)) names
 -- a value after the name of the first place, or without a name if no place is left
 abbrev pub placed : List Text → Text → List Text
 placed [] word = word ∷ []
-placed (name ∷ names) word = name ∷ word ∷ []
+placed (name ∷ names) word = name ∷ value_for name word ∷ []
 
 -- the words after the subcommand; `awaits` says whether the first of them is the value of an option before
 abbrev pub named_from : Bool → List Text → List Text → List Text

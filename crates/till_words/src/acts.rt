@@ -4,8 +4,8 @@ ghost use Rattle.till_words.specs.Acts as spec;
 ghost use Rattle.till_words.specs.Places as places;
 ghost use Rattle.till_words.specs.declared.words.TillLook.TheVariants as look;
 
-use crate::given::{NUMBER, PAYMENT, RETURN, TOKEN, WHOSE};
-use crate::words::{Beginning, TillAct, TillLook, WordList};
+use crate::given::{NUMBER, PAYMENT, RETURN, TOKEN, WHOSE, ZONE};
+use crate::words::{Beginning, TillAct, TillLook, WordList, ZoneText};
 use crate::{days, given, named};
 use clap::ArgMatches;
 use shop_types::{
@@ -230,6 +230,13 @@ fn look(alloc: Global, name: &str, given: &ArgMatches<'_>) -> Result<TillLook, U
 
 // ---- the till itself
 
+/// Whose a book is, and its zone.
+#[derive(Drop)]
+struct Owner {
+    staff: Option<StaffNo>,
+    zone: Option<ZoneText>,
+}
+
 /// Returns the member of staff, or `Some(None)` for head office. Finds none if both are given, or neither.
 fn whose(staff: Option<StaffNo>, is_office: bool) -> Option<Option<StaffNo>>
     ensures { result ≡ spec.whose staff is_office }
@@ -248,15 +255,35 @@ fn whose_book(given: &ArgMatches<'_>) -> Option<Option<StaffNo>>
     whose(staff, given::flag(given, "office"))
 }
 
+/// Returns whose a book is, with its zone. A member of staff's book must have a zone: finds none if it has none.
+fn zoned(staff: Option<StaffNo>, zone: Option<ZoneText>) -> Option<Owner>
+    ensures { result ≡ spec.zoned staff zone }
+{
+    if staff.is_some() && zone.is_none() {
+        return None;
+    }
+    Some(Owner { staff, zone })
+}
+
+/// Returns whose a book is, and its zone.
+fn owner_given(alloc: Global, given: &ArgMatches<'_>) -> Result<Owner, Usage>
+    ensures { Reads result (spec.owner_of (values_of given.now)) }
+{
+    let staff = given::of_kind(alloc, whose_book(given), WHOSE)?;
+    let zone = given::optional_text(alloc, given, "zone")?;
+    given::of_kind(alloc, zoned(staff, zone), ZONE)
+}
+
 fn beginning(alloc: Global, given: &ArgMatches<'_>) -> Result<Beginning, Usage>
     ensures { Reads result (spec.beginning_of (values_of given.now)) }
 {
     let token = given::of_kind(alloc, given::token(given), TOKEN)?;
-    let staff = given::of_kind(alloc, whose_book(given), WHOSE)?;
+    let owner = owner_given(alloc, given)?;
     Ok(Beginning {
         address: given::text(alloc, given, "address")?,
         token,
-        staff,
+        staff: owner.staff,
+        zone: owner.zone,
     })
 }
 
@@ -320,6 +347,7 @@ pub(crate) fn act(
         "day" => Ok(TillAct::Day(days::drawer(alloc, given)?)),
         "help" => Ok(TillAct::Help),
         "init" => Ok(TillAct::Init(beginning(alloc, given)?)),
+        "zone" => Ok(TillAct::Zone(given::text(alloc, given, "name")?)),
         "office" => office(alloc, words),
         _ => counter_act(alloc, name, given),
     }

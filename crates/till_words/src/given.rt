@@ -29,6 +29,9 @@ pub(crate) const RETURN: &str = "a return is of a copy, or of a rental (--rental
 pub(crate) const WHOSE: &str =
     "a book is one member of staff's (--staff N) or head office's (--office)";
 
+pub(crate) const ZONE: &str =
+    "a till has a zone: --zone America/Edmonton, --zone UTC-07:00 or --zone UTC";
+
 pub(crate) const PAYMENT: &str =
     "a payment is of a customer, and in dollars, from 0 to 999.99: 4.99, 5 or 0.50";
 

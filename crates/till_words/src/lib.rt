@@ -6,13 +6,18 @@ mod clap_words;
 mod commands;
 mod days;
 mod given;
+mod labels;
 mod lines;
 mod named;
 mod options;
 mod places;
+mod spoken;
 mod texts;
+mod usage;
 mod words;
 
 pub use clap_words::{asks_for_help, help_text, read_till_words};
 pub use lines::split_line;
-pub use words::{Beginning, DayText, Drawer, FileName, TillAct, TillLine, TillLook, WordList};
+pub use words::{
+    Beginning, DayText, Drawer, FileName, TillAct, TillLine, TillLook, WordList, ZoneText,
+};

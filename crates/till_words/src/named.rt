@@ -3,19 +3,20 @@
 ghost use Rattle.std.specs.Prelude.{◌≡◌, ◌≤◌, ◌++◌, false, map, drop, length, string_bytes, IfOk, OnOk};
 ghost use Rattle.till_words.specs.Places as spec;
 
+use crate::labels::value_for;
 use crate::places::places_of;
 use std::alloc::{AllocError, Global};
 
 // ---- options among the words
 
-fn is_option(word: &str) -> bool
+pub(crate) fn is_option(word: &str) -> bool
     ensures { result ≡ spec.is_option word.now }
 {
     word.as_bytes().starts_with(b"--")
 }
 
 /// Returns an option's name with its hyphens: the text before the first `=`.
-fn option_name(word: &str) -> &str
+pub(crate) fn option_name(word: &str) -> &str
     ensures { result.now ≡ spec.option_name word.now }
 {
     match word.split_once('=') {
@@ -28,11 +29,11 @@ fn option_name(word: &str) -> &str
 fn is_flag(word: &str) -> bool
     ensures { result ≡ spec.is_flag word.now }
 {
-    word == "--json" || word == "--office"
+    word == "--json" || word == "--office" || word == "--yes"
 }
 
 /// Reports whether the word is an option whose value is the next word.
-fn awaits_value(word: &str) -> bool
+pub(crate) fn awaits_value(word: &str) -> bool
     ensures { result ≡ spec.awaits_value word.now }
 {
     is_option(word) && !is_flag(word) && option_name(word).len() == word.len()
@@ -108,8 +109,10 @@ fn push_placed<'a>(
 {
     if let [name, ..] = names {
         named.push(*name)?;
+        named.push(value_for(name, word))?;
+    } else {
+        named.push(word)?;
     }
-    named.push(word)?;
     Ok(())
 }
 
@@ -183,7 +186,7 @@ pub(crate) fn named_words<'a>(
     Ok(named)
 }
 
-fn copied(alloc: Global, words: &[String]) -> Result<Vec<String>, AllocError>
+pub(crate) fn copied(alloc: Global, words: &[String]) -> Result<Vec<String>, AllocError>
     ensures { IfOk result (λ copies. map string_bytes copies.items ≡ map string_bytes words.now) }
 {
     let mut copies = Vec::new(alloc);

@@ -11,6 +11,7 @@ fn till_places(word: &str) -> &'static [&'static str]
         "last" => &["--count"],
         "day" => &["--date"],
         "init" => &["--address", "--token"],
+        "zone" => &["--name"],
         _ => &[],
     }
 }

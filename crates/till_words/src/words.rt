@@ -6,6 +6,9 @@ use std::marker::Model;
 /// The name of a file: 1 to 1,000 bytes of UTF-8 with no control byte.
 pub type FileName = Text<1, 1000>;
 
+/// The name of a zone, as it was typed: 1 to 60 bytes of UTF-8 with no control byte.
+pub type ZoneText = Text<1, 60>;
+
 /// Words as they were typed.
 #[derive(Drop)]
 pub struct WordList {
@@ -43,6 +46,8 @@ pub struct Beginning {
     pub token: Token,
     /// The member of staff at the till, or none for a book of head office.
     pub staff: Option<StaffNo>,
+    /// The zone of the book. A book of head office may have none.
+    pub zone: Option<ZoneText>,
 }
 
 /// What is looked up.
@@ -108,6 +113,8 @@ pub enum TillAct {
     /// To show what is in the drawer, or to close it.
     Day(Drawer),
     Help,
+    /// To set the book's zone.
+    Zone(ZoneText),
     /// To do what these words of head office ask for.
     Office(WordList),
     /// To read lines of words, one after another.
@@ -121,6 +128,8 @@ pub struct TillLine {
     pub book: Option<FileName>,
     /// Whether the answer is to be JSON.
     pub is_json: bool,
+    /// Whether what can't be undone is to be done without a question.
+    pub is_sure: bool,
     /// The member of staff at the till, if another than the one that the book was made for.
     pub staff: Option<StaffNo>,
     pub act: TillAct,

@@ -5,10 +5,11 @@ use crate::serving::{listen, put_replies, serve_as};
 use crate::tables::work;
 use crate::values::Values;
 use chain_engine::{Chain, OpenFault, over_a_stop};
-use chain_files::{connect, give_back};
+use chain_files::connect;
 use row_player::{Calls, Deed, How, Image, NEVER, Opening, Stage, Texts, Tills};
 use sakila_office::run;
 use shop_types::{Limits, Token};
+use sql_files::close;
 use sqlite::{FileStore, Files};
 use std::alloc::Global;
 use std::marker::Model;
@@ -159,7 +160,7 @@ impl<D: InMemory> Stage for Counter<D> {
             }
         } else {
             work(alloc, deed, &mut conn, told);
-            let disks = give_back(conn);
+            let disks = close(conn);
             files.put(disks.log.held(), disks.db.held(), told);
         }
     }

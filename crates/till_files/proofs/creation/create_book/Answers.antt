@@ -1,5 +1,8 @@
 use Rattle.shop_schema.proofs.Common.{arith, inr, subst, file_state, HasCleanDisk, HoldsOne}
-use Rattle.till_files.proofs.Found.{unmade_by, holds_no_table, holds_a_table, none_or_new}
+use Rattle.sql_files.proofs.Found.{holds_no_table, holds_a_table, none_or_new}
+use Rattle.till_book.specs.Journal.{StandsFor}
+use Rattle.till_files.specs.Files.{empty_journal}
+use Rattle.till_files.proofs.Found.{unmade_by}
 use Rattle.till_files.proofs.Results.{refused_by}
 use Rattle.till_files.proofs.creation.create_book.Goals as goal
 
@@ -40,7 +43,8 @@ returns-in-Err-clause-refused g c =
           let none = c.in-Err.ensures.stopped other in
           inr (
             holds_no_table conn c.args.files opened found none,
-            none_or_new conn c.args.files opened found stays none c.create.new.conn back.result c.create.ensures.crash clean (back.ensures.left honest),
+            none_or_new conn c.args.files opened found stays none (λ db. StandsFor db empty_journal) c.create.new.conn back.result
+                c.create.ensures.crash clean (back.ensures.left honest),
           );
       book = c.in-Err.ensures.book;
     }

@@ -1,6 +1,5 @@
-use Rattle.shop_schema.proofs.Common.{◌≡◌, ◌+◌, ◌≤◌, arith, subst, refl, ℕ, List, map, take, length, Answer, and_then, done, some_calls, within_none}
+use Rattle.shop_schema.proofs.Common.{◌≤◌, arith, refl, map, length, and_then, done, some_calls, within_none}
 use Rattle.till_book.specs.Seen.{seen_reply}
-use Rattle.till_files.specs.Playing.{MarksReplies, MarksReply}
 use Rattle.till_files.proofs.Played.{at_place, length_mapped, marks_none, one_reply, all_replies}
 use Rattle.till_files.proofs.migrating.mark_replies.Goals as goal
 

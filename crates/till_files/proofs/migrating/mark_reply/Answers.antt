@@ -1,4 +1,4 @@
-use Rattle.shop_schema.proofs.Common.{◌≡◌, ℕ, List, arith, Answer}
+use Rattle.shop_schema.proofs.Common.{◌≡◌, arith, Answer}
 use Rattle.sql_rows.proofs.Chaining.{does_such}
 use Rattle.till_book.specs.Seen.{seen_reply}
 use Rattle.till_files.proofs.Played.{at_place, reply_marked}

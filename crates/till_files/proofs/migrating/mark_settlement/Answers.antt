@@ -1,4 +1,4 @@
-use Rattle.shop_schema.proofs.Common.{◌≡◌, ◌≢◌, ◌+◌, ℕ, List, arith, Answer}
+use Rattle.shop_schema.proofs.Common.{◌≡◌, ◌≢◌, ◌+◌, ℕ, arith, Answer}
 use Rattle.std.specs.Prelude.{◌-◌}
 use Rattle.sql_rows.proofs.Chaining.{one_call, and_more}
 use Rattle.till_book.specs.Seen.{seen_reply, seen_settlement}

@@ -1,4 +1,4 @@
-use Rattle.shop_schema.proofs.Common.{◌≤◌, arith, ℕ, List, map, length, and_then, done, some_calls, within_none}
+use Rattle.shop_schema.proofs.Common.{◌≤◌, arith, map, length, and_then, done, some_calls, within_none}
 use Rattle.till_book.specs.Seen.{seen_settlement}
 use Rattle.till_files.proofs.Played.{at_place, length_mapped, marks_none, one_settlement, all_settled}
 use Rattle.till_files.proofs.migrating.mark_settlements.Goals as goal

@@ -1,7 +1,8 @@
 use Rattle.shop_schema.proofs.Common.{arith, file_state, HasCleanDisk}
 use Rattle.std.proofs.Common.{◌≡◌, ◌∙◌, inr, sym, true, false}
 use Rattle.till_files.specs.Migrations.{first_schema}
-use Rattle.till_files.proofs.Found.{has_first, has_no_first, first_found, first_kept, first_or_filled, left_alone, shows_what_is_found, unmigrated_by}
+use Rattle.sql_files.proofs.Found.{shows_what_is_found}
+use Rattle.till_files.proofs.Found.{has_first, has_no_first, first_found, first_kept, first_or_filled, left_alone, unmigrated_by}
 use Rattle.till_files.proofs.Results.{refused_by}
 use Rattle.till_files.proofs.old_books.migrate_book.Goals as goal
 

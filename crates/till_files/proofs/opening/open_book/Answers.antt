@@ -1,6 +1,7 @@
 use Rattle.std.proofs.Common.{◌≡◌, ◌∙◌, inr, sym, true, false}
 use Rattle.till_book.specs.Tables.{book_schema}
-use Rattle.till_files.proofs.Found.{found_rests, kept_rests, either_rests, shows_what_is_found, has_book, has_no_book, left_as_found, unopened_by}
+use Rattle.sql_files.proofs.Found.{shows_what_is_found, closed_as_found}
+use Rattle.till_files.proofs.Found.{found_rests, kept_rests, either_rests, has_book, has_no_book, unopened_by}
 use Rattle.till_files.proofs.Results.{refused_by}
 use Rattle.till_files.proofs.opening.open_book.Goals as goal
 
@@ -42,7 +43,7 @@ returns-in-Ok-false-clause-refused g c =
           inr (
             _,
             shows_what_is_found conn c.args.files (opened clean) (found clean),
-            left_as_found conn c.args.files (opened clean) (found clean) g.met.D.Disk.seen_may_stay back.result (back.ensures.left honest),
+            closed_as_found conn c.args.files (opened clean) (found clean) g.met.D.Disk.seen_may_stay back.result (back.ensures.left honest),
           );
       already = λ is. cc;
     }
@@ -63,7 +64,7 @@ returns-in-Err-clause-refused g c =
           inr (
             _,
             shows_what_is_found conn c.args.files (opened clean) (found clean),
-            left_as_found conn c.args.files (opened clean) (found clean) g.met.D.Disk.seen_may_stay back.result (back.ensures.left honest),
+            closed_as_found conn c.args.files (opened clean) (found clean) g.met.D.Disk.seen_may_stay back.result (back.ensures.left honest),
           );
       already = c.named.ensures.already;
     }

@@ -1,6 +1,6 @@
 use Rattle.till_book.specs.Journal.{StandsFor}
 use Rattle.till_files.specs.Files.{StandsForEither}
-use Rattle.till_files.proofs.Keeping.{crashed_one}
+use Rattle.sql_files.proofs.Keeping.{crashed_one}
 use Rattle.till_files.proofs.Results.{ok_then}
 use Rattle.till_files.proofs.stopping.restart_book.Goals as goal
 

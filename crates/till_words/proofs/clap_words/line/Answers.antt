@@ -15,4 +15,4 @@ returns-in_err-act c =
     (λ e. rw (← c.optional_row.ensures, c.in_ok-staff.ensures, c.in_ok-book.ensures, c.in_err-act.ensures e) refl)
 
 pub returns : goal.returns
-returns c = rw (← c.optional_row.ensures, c.in_ok-staff.ensures, c.in_ok-book.ensures, c.in_ok-act.ensures, ← c.flag.ensures) refl
+returns c = rw (← c.optional_row.ensures, c.in_ok-staff.ensures, c.in_ok-book.ensures, c.in_ok-act.ensures, ← c.flag.ensures, ← c.flag-2.ensures) refl

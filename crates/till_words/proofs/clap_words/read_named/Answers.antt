@@ -7,9 +7,9 @@ use Rattle.till_words.proofs.clap_words.read_named.Goals as goal
 
 pub returns-in-Ok : goal.returns-in-Ok
 unfolding read_of
-returns-in-Ok c = subst (Reads c.line.result)
+returns-in-Ok c = subst (Reads c.told_line.result)
     (sym (taken (line_from (office_words (map string_bytes c.args.words.now))) _ _ _ _ _ c.in-Ok.ensures.fails c.in-Ok.ensures.ok.0 c.in-Ok.ensures.ok.1))
-    c.line.ensures
+    c.told_line.ensures
 
 pub returns-in-Err : goal.returns-in-Err
 unfolding read_of

@@ -1,7 +1,9 @@
 use Rattle.shop_schema.proofs.Common.{arith, inr, refl, subst, file_state, HasCleanDisk, empty_sound, first_books, HoldsOne}
 use Rattle.chain_requests.specs.Chains.{widest_rules}
 use Rattle.chain_files.proofs.Opening.{opened_at}
-use Rattle.chain_files.proofs.NewFiles.{stopped_by, holds_no_table, holds_a_table, none_or_new}
+use Rattle.shop_schema.specs.Shop.{StandsFor}
+use Rattle.sql_files.proofs.Found.{holds_no_table, holds_a_table, none_or_new}
+use Rattle.chain_files.proofs.NewFiles.{stopped_by}
 use Rattle.chain_engine.proofs.Results.{refused_by}
 use Rattle.chain_engine.proofs.creating.Chain+FileStore+D.create_files.Goals as goal
 
@@ -24,7 +26,7 @@ returns-in-Ok-clause-made g c =
           opened_at _ (first_books c.args.office.now) refl refl refl
           (empty_sound widest_rules c.args.office.now) c.first_values.ensures (c.in-Ok.ensures.made clean);
       none = λ clean.
-          holds_no_table c.in_ok-conn.conn c.args.files (c.in_ok-conn.ensures.opened (first clean)) g.met.D.Disk.seen_may_stay
+          holds_no_table c.in_ok-conn.conn c.args.files (c.in_ok-conn.ensures.opened (first clean))
           (c.in_ok-conn.ensures.found (first clean)) c.in-Ok.ensures.none;
     })
 
@@ -36,18 +38,19 @@ returns-in-Err-clause-refused g c =
     let r : HasCleanDisk (file_state conn) = omega (arith, clean, c.create.ensures.crash.clean) in r in
     record {
       already = λ honest is.
-          let clean = first (c.give_back.ensures.clean honest) in
-          holds_a_table conn c.args.files (c.in_ok-conn.ensures.opened clean) stays
-          (c.in_ok-conn.ensures.found clean) (c.in-Err.ensures.there is).0 c.give_back.result
-          (subst (λ h. HoldsOne g.D.Disk c.give_back.result (file_state h).may_leave) (c.in-Err.ensures.there is).1 (c.give_back.ensures.left honest));
+          let clean = first (c.close.ensures.clean honest) in
+          holds_a_table conn c.args.files (c.in_ok-conn.ensures.opened clean) (c.in_ok-conn.ensures.found clean) stays
+          (c.in-Err.ensures.there is).0 c.close.result
+          (subst (λ h. HoldsOne g.D.Disk c.close.result (file_state h).may_leave) (c.in-Err.ensures.there is).1 (c.close.ensures.left honest));
       stopped = λ honest other.
-          let clean = c.give_back.ensures.clean honest in
+          let clean = c.close.ensures.clean honest in
           let opened = c.in_ok-conn.ensures.opened (first clean) in
+          let found = c.in_ok-conn.ensures.found (first clean) in
           let none = c.in-Err.ensures.stopped other in
           inr (
-            holds_no_table conn c.args.files opened stays (c.in_ok-conn.ensures.found (first clean)) none,
-            none_or_new conn c.args.files opened stays none (first_books c.args.office.now) c.create.new.conn
-                c.give_back.result c.create.ensures.crash clean (c.give_back.ensures.left honest),
+            holds_no_table conn c.args.files opened found none,
+            none_or_new conn c.args.files opened found stays none (λ db. StandsFor db (first_books c.args.office.now)) c.create.new.conn
+                c.close.result c.create.ensures.crash clean (c.close.ensures.left honest),
           );
       chain = c.in-Err.ensures.chain;
       version = c.in-Err.ensures.version;

@@ -4,10 +4,10 @@ use Rattle.chain_engine.proofs.files.Chain+FileStore+D.close.Goals as goal
 
 pub returns-clause-left : goal.returns-clause-left
 returns-clause-left g c honest =
-    subst (λ chain. HoldsOne g.D.Disk c.give_back.result (file_state chain.conn).may_leave) c.self.view_is (c.give_back.ensures.left honest)
+    subst (λ chain. HoldsOne g.D.Disk c.close.result (file_state chain.conn).may_leave) c.self.view_is (c.close.ensures.left honest)
 
 pub returns-clause-keeps : goal.returns-clause-keeps
-returns-clause-keeps g c live books besides at = keeps_books _ c.give_back.result (λ honest. returns-clause-left g c honest) live books besides at
+returns-clause-keeps g c live books besides at = keeps_books _ c.close.result (λ honest. returns-clause-left g c honest) live books besides at
 
 pub returns-clause-either : goal.returns-clause-either
-returns-clause-either g c books besides at = keeps_either _ c.give_back.result (λ honest. returns-clause-left g c honest) books besides at
+returns-clause-either g c books besides at = keeps_either _ c.close.result (λ honest. returns-clause-left g c honest) books besides at

@@ -1,7 +1,8 @@
 use Rattle.shop_schema.proofs.Common.{inl, inr, refl, arith, ∥∥₁_map, file_state, HasCleanDisk}
 use Rattle.sqlite_wal.specs.Reads.{AreClean}
-use Rattle.chain_files.proofs.Opening.{found_rests, kept_rests, either_rests, sound_rests, opened_at, shows_what_is_found, holds_no_chain, holds_sound}
-use Rattle.chain_files.proofs.Opening.{holds_damage, has_this_version, has_no_version, has_other_version, left_as_found, still_books, still_either, unopened_by}
+use Rattle.sql_files.proofs.Found.{shows_what_is_found, left_as_found}
+use Rattle.chain_files.proofs.Opening.{found_rests, kept_rests, either_rests, sound_rests, opened_at, holds_no_chain, holds_sound}
+use Rattle.chain_files.proofs.Opening.{holds_damage, has_this_version, has_no_version, has_other_version, still_books, still_either, unopened_by}
 use Rattle.chain_engine.proofs.Results.{refused_by}
 use Rattle.chain_engine.proofs.files.Chain+FileStore+D.open_files.Goals as goal
 
@@ -49,7 +50,7 @@ returns-in-Ok-clause-opened g c =
 pub returns-in-Err-clause-refused : goal.returns-in-Err-clause-refused
 returns-in-Err-clause-refused g c =
     let conn = c.in_ok-conn.conn in
-    let back = c.give_back in
+    let back = c.close in
     let first = λ (clean : HasCleanDisk (file_state c.examine.new.conn)).
     let r : HasCleanDisk (file_state conn) = omega (arith, clean, c.examine.ensures.crash.clean) in r in
     let opened = λ (clean : HasCleanDisk (file_state c.examine.new.conn)). c.in_ok-conn.ensures.opened (first clean) in

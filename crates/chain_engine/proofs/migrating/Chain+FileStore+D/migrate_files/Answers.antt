@@ -1,7 +1,8 @@
 use Rattle.shop_schema.proofs.Common.{inr, refl, arith, file_state, HasCleanDisk, migrated, migrated_sound}
 use Rattle.shop_schema.proofs.Values.{migrated_values}
 use Rattle.chain_requests.specs.Chains.{widest_rules}
-use Rattle.chain_files.proofs.Opening.{opened_at, shows_what_is_found, has_this_version, tells_version}
+use Rattle.sql_files.proofs.Found.{shows_what_is_found}
+use Rattle.chain_files.proofs.Opening.{opened_at, has_this_version, tells_version}
 use Rattle.chain_files.proofs.OldFiles.{keeps_in_either, is_version_1, has_version_1, holds_version_1_damage, holds_version_1_soundly, tells_first}
 use Rattle.chain_files.proofs.OldFiles.{holds_neither, has_neither_version, stands_as_found, stands_as_kept, left_or_migrated, left_in_either, unmigrated_by}
 use Rattle.chain_engine.proofs.Results.{refused_by}
@@ -58,7 +59,7 @@ pub returns-in-Err-clause-refused : goal.returns-in-Err-clause-refused
 returns-in-Err-clause-refused g c =
     let conn = c.in_ok-conn.conn in
     let files = c.args.files in
-    let back = c.give_back in
+    let back = c.close in
     let stays = g.met.D.Disk.seen_may_stay in
     let before = λ (clean : HasCleanDisk (file_state c.migrate_first.new.conn)).
     let r : HasCleanDisk (file_state conn) = omega (arith, clean, c.migrate_first.ensures.crash.clean) in r in

@@ -1,0 +1,5 @@
+pub mod FieldLaws
+pub mod WordLaws
+pub mod WordLoop
+pub mod Differences
+pub mod FrameLaws

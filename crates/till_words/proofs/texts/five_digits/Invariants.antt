@@ -1,9 +1,0 @@
-use Rattle.shop_types.proofs.Common.{◌≡◌, ◌<◌, ◌^◌, take, true, list_all, is_ascii_digit, digits_value}
-use Rattle.till_words.proofs.texts.five_digits.Given as goal
-
-abbrev pub invariant-loop-b : goal.invariant-loop-b
-invariant-loop-b l = record {
-  value : l.number ≡ digits_value 10 (take l.b-index l.bytes);
-  small : l.number < 10 ^ l.b-index;
-  digits : list_all is_ascii_digit (take l.b-index l.bytes) ≡ true;
-}
