@@ -171,6 +171,8 @@ module _ (Tells : List ℕ → Answer → Type 0) where
         stays_both old mid new (stays_both old read mid first second) (as_planned it plan.Waiting place mid after new plans done)
     word_done (typed.Last count) it place after old read mid new is first second plans done =
         stays_both old mid new (stays_both old read mid first second) (as_planned it (plan.Last count) place mid after new plans done)
+    word_done (typed.Day asked) it place after old read mid new is first second plans done =
+        stays_both old mid new (stays_both old read mid first second) (as_planned it (plan.Day asked) place mid after new plans done)
     word_done typed.Help it place after old read mid new is first second plans done =
         stays_both old mid new (stays_both old read mid first second) (as_planned it plan.Usage place mid after new plans done)
     word_done (typed.Zone name) it place after old read mid new is first second plans done =

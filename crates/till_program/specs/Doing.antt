@@ -36,6 +36,7 @@ IsPlanOf s typed.Send it = it ≡ plan.Send
 IsPlanOf s (typed.Look look) it = it ≡ plan.Look look
 IsPlanOf s typed.Waiting it = it ≡ plan.Waiting
 IsPlanOf s (typed.Last count) it = it ≡ plan.Last count
+IsPlanOf s (typed.Day asked) it = it ≡ plan.Day asked
 IsPlanOf s typed.Help it = it ≡ plan.Usage
 IsPlanOf s (typed.Zone name) it = it ≡ plan.Usage
 IsPlanOf s (typed.Init beginning) it = it ≡ plan.Usage
@@ -52,6 +53,7 @@ IsCarriedOut Tells shows mark token giver (plan.Look look) before old after new 
 IsCarriedOut Tells shows mark token giver (plan.ReadOffice words) before old after new = Stays old new
 IsCarriedOut Tells shows mark token giver plan.Waiting before old after new = Stays old new
 IsCarriedOut Tells shows mark token giver (plan.Last count) before old after new = Stays old new
+IsCarriedOut Tells shows mark token giver (plan.Day asked) before old after new = Stays old new
 IsCarriedOut Tells shows mark token giver plan.Usage before old after new = Stays old new
 
 -- the act was given at a till's book, and got some answer
@@ -80,6 +82,7 @@ DoesWord Tells shows mark token giver typed.Send old new = SendsWord Tells old n
 DoesWord Tells shows mark token giver (typed.Look look) old new = Stays old new
 DoesWord Tells shows mark token giver typed.Waiting old new = Stays old new
 DoesWord Tells shows mark token giver (typed.Last count) old new = Stays old new
+DoesWord Tells shows mark token giver (typed.Day asked) old new = Stays old new
 DoesWord Tells shows mark token giver typed.Help old new = Stays old new
 DoesWord Tells shows mark token giver (typed.Zone name) old new = Stays old new
 DoesWord Tells shows mark token giver (typed.Init beginning) old new = Stays old new

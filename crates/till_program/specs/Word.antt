@@ -83,6 +83,7 @@ EntersOrSends (act.Import file lot) = ⊥
 EntersOrSends (act.Look look) = ⊥
 EntersOrSends act.Waiting = ⊥
 EntersOrSends (act.Last count) = ⊥
+EntersOrSends (act.Day asked) = ⊥
 EntersOrSends act.Help = ⊥
 EntersOrSends (act.Zone name) = ⊥
 EntersOrSends act.Prompt = ⊥
@@ -98,6 +99,7 @@ IsPlannedFor staff (plan.Look look) = IsSome staff
 IsPlannedFor staff (plan.ReadOffice words) = staff ≡ None
 IsPlannedFor staff plan.Waiting = ⊤
 IsPlannedFor staff (plan.Last count) = ⊤
+IsPlannedFor staff (plan.Day asked) = IsSome staff
 IsPlannedFor staff plan.Usage = ⊤
 
 -- a branch's commands and looks are for a branch's book, and head office's words for its own
@@ -111,6 +113,7 @@ IsFor staff (act.Look look) = IsSome staff
 IsFor staff act.Waiting = ⊤
 IsFor staff act.Send = ⊤
 IsFor staff (act.Last count) = ⊤
+IsFor staff (act.Day asked) = IsSome staff
 IsFor staff act.Help = ⊤
 IsFor staff (act.Zone name) = ⊤
 IsFor staff act.Prompt = ⊤

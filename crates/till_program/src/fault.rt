@@ -57,6 +57,10 @@ pub enum TillFault {
     TooLarge,
     /// The text can't be sent.
     NotSent,
+    /// The closings beside the book are spoilt, or another book's.
+    Drawer,
+    /// A closing can't be written beside the book.
+    NotClosed,
     /// A branch's word at head office's book.
     IsOffice,
     /// Head office's word at a branch's book.
@@ -96,6 +100,8 @@ impl TillFault {
             | TillFault::Memory
             | TillFault::System
             | TillFault::Settings
+            | TillFault::Drawer
+            | TillFault::NotClosed
             | TillFault::OtherBook
             | TillFault::Ahead(_)
             | TillFault::Foreign => 3,
@@ -121,6 +127,10 @@ impl TillFault {
             TillFault::Settings =>
                 "The settings beside the book are missing or spoilt. Make a new book: init ADDRESS TOKEN --staff N --zone NAME.",
             TillFault::NotKept => "The settings can't keep that address. Write it as HOST:PORT.",
+            TillFault::Drawer =>
+                "The closings beside the book are spoilt, or another book's. Move the book's file .drawer away: the drawer counts from its first entry then.",
+            TillFault::NotClosed =>
+                "The closing can't be written beside the book. See that the disk has room, and close the drawer again.",
             TillFault::OtherBook =>
                 "The book and its settings aren't of one till. Make a new book: init ADDRESS TOKEN --staff N --zone NAME.",
             TillFault::Ahead(_) => "The last entry is too far ahead of the clock.",

@@ -243,6 +243,13 @@ fn parted(alloc: Global, bytes: &[u8]) -> Option<(u64, Vec<u8>)> {
     Some((second, list))
 }
 
+/// Puts the bytes into a new file, which then takes the place of the file of that name.
+fn replace_own(rt: &HostRuntime, path: &str, bytes: &[u8]) -> io::Result<()> {
+    let new = format!(in rt.alloc(); "{path}.new")?;
+    write_own(rt, new.as_str(), bytes)?;
+    fs::rename(rt, new.as_str(), path)
+}
+
 impl Shelf for FileShelf<'_> {
     fn take(&self, alloc: Global, name: &'static str) -> Option<(u64, Vec<u8>)> {
         let path = self.path(alloc, name)?;
@@ -258,6 +265,23 @@ impl Shelf for FileShelf<'_> {
         if writeln!(text, "{second}").is_ok() && text.extend_from_slice(bytes).is_ok() {
             let _ = write_own(self.rt, path.as_str(), text.as_slice());
         }
+    }
+
+    fn whole(&self, alloc: Global, name: &'static str) -> Option<Vec<u8>> {
+        let path = self.path(alloc, name)?;
+        match fs::read(self.rt, path.as_str()) {
+            Ok(bytes) => Some(bytes),
+            Err(error) if error.kind() == ErrorKind::NotFound => Some(Vec::new(alloc)),
+            Err(_) => None,
+        }
+    }
+
+    fn add(&self, alloc: Global, name: &'static str, bytes: &[u8]) -> bool {
+        let (Some(path), Some(mut text)) = (self.path(alloc, name), self.whole(alloc, name)) else {
+            return false;
+        };
+        text.extend_from_slice(bytes).is_ok()
+            && replace_own(self.rt, path.as_str(), text.as_slice()).is_ok()
     }
 
     fn forget(&self, name: &'static str) {

@@ -25,6 +25,7 @@ use crate::book::Book;
 use crate::caches::Shelf;
 use crate::clock::WallClock;
 use crate::commands::{Told, give, tell};
+use crate::day::day;
 use crate::desk::Desk;
 use crate::fault::TillFault;
 use crate::lists::List;
@@ -38,7 +39,7 @@ use shop_types::{Act, CopyNo, CustomerNo, Moment};
 use sqlite::{Alter, Connection};
 use std::alloc::Global;
 use till_requests::is_office_look;
-use till_words::{TillAct, TillLook, WordList, help_text};
+use till_words::{Drawer, TillAct, TillLook, WordList, help_text};
 use till_work::{Server, Watch};
 
 /// What is to be done for a word, once the book was looked at.
@@ -57,6 +58,8 @@ enum Plan {
     Waiting,
     /// The last entries are shown, up to that many.
     Last(u32),
+    /// What is in the drawer is shown, or it is closed.
+    Day(Drawer),
     /// The words that there are are said, as a usage.
     Usage,
 }
@@ -192,6 +195,20 @@ fn look_plan<K: WallClock, V: Server, L: Shelf>(
     Ok(Plan::Look(it))
 }
 
+/// Plans what is asked of the drawer, which is a branch's.
+fn day_plan<K: WallClock, V: Server, L: Shelf>(
+    desk: &Desk<'_, K, V, L>,
+    asked: Drawer,
+) -> Result<Plan, TillFault>
+    ensures planned { IfOk result (IsPlannedFor desk.now.settings.now.staff) }
+    ensures acts { IfOk result (λ plan. plan ≡ Plan.Day asked) }
+    ensures own { OnOk result (IsSome desk.now.settings.now.staff) }
+    ensures others { desk.now.settings.now.staff ≡ None → result ≡ Err (others_fault desk.now.settings.now.staff) }
+{
+    let _ = desk.giver()?;
+    Ok(Plan::Day(asked))
+}
+
 /// Plans a word. For a return the register is read: by copy it is of the rental that the register has of it. The book
 /// stays.
 fn plan_of<S: Alter, K: WallClock, V: Server, L: Shelf>(
@@ -221,6 +238,7 @@ fn plan_of<S: Alter, K: WallClock, V: Server, L: Shelf>(
         TillAct::Look(it) => look_plan(desk, it),
         TillAct::Waiting => Ok(Plan::Waiting),
         TillAct::Last(count) => Ok(Plan::Last(count)),
+        TillAct::Day(asked) => day_plan(desk, asked),
         TillAct::Help | TillAct::Init(_) | TillAct::Import { .. } => Ok(Plan::Usage),
         TillAct::Zone(_) | TillAct::Prompt => Ok(Plan::Usage),
     }
@@ -326,6 +344,7 @@ fn carry_out<S: Alter, K: WallClock, V: Server, L: Shelf, W: Watch>(
         Plan::ReadOffice(words) => read_office(desk, words.as_slice()),
         Plan::Waiting => waiting_entries(desk, conn, book),
         Plan::Last(count) => last_entries(desk, conn, book, count),
+        Plan::Day(asked) => day(desk, conn, book, asked),
         Plan::Usage => usage(desk.alloc),
     }
 }

@@ -133,6 +133,34 @@ impl Shelf for Board {
         });
     }
 
+    fn whole(&self, alloc: Global, name: &'static str) -> Option<Vec<u8>> {
+        let Ok(lists) = self.lists.try_borrow() else {
+            return None;
+        };
+        let lists = lists.as_slice();
+        let Some(at) = place_of(lists, name) else {
+            return Some(Vec::new(alloc));
+        };
+        let (_, bytes) = copied(alloc, lists.get(at)?)?;
+        Some(bytes)
+    }
+
+    fn add(&self, alloc: Global, name: &'static str, bytes: &[u8]) -> bool {
+        let Some(mut text) = self.whole(alloc, name) else {
+            return false;
+        };
+        let (Ok(()), Ok(mut lists)) = (text.extend_from_slice(bytes), self.lists.try_borrow_mut())
+        else {
+            return false;
+        };
+        let list = List {
+            name,
+            second: 0,
+            bytes: text,
+        };
+        lists.push(list).is_ok()
+    }
+
     fn forget(&self, name: &'static str) {
         let Ok(mut lists) = self.lists.try_borrow_mut() else {
             return;

@@ -8,7 +8,7 @@ use crate::line::{Counter, Line};
 use crate::shelf::{Board, Hands};
 use crate::texts::Texts;
 use crate::world::World;
-use shop_types::{Act, LotName, StockFile};
+use shop_types::{Act, LotName, StaffNo, StockFile};
 use sqlite::{Alter, Connection};
 use std::alloc::Global;
 use till_program::{Desk, Quiet, Said, TillFault, accept_zone, do_word, make_sure, zone_said};
@@ -41,15 +41,32 @@ fn words_in(alloc: Global, line: &str) -> Result<Vec<String>, Fault> {
     }
 }
 
+/// What is typed, and who types it, if that isn't the member of staff whose till it is.
+#[derive(Drop)]
+struct Typed {
+    act: TillAct,
+    staff: Option<StaffNo>,
+}
+
 /// Reads what the words ask for, with the stock file instead of its name.
-fn act_of(alloc: Global, stock: &[u8], line: &str) -> Result<TillAct, Fault> {
+fn typed(alloc: Global, stock: &[u8], line: &str) -> Result<Typed, Fault> {
     let words = words_in(alloc, line)?;
     let read = read_till_words(alloc, words.as_slice());
     drop(words);
     match read {
-        Ok(TillLine { book, act, .. }) => {
+        Ok(
+            TillLine {
+                book,
+                staff,
+                act,
+                ..
+            },
+        ) => {
             drop(book);
-            with_stock(alloc, act, stock)
+            match with_stock(alloc, act, stock) {
+                Ok(act) => Ok(Typed { act, staff }),
+                Err(fault) => Err(fault),
+            }
         }
         Err(usage) => {
             drop(usage);
@@ -94,13 +111,14 @@ fn tell(alloc: Global, said: Result<Said, TillFault>, told: &mut Texts) -> Resul
     }
 }
 
-/// Returns what the till works with, in the zone with that number.
+/// Returns what the till works with, in the zone with that number, if that member of staff gives the word.
 fn desk_in<'x, C: Counter>(
     alloc: Global,
     world: &'x World,
     kit: &'x Kit<C>,
     server: &'x Line<'x, C>,
     number: usize,
+    staff: Option<StaffNo>,
 ) -> Result<Desk<'x, Hands, Line<'x, C>, Board>, Fault> {
     let zone = world.zones().at(number)?;
     Ok(Desk {
@@ -111,7 +129,7 @@ fn desk_in<'x, C: Counter>(
         routes: world.routes(),
         settings: &zone.settings,
         wall: zone.wall,
-        staff: None,
+        staff,
         is_json: false,
     })
 }
@@ -142,17 +160,20 @@ pub fn type_at<'x, S: Alter, C: Counter>(
     if !conn.is_autocommit() {
         return Err(NO_BOOK);
     }
+    let Typed { act, staff } = match typed(alloc, world.stock(), line) {
+        Ok(it) => it,
+        Err(fault) => return Err(fault),
+    };
     let server = Line { wire: kit.wire() };
-    match act_of(alloc, world.stock(), line) {
-        Ok(TillAct::Zone(name)) => {
+    match act {
+        TillAct::Zone(name) => {
             let number = world.zones().number_of(name.as_str())?;
-            let desk = desk_in(alloc, world, kit, &server, number)?;
+            let desk = desk_in(alloc, world, kit, &server, number, staff)?;
             tell(alloc, set(&desk, conn, kit, number), told)
         }
-        Ok(act) => {
-            let desk = desk_in(alloc, world, kit, &server, kit.zone())?;
+        act => {
+            let desk = desk_in(alloc, world, kit, &server, kit.zone(), staff)?;
             tell(alloc, done(&desk, conn, act), told)
         }
-        Err(fault) => Err(fault),
     }
 }

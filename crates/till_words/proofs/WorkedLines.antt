@@ -6,6 +6,7 @@ use Rattle.till_words.specs.declared.words.TillAct.{TillAct}
 use Rattle.till_words.specs.declared.words.TillAct.TheVariants as till
 use Rattle.till_words.specs.declared.words.TillLine.{TillLine}
 use Rattle.till_words.specs.declared.words.TillLook.TheVariants as look
+use Rattle.till_words.specs.declared.words.Drawer.TheVariants as drawer
 use Rattle.till_words.specs.Line.{read_of, till_line_of}
 use Rattle.till_words.specs.PromptLine.{words_of}
 
@@ -138,6 +139,24 @@ pub office_of_a_book : till_line_of (codes "--book" ∷ codes "b" ∷ codes "--j
     ≡ Some (record { book = Some (codes "b"); is_json = true; is_sure = false; staff = None; act = till.Office (codes "audit" ∷ codes "--db" ∷ []) })
 unfolding clap_on_literals read_of till_line_of
 office_of_a_book = refl
+
+-- ---- the drawer
+
+pub day_alone : till_line_of (codes "day" ∷ []) ≡ Some (line (till.Day drawer.Since))
+unfolding clap_on_literals read_of till_line_of
+day_alone = refl
+
+pub day_counted : till_line_of (codes "day" ∷ codes "--count" ∷ codes "1412.50" ∷ []) ≡ Some (line (till.Day (drawer.Close 141250)))
+unfolding clap_on_literals read_of till_line_of
+day_counted = refl
+
+pub day_of_a_date : till_line_of (codes "day" ∷ codes "2026-03-09" ∷ []) ≡ Some (line (till.Day (drawer.Closings (codes "2026-03-09"))))
+unfolding clap_on_literals read_of till_line_of
+day_of_a_date = refl
+
+pub day_of_both : till_line_of (codes "day" ∷ codes "2026-03-09" ∷ codes "--count" ∷ codes "5" ∷ []) ≡ None
+unfolding clap_on_literals read_of till_line_of
+day_of_both = refl
 
 -- ---- lines of a prompt
 

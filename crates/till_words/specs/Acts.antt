@@ -17,6 +17,7 @@ use Rattle.till_words.specs.Texts.{with_value}
 use Rattle.till_words.specs.Given.{text_given, optional_text_given, lot_given, token_given, flag_given, row_given, optional_row_given, amount_given}
 use Rattle.till_words.specs.Given.{numbers_given}
 use Rattle.till_words.specs.Given.{any_numbers_given}
+use Rattle.till_words.specs.Days.{drawer_of}
 
 -- ---- at the counter
 
@@ -187,8 +188,9 @@ abbrev pub act_of : List Text → Text → List Row → Option TillAct
 act_of office name rows = if bytes_eq name (codes "waiting") then Some till.Waiting
     else (if bytes_eq name (codes "send") then Some till.Send
     else (if bytes_eq name (codes "last") then option_map till.Last (row_given (codes "count") rows)
+    else (if bytes_eq name (codes "day") then option_map till.Day (drawer_of rows)
     else (if bytes_eq name (codes "help") then Some till.Help
     else (if bytes_eq name (codes "init") then option_map till.Init (beginning_of rows)
     else (if bytes_eq name (codes "zone") then option_map till.Zone (text_given 1 60 (codes "name") rows)
     else (if bytes_eq name (codes "office") then Some (till.Office office)
-    else counter_act_of name rows))))))
+    else counter_act_of name rows)))))))

@@ -80,6 +80,9 @@ rewards_shape = word_shape (codes "rewards") (row_rule (codes "purchases") ∷ t
 abbrev pub last_shape : Shape
 last_shape = word_shape (codes "last") (default_row_rule (codes "count") (codes "10") ∷ [])
 
+abbrev pub day_shape : Shape
+day_shape = word_shape (codes "day") (optional_rule (codes "date") ∷ optional_rule (codes "count") ∷ [])
+
 abbrev pub init_shape : Shape
 init_shape = word_shape (codes "init")
     (text_rule (codes "address") ∷ text_rule (codes "token") ∷ optional_row_rule (codes "staff") ∷ flag_rule (codes "office")
@@ -107,7 +110,7 @@ listed_shapes = word_shape (codes "overdue") [] ∷ word_shape (codes "arrivals"
     ∷ rewards_shape ∷ word_shape (codes "sales") [] ∷ []
 
 abbrev pub till_shapes : List Shape
-till_shapes = word_shape (codes "waiting") [] ∷ word_shape (codes "send") [] ∷ last_shape ∷ word_shape (codes "help") []
+till_shapes = word_shape (codes "waiting") [] ∷ word_shape (codes "send") [] ∷ last_shape ∷ day_shape ∷ word_shape (codes "help") []
     ∷ init_shape ∷ zone_shape ∷ word_shape (codes "office") [] ∷ []
 
 -- the command line before its words

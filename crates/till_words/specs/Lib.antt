@@ -5,6 +5,7 @@ pub mod Places
 pub mod Spoken
 pub mod Texts
 pub mod Given
+pub mod Days
 pub mod Acts
 pub mod Line
 pub mod PromptLine

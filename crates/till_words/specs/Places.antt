@@ -37,9 +37,10 @@ find_place = codes "--find" ∷ []
 abbrev pub till_places : Text → List Text
 till_places word = if bytes_eq word (codes "rewards") then codes "--purchases" ∷ codes "--amount" ∷ []
     else (if bytes_eq word (codes "last") then codes "--count" ∷ []
+    else (if bytes_eq word (codes "day") then codes "--date" ∷ []
     else (if bytes_eq word (codes "init") then codes "--address" ∷ codes "--token" ∷ []
     else (if bytes_eq word (codes "zone") then codes "--name" ∷ []
-    else [])))
+    else []))))
 
 abbrev pub found_places : Text → List Text
 found_places word = if bytes_eq word (codes "customer") then find_place

@@ -6,7 +6,7 @@ ghost use Rattle.till_words.specs.declared.words.TillLook.TheVariants as look;
 
 use crate::given::{NUMBER, PAYMENT, RETURN, TOKEN, WHOSE, ZONE};
 use crate::words::{Beginning, TillAct, TillLook, WordList, ZoneText};
-use crate::{given, named};
+use crate::{days, given, named};
 use clap::ArgMatches;
 use shop_types::{
     Act, CopyNo, L45, NewCustomer, Person, RentalNo, RowNumber, StaffNo, T45, T128, Usage,
@@ -344,6 +344,7 @@ pub(crate) fn act(
         "waiting" => Ok(TillAct::Waiting),
         "send" => Ok(TillAct::Send),
         "last" => Ok(TillAct::Last(given::of_kind(alloc, count(given, "count"), NUMBER)?)),
+        "day" => Ok(TillAct::Day(days::drawer(alloc, given)?)),
         "help" => Ok(TillAct::Help),
         "init" => Ok(TillAct::Init(beginning(alloc, given)?)),
         "zone" => Ok(TillAct::Zone(given::text(alloc, given, "name")?)),

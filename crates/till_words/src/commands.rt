@@ -42,7 +42,7 @@ pub(crate) fn top_word() -> Subcommand
 }
 
 /// The words, in the order in which help lists them.
-pub(crate) static SUBCOMMANDS: [Subcommand; 28] = [
+pub(crate) static SUBCOMMANDS: [Subcommand; 29] = [
     // ---- at the counter
     Subcommand {
         name: "rent",
@@ -229,6 +229,13 @@ pub(crate) static SUBCOMMANDS: [Subcommand; 28] = [
         usage: "last, or last COUNT",
         example: "last 3",
         options: &[("count", Kind::DefaultRow("10"))],
+    },
+    Subcommand {
+        name: "day",
+        about: "What is in the drawer: day. Close it: day --count 412.50. How it was closed: day 2026-03-09",
+        usage: "day, or day --count AMOUNT, or day DATE",
+        example: "day --count 412.50",
+        options: &[("date", Kind::OptionalText), ("count", Kind::OptionalText)],
     },
     Subcommand {
         name: "help",

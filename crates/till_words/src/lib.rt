@@ -4,6 +4,7 @@
 mod acts;
 mod clap_words;
 mod commands;
+mod days;
 mod given;
 mod labels;
 mod lines;
@@ -17,4 +18,6 @@ mod words;
 
 pub use clap_words::{asks_for_help, help_text, read_till_words};
 pub use lines::split_line;
-pub use words::{Beginning, FileName, TillAct, TillLine, TillLook, WordList, ZoneText};
+pub use words::{
+    Beginning, DayText, Drawer, FileName, TillAct, TillLine, TillLook, WordList, ZoneText,
+};

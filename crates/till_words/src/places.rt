@@ -9,6 +9,7 @@ fn till_places(word: &str) -> &'static [&'static str]
     match word {
         "rewards" => &["--purchases", "--amount"],
         "last" => &["--count"],
+        "day" => &["--date"],
         "init" => &["--address", "--token"],
         "zone" => &["--name"],
         _ => &[],

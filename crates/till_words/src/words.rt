@@ -78,6 +78,20 @@ pub enum TillLook {
     Sales,
 }
 
+/// A date as it is typed, in 10 bytes: `2026-03-09`.
+pub type DayText = Text<10, 10>;
+
+/// What is asked of the drawer.
+#[derive(Drop)]
+pub enum Drawer {
+    /// What came since it was closed last.
+    Since,
+    /// To close it, with so many cents counted.
+    Close(u32),
+    /// How it was closed on that day.
+    Closings(DayText),
+}
+
 /// What a line of words asks a till for.
 #[derive(Drop)]
 pub enum TillAct {
@@ -96,6 +110,8 @@ pub enum TillAct {
     Send,
     /// To show so many of the book's last entries.
     Last(u32),
+    /// To show what is in the drawer, or to close it.
+    Day(Drawer),
     Help,
     /// To set the book's zone.
     Zone(ZoneText),

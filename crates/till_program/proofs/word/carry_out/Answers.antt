@@ -61,3 +61,19 @@ returns-in-Last-clause-keeps g c clean kept branch planned =
 pub returns-in-Last-clause-grows : goal.returns-in-Last-clause-grows
 returns-in-Last-clause-grows g c clean kept office planned =
     kept_grows _ c.args.book.now.place (state g.S.Store c.args.conn.now) (state g.S.Store c.last_entries.new.conn) (c.last_entries.ensures.stays clean)
+
+pub returns-in-Day-clause-done : goal.returns-in-Day-clause-done
+returns-in-Day-clause-done g c clean =
+    carried_out c.day.result (IsTold (g.V.Server.opens c.args.desk.now.server.now) g.V.Reader.Read.remaining g.V.Writer.Write.contents)
+    (g.K.WallClock.shows c.args.desk.now.clock.now)
+    c.args.desk.now.settings.now.mark c.args.desk.now.settings.now.token (giver_of c.args.desk.now.settings.now.staff c.args.desk.now.staff) c.args.plan
+    (plan.Day c.in-Day.asked) _ _ _ _ c.in-Day.is (on_ok _ (c.day.ensures.stays clean))
+
+pub returns-in-Day-clause-keeps : goal.returns-in-Day-clause-keeps
+returns-in-Day-clause-keeps g c clean kept branch planned =
+    kept_goes _ c.args.desk.now.settings.now.mark c.args.book.now.place (state g.S.Store c.args.conn.now)
+    (state g.S.Store c.day.new.conn) (c.day.ensures.stays clean)
+
+pub returns-in-Day-clause-grows : goal.returns-in-Day-clause-grows
+returns-in-Day-clause-grows g c clean kept office planned =
+    kept_grows _ c.args.book.now.place (state g.S.Store c.args.conn.now) (state g.S.Store c.day.new.conn) (c.day.ensures.stays clean)
