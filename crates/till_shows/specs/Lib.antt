@@ -10,4 +10,5 @@ pub mod Lines
 pub mod Tables
 pub mod Lists
 pub mod Looks
+pub mod Questions
 pub mod Sheets
