@@ -40,10 +40,10 @@ _till() {
     done
     case $previous in
         --book | --file) compopt -o default ;;
-        --json | --office) ;&
+        --json | --office | --yes) ;&
         [!-]*)
             if [[ -z $word ]]; then
-                offered="${!options[*]} --book --json --staff --help"
+                offered="${!options[*]} --book --json --staff --yes --help"
             elif [[ $word == office ]]; then
                 ((at + 1 < COMP_CWORD)) || offered=$office
             elif [[ $word == import && $previous == import ]]; then

@@ -41,9 +41,9 @@ _till() {
     done
     case $words[CURRENT-1] in
         --book | --file) _files ;;
-        --json | --office | [^-]*)
+        --json | --office | --yes | [^-]*)
             if [[ -z $word ]]; then
-                compadd -- ${(k)options} --book --json --staff --help
+                compadd -- ${(k)options} --book --json --staff --yes --help
             elif [[ $word == office ]]; then
                 (( at + 1 < CURRENT )) || compadd -a office
             elif [[ $word == import && $words[CURRENT-1] == import ]]; then

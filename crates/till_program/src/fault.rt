@@ -61,6 +61,8 @@ pub enum TillFault {
     IsOffice,
     /// Head office's word at a branch's book.
     IsBranch,
+    /// The word can't be undone, and nobody said yes to it.
+    Unsure,
 }
 
 impl TillFault {
@@ -77,6 +79,7 @@ impl TillFault {
             | TillFault::NotSent
             | TillFault::IsOffice
             | TillFault::IsBranch
+            | TillFault::Unsure
             | TillFault::Already
             | TillFault::NotKept => 1,
             TillFault::Unanswered | TillFault::NotNow | TillFault::NotKnown | TillFault::Silent => {
@@ -137,6 +140,8 @@ impl TillFault {
             TillFault::NotSent => "That can't be sent as it stands. Say it in other words.",
             TillFault::IsOffice => "This book is head office's. Say office and its words.",
             TillFault::IsBranch => "This book is a branch's. Head office has a book of its own.",
+            TillFault::Unsure =>
+                "That can't be undone, and nothing was entered. If it is to be done, say --yes before the word.",
         }
     }
 }

@@ -24,6 +24,7 @@ mod returns;
 mod said;
 mod sendings;
 mod settling;
+mod sure;
 mod tcp;
 mod watch;
 mod word;

@@ -41,15 +41,32 @@ fn words_in(alloc: Global, line: &str) -> Result<Vec<String>, Fault> {
     }
 }
 
+/// What a line asks for, and whether what can't be undone is to be done.
+#[derive(Drop)]
+struct Asked {
+    act: TillAct,
+    is_sure: bool,
+}
+
 /// Reads what the words ask for, with the stock file instead of its name.
-fn act_of(alloc: Global, stock: &[u8], line: &str) -> Result<TillAct, Fault> {
+fn asked_in(alloc: Global, stock: &[u8], line: &str) -> Result<Asked, Fault> {
     let words = words_in(alloc, line)?;
     let read = read_till_words(alloc, words.as_slice());
     drop(words);
     match read {
-        Ok(TillLine { book, act, .. }) => {
+        Ok(
+            TillLine {
+                book,
+                act,
+                is_sure,
+                ..
+            },
+        ) => {
             drop(book);
-            with_stock(alloc, act, stock)
+            match with_stock(alloc, act, stock) {
+                Ok(act) => Ok(Asked { act, is_sure }),
+                Err(fault) => Err(fault),
+            }
         }
         Err(usage) => {
             drop(usage);
@@ -106,6 +123,10 @@ pub fn type_at<'x, S: Alter, C: Counter>(
     if !conn.is_autocommit() {
         return Err(NO_BOOK);
     }
+    let Asked { act, is_sure } = match asked_in(alloc, world.stock(), line) {
+        Ok(asked) => asked,
+        Err(fault) => return Err(fault),
+    };
     let server = Line { wire: kit.wire() };
     let desk = Desk {
         alloc,
@@ -116,9 +137,7 @@ pub fn type_at<'x, S: Alter, C: Counter>(
         settings: world.settings(),
         staff: None,
         is_json: false,
+        is_sure,
     };
-    match act_of(alloc, world.stock(), line) {
-        Ok(act) => tell(alloc, done(&desk, conn, act), told),
-        Err(fault) => Err(fault),
-    }
+    tell(alloc, done(&desk, conn, act), told)
 }
