@@ -6,3 +6,4 @@ pub mod StandardTime
 pub mod Wall
 pub mod Word
 pub mod Doing
+pub mod Sure

@@ -140,6 +140,9 @@ pub(crate) fn says_sales(
 ) -> Result<(), TillFault> {
     if matches!(view, View::SalesByStore) {
         let table = sales_by_store(alloc, body)?;
+        if !table.is_empty() {
+            said.line("What was paid for rentals, of all time:")?;
+        }
         return says_table(alloc, &table, "nothing was paid for a rental yet", said);
     }
     let table = sales_by_film_category(alloc, body)?;

@@ -37,6 +37,8 @@ pub struct Desk<'d, K: WallClock, V: Server, L: Shelf> {
     pub staff: Option<StaffNo>,
     /// Whether the server's bodies are printed as they are.
     pub is_json: bool,
+    /// Whether what can't be undone is done without a question.
+    pub is_sure: bool,
 }
 
 impl<K: WallClock, V: Server, L: Shelf> Desk<'_, K, V, L> {

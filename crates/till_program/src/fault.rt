@@ -69,6 +69,8 @@ pub enum TillFault {
     NoZone,
     /// The last entry's moment is ahead of the clock of that zone.
     ZoneBehind,
+    /// The word can't be undone, and nobody said yes to it.
+    Unsure,
 }
 
 impl TillFault {
@@ -87,6 +89,7 @@ impl TillFault {
             | TillFault::IsBranch
             | TillFault::NoZone
             | TillFault::ZoneBehind
+            | TillFault::Unsure
             | TillFault::Already
             | TillFault::NotKept => 1,
             TillFault::Unanswered | TillFault::NotNow | TillFault::NotKnown | TillFault::Silent => {
@@ -157,6 +160,8 @@ impl TillFault {
                 "There is no zone of that name here. Say one as America/Edmonton, UTC-07:00 or UTC.",
             TillFault::ZoneBehind =>
                 "The last entry is ahead of that zone's clock, so the zone stays. Say the word again when that clock is past it: see last.",
+            TillFault::Unsure =>
+                "That can't be undone, and nothing was entered. If it is to be done, say --yes before the word.",
         }
     }
 }

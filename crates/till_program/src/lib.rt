@@ -28,6 +28,7 @@ mod said;
 mod sendings;
 mod settling;
 mod standard;
+mod sure;
 mod tcp;
 mod wall;
 mod watch;

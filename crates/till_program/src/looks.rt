@@ -100,6 +100,27 @@ fn held_by<K: WallClock, V: Server, L: Shelf>(
     says_holder(desk.alloc, copy, who, &name, said)
 }
 
+/// Who has the copy, or that no customer has it.
+fn in_stock<K: WallClock, V: Server, L: Shelf>(
+    desk: &Desk<'_, K, V, L>,
+    copy: CopyNo,
+    said: &mut Said,
+) -> Result<(), TillFault> {
+    if desk.is_json {
+        return line_look(desk, &Ask::InStock(copy), said);
+    }
+    let answer = looked(desk, &Ask::HeldBy(copy))?;
+    if says_all(desk.alloc, desk.is_json, &answer, said)? {
+        return Ok(());
+    }
+    let who = holder(desk.alloc, answer.body.as_slice())?;
+    if who.is_none() {
+        return line_look(desk, &Ask::InStock(copy), said);
+    }
+    let name = holder_name(desk, &who)?;
+    says_holder(desk.alloc, copy, who, &name, said)
+}
+
 /// The film's title, and its copies in stock and out.
 fn copies<K: WallClock, V: Server, L: Shelf>(
     desk: &Desk<'_, K, V, L>,
@@ -214,7 +235,7 @@ fn put_look<K: WallClock, V: Server, L: Shelf>(
         TillLook::Customers(part) => search(desk, List::Customers, part.as_str(), said),
         TillLook::Film(film) => line_look(desk, &Ask::Film(*film), said),
         TillLook::Films(part) => search(desk, List::Films, part.as_str(), said),
-        TillLook::InStock(copy) => line_look(desk, &Ask::InStock(*copy), said),
+        TillLook::InStock(copy) => in_stock(desk, *copy, said),
         TillLook::HeldBy(copy) => held_by(desk, *copy, said),
         TillLook::Copies(film) => copies(desk, *film, said),
         TillLook::Balance(customer) => balance(desk, *customer, last, said),

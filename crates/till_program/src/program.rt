@@ -16,6 +16,7 @@ use crate::opening::{OpenBook, Tools, close_held, opened};
 use crate::prompt::prompt;
 use crate::said::Said;
 use crate::settling::make_sure;
+use crate::sure::question;
 use crate::tcp::Tcp;
 use crate::word::do_word;
 use crate::zone_word::set_zone;
@@ -137,12 +138,54 @@ fn word_at<S: Alter, K: WallClock, V: Server, L: Shelf, W: Write, E: Write>(
     }
 }
 
-/// A word, how its answer is printed, and who gives it, if it isn't the member of staff whose till it is.
+/// Who stands at the till, and whether a question can be asked there.
+#[derive(Clone, Copy)]
+pub(crate) struct Standing {
+    /// Who gives the words, if it isn't the member of staff whose till it is.
+    pub(crate) staff: Option<StaffNo>,
+    /// Whether the words come from a prompt.
+    pub(crate) is_prompt: bool,
+}
+
+/// A word, how its answer is printed, whether it is done without a question, and who gives it, if it isn't the member
+/// of staff whose till it is.
 #[derive(Drop)]
 struct Word {
     is_json: bool,
+    is_sure: bool,
+    /// Whether a question can be asked.
+    is_asked: bool,
     staff: Option<StaffNo>,
     act: TillAct,
+}
+
+/// Asks the question, and reads a line. Returns whether it is `y` or `yes`.
+fn says_yes<W: Write>(rt: &HostRuntime, question: &str, out: &mut W) -> bool {
+    if write!(out, "{question}").is_err() || out.flush().is_err() {
+        return false;
+    }
+    'lines: for line in rt.lines(rt.alloc()) {
+        return match line {
+            Ok(line) => line.as_str() == "y" || line.as_str() == "yes",
+            Err(_) => false,
+        };
+    }
+    false
+}
+
+/// Returns whether the word is to be done: it can be undone, or what is owed covers it, or the answer was yes.
+fn is_confirmed<K: WallClock, V: Server, L: Shelf, W: Write>(
+    rt: &HostRuntime,
+    desk: &Desk<'_, K, V, L>,
+    act: &TillAct,
+    is_asked: bool,
+    out: &mut W,
+) -> bool {
+    match question(desk, act) {
+        Ok(None) => true,
+        Ok(Some(question)) => is_asked && says_yes(rt, question.as_str(), out),
+        Err(_) => false,
+    }
 }
 
 /// Does a word with these tools at an open book, and prints what it resulted in.
@@ -159,6 +202,8 @@ fn with_tools<'x, W: Write, E: Write>(
 {
     let Word {
         is_json,
+        is_sure,
+        is_asked,
         staff,
         act,
     } = word;
@@ -170,7 +215,7 @@ fn with_tools<'x, W: Write, E: Write>(
         rt,
         book: tools.name.as_str(),
     };
-    let desk = Desk {
+    let mut desk = Desk {
         alloc: rt.alloc(),
         clock: rt,
         server: &server,
@@ -180,7 +225,11 @@ fn with_tools<'x, W: Write, E: Write>(
         wall: wall_zone(&tools.rules, &tools.settings.zone),
         staff,
         is_json,
+        is_sure,
     };
+    if !is_sure {
+        desk.is_sure = is_confirmed(rt, &desk, &act, is_asked, out);
+    }
     let begun = rt.monotonic().unwrap_or(Duration::ZERO);
     let mut watch = Progress {
         rt,
@@ -226,6 +275,7 @@ pub(crate) fn book_of(rt: &HostRuntime, named: &Option<FileName>) -> Result<Stri
 fn perform_line<W: Write, E: Write>(
     rt: &HostRuntime,
     line: TillLine,
+    standing: Standing,
     held: &mut Option<OpenBook>,
     out: &mut W,
     err: &mut E,
@@ -236,6 +286,7 @@ fn perform_line<W: Write, E: Write>(
     let TillLine {
         book,
         is_json,
+        is_sure,
         staff,
         act,
     } = line;
@@ -255,7 +306,12 @@ fn perform_line<W: Write, E: Write>(
             let act = with_file(rt, act)?;
             let word = Word {
                 is_json,
-                staff,
+                is_sure,
+                is_asked: standing.is_prompt && !is_json,
+                staff: match staff {
+                    Some(staff) => Some(staff),
+                    None => standing.staff,
+                },
                 act,
             };
             at_book(rt, book.as_str(), held, word, out, err)
@@ -266,7 +322,9 @@ fn perform_line<W: Write, E: Write>(
 /// Returns the words that there are.
 fn help(rt: &HostRuntime) -> Result<Said, TillFault> {
     let mut text = help_text(rt.alloc())?;
-    text.push_str("\nAt the prompt, exit or quit ends it.\n")?;
+    text.push_str(
+        "\nAt the prompt, staff N changes who stands there, and exit or quit ends it.\n",
+    )?;
     Ok(Said { text, status: 0 })
 }
 
@@ -285,6 +343,7 @@ fn usage(rt: &HostRuntime, words: &[String], text: &str) -> Result<Said, TillFau
 pub(crate) fn perform_words<W: Write, E: Write>(
     rt: &HostRuntime,
     words: &[String],
+    standing: Standing,
     held: &mut Option<OpenBook>,
     out: &mut W,
     err: &mut E,
@@ -293,7 +352,7 @@ pub(crate) fn perform_words<W: Write, E: Write>(
     ensures { IfSome held.new (λ book. book.conn.in_transaction ≡ false) }
 {
     match read_till_words(rt.alloc(), words) {
-        Ok(line) => match perform_line(rt, line, held, out, err) {
+        Ok(line) => match perform_line(rt, line, standing, held, out, err) {
             Ok(status) => status,
             Err(fault) => print(Err(fault), out, err),
         },
@@ -310,7 +369,11 @@ fn perform_once<W: Write, E: Write>(
     err: &mut E,
 ) -> u8 {
     let mut held = None;
-    let status = perform_words(rt, words, &mut held, out, err);
+    let standing = Standing {
+        staff: None,
+        is_prompt: false,
+    };
+    let status = perform_words(rt, words, standing, &mut held, out, err);
     close_held(&mut held);
     status
 }

@@ -6,7 +6,8 @@ use crate::fault::TillFault;
 use crate::greeting::greeting;
 use crate::input::has_input;
 use crate::opening::{OpenBook, close_held, close_if_asked};
-use crate::program::{book_of, perform_words};
+use crate::program::{Standing, book_of, perform_words};
+use shop_types::StaffNo;
 use std::io::{ErrorKind, Write};
 use till_words::{TillLine, read_till_words, split_line};
 
@@ -21,11 +22,61 @@ fn is_end(words: &[String]) -> bool {
     }
 }
 
+/// Lets the member of staff of that number stand at the till, and says so.
+fn change<W: Write, E: Write>(
+    number: &str,
+    standing: &mut Standing,
+    out: &mut W,
+    err: &mut E,
+) -> Result<(), TillFault> {
+    match StaffNo::read(number.as_bytes()) {
+        Some(staff) => {
+            standing.staff = Some(staff);
+            writeln!(out, "staff {} stands here now", staff.get())?;
+        }
+        None => {
+            writeln!(
+                err,
+                "staff N\nThe staff is a number from 1 on: {number} isn't one."
+            )?;
+        }
+    }
+    Ok(())
+}
+
+/// Does what the words of a line ask for. `staff N` changes who stands at the till.
+fn perform_said<W: Write, E: Write>(
+    rt: &HostRuntime,
+    before: &[String],
+    said: Vec<String>,
+    standing: &mut Standing,
+    held: &mut Option<OpenBook>,
+    out: &mut W,
+    err: &mut E,
+) -> Result<(), TillFault>
+    requires { IfSome held.old (λ book. book.conn.in_transaction ≡ false) }
+    ensures { IfSome held.new (λ book. book.conn.in_transaction ≡ false) }
+{
+    if let [word, number] = said.as_slice() {
+        if word.as_str() == "staff" {
+            return change(number.as_str(), standing, out, err);
+        }
+    }
+    let mut words = Vec::new(rt.alloc());
+    for word in before {
+        words.push(word.clone()?)?;
+    }
+    words.extend(said)?;
+    perform_words(rt, words.as_slice(), *standing, held, out, err);
+    Ok(())
+}
+
 /// Does what a line asks for, and returns whether the prompt goes on.
 fn perform_line<W: Write, E: Write>(
     rt: &HostRuntime,
     before: &[String],
     line: &str,
+    standing: &mut Standing,
     held: &mut Option<OpenBook>,
     out: &mut W,
     err: &mut E,
@@ -45,12 +96,7 @@ fn perform_line<W: Write, E: Write>(
         return Ok(false);
     }
     if !more.is_empty() {
-        let mut words = Vec::new(alloc);
-        for word in before {
-            words.push(word.clone()?)?;
-        }
-        words.extend(more)?;
-        perform_words(rt, words.as_slice(), held, out, err);
+        perform_said(rt, before, more, standing, held, out, err)?;
     }
     Ok(true)
 }
@@ -96,10 +142,14 @@ fn perform_lines<W: Write, E: Write>(
     requires { IfSome held.old (λ book. book.conn.in_transaction ≡ false) }
     ensures { IfSome held.new (λ book. book.conn.in_transaction ≡ false) }
 {
+    let mut standing = Standing {
+        staff: None,
+        is_prompt: true,
+    };
     invite(rt, held, out)?;
     'lines: for line in rt.lines(rt.alloc()) {
         let goes_on = match line {
-            Ok(line) => perform_line(rt, before, line.as_str(), held, out, err)?,
+            Ok(line) => { perform_line(rt, before, line.as_str(), &mut standing, held, out, err)? }
             Err(error) if error.kind() == ErrorKind::InvalidData => {
                 writeln!(err, "That line isn't UTF-8. Say it again in other letters.")?;
                 true

@@ -20,6 +20,7 @@ ghost use Rattle.till_program.specs.Word.{
   IsPlannedFor,
 };
 ghost use Rattle.till_program.specs.Doing.{IsPlanOf, IsCarriedOut, DoesWord, office_planned};
+ghost use Rattle.till_program.specs.Sure as sure;
 
 use crate::book::Book;
 use crate::caches::Shelf;
@@ -35,6 +36,7 @@ use crate::office::{give_office, read_office};
 use crate::returns::{customer_of, owed, rental_at};
 use crate::said::Said;
 use crate::sendings::{send, waited};
+use crate::sure::{is_answered, wants_yes};
 use shop_types::{Act, CopyNo, CustomerNo, Moment};
 use sqlite::{Alter, Connection};
 use std::alloc::Global;
@@ -355,7 +357,8 @@ fn carry_out<S: Alter, K: WallClock, V: Server, L: Shelf, W: Watch>(
 /// A branch's book stays one unless it failed, and what is in it stays, in head office's book too. A branch's command
 /// or look at head office's book is refused, whoever gives it: `IsOffice`. Head office's words at a branch's book are
 /// refused: `IsBranch`. If the last entry was entered with another mark than the settings', a word that enters or sends
-/// is refused, and the book stays: `OtherBook`. A word that makes a book, a prompt, or a stock file that is still to be
+/// is refused, and the book stays: `OtherBook`. A word that wants an answer and has none is refused, and the book stays:
+/// `Unsure`, unless one of these comes first. A word that makes a book, a prompt, or a stock file that is still to be
 /// read is answered as a usage. So is a word that sets the book's zone.
 pub fn do_word<S: Alter, K: WallClock, V: Server, L: Shelf, W: Watch>(
     desk: &Desk<'_, K, V, L>,
@@ -389,8 +392,14 @@ pub fn do_word<S: Alter, K: WallClock, V: Server, L: Shelf, W: Watch>(
     ensures untouched { HasCleanDisk (state S.Store conn.new) → EntersOrSends act
         → ¬ IsOwnBook desk.now.settings.now.mark (state S.Store conn.old)
         → Stays (state S.Store conn.old) (state S.Store conn.new) }
+    ensures unsure { sure.is_answered (sure.wants_yes act) desk.now.is_sure ≡ false → is_ok result ≡ false }
+    ensures unanswered { HasCleanDisk (state S.Store conn.new)
+        → sure.is_answered (sure.wants_yes act) desk.now.is_sure ≡ false
+        → Stays (state S.Store conn.old) (state S.Store conn.new) }
 {
+    let wants = wants_yes(&act);
     let mut book = Book::read(desk.alloc, desk.routes, &desk.settings.mark, conn)?;
     let plan = plan_of(desk, conn, &book, act)?;
+    is_answered(wants, desk.is_sure)?;
     carry_out(desk, conn, &mut book, plan, watch)
 }

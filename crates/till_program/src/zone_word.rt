@@ -84,6 +84,7 @@ fn accepted(
         wall: wall_zone(&tools.rules, &tools.settings.zone),
         staff: None,
         is_json: false,
+        is_sure: false,
     };
     accept_zone(&desk, conn)?;
     let path = settings_path(rt, name)?;

@@ -41,11 +41,13 @@ fn words_in(alloc: Global, line: &str) -> Result<Vec<String>, Fault> {
     }
 }
 
-/// What is typed, and who types it, if that isn't the member of staff whose till it is.
+/// What is typed, who types it, if that isn't the member of staff whose till it is, and whether what can't be undone is
+/// to be done.
 #[derive(Drop)]
 struct Typed {
     act: TillAct,
     staff: Option<StaffNo>,
+    is_sure: bool,
 }
 
 /// Reads what the words ask for, with the stock file instead of its name.
@@ -59,12 +61,17 @@ fn typed(alloc: Global, stock: &[u8], line: &str) -> Result<Typed, Fault> {
                 book,
                 staff,
                 act,
+                is_sure,
                 ..
             },
         ) => {
             drop(book);
             match with_stock(alloc, act, stock) {
-                Ok(act) => Ok(Typed { act, staff }),
+                Ok(act) => Ok(Typed {
+                    act,
+                    staff,
+                    is_sure,
+                }),
                 Err(fault) => Err(fault),
             }
         }
@@ -119,6 +126,7 @@ fn desk_in<'x, C: Counter>(
     server: &'x Line<'x, C>,
     number: usize,
     staff: Option<StaffNo>,
+    is_sure: bool,
 ) -> Result<Desk<'x, Hands, Line<'x, C>, Board>, Fault> {
     let zone = world.zones().at(number)?;
     Ok(Desk {
@@ -131,6 +139,7 @@ fn desk_in<'x, C: Counter>(
         wall: zone.wall,
         staff,
         is_json: false,
+        is_sure,
     })
 }
 
@@ -160,7 +169,11 @@ pub fn type_at<'x, S: Alter, C: Counter>(
     if !conn.is_autocommit() {
         return Err(NO_BOOK);
     }
-    let Typed { act, staff } = match typed(alloc, world.stock(), line) {
+    let Typed {
+        act,
+        staff,
+        is_sure,
+    } = match typed(alloc, world.stock(), line) {
         Ok(it) => it,
         Err(fault) => return Err(fault),
     };
@@ -168,11 +181,11 @@ pub fn type_at<'x, S: Alter, C: Counter>(
     match act {
         TillAct::Zone(name) => {
             let number = world.zones().number_of(name.as_str())?;
-            let desk = desk_in(alloc, world, kit, &server, number, staff)?;
+            let desk = desk_in(alloc, world, kit, &server, number, staff, is_sure)?;
             tell(alloc, set(&desk, conn, kit, number), told)
         }
         act => {
-            let desk = desk_in(alloc, world, kit, &server, kit.zone(), staff)?;
+            let desk = desk_in(alloc, world, kit, &server, kit.zone(), staff, is_sure)?;
             tell(alloc, done(&desk, conn, act), told)
         }
     }

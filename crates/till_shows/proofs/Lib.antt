@@ -7,3 +7,4 @@ pub mod ListLemmas
 pub mod PartLemmas
 pub mod ListedLemmas
 pub mod SheetLemmas
+pub mod SoughtLemmas

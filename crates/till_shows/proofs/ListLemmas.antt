@@ -6,7 +6,8 @@ use Rattle.serde_json.specs.Data.{Data}
 use Rattle.till_shows.specs.Bodies.{body_of, rows_in, each, text_at, has_number}
 use Rattle.till_shows.specs.Fields.{Field, row_of}
 use Rattle.till_shows.specs.Lines.{Table}
-use Rattle.till_shows.specs.Lists.{begins_with, stands_in, has_field, is_found, more_rows, headed, found_rows, table_in, whole_table, first_named, named_in}
+use Rattle.till_shows.specs.Lists.{begins_with, stands_in, has_field, is_found, is_sought, more_rows, headed, found_rows}
+use Rattle.till_shows.specs.Lists.{table_in, whole_table, first_named, named_in}
 
 -- ---- a list from its i-th on, as it is seen
 
@@ -46,7 +47,7 @@ without_row table new rest h =
 pub found_more : (fields : List Field) (part : Text) (table new : Table) (d : Data) (ds : List Data)
     → option_map (more_rows table) (found_rows fields part (d ∷ [])) ≡ Some new
     → option_map (more_rows table) (found_rows fields part (d ∷ ds)) ≡ option_map (more_rows new) (found_rows fields part ds)
-found_more fields part table new d ds h = elim (cases_Bool (is_found part fields d)) [
+found_more fields part table new d ds h = elim (cases_Bool (is_sought part fields d)) [
   | inl e ↦ let one = rw e at h in rw e (with_row table new (row_of fields d) (found_rows fields part ds) one)
   | inr e ↦ let one = rw e at h in rw e (without_row table new (found_rows fields part ds) one)
 ]
@@ -59,7 +60,7 @@ none_at {A} (Some a) rest h = let no : ◌≡◌ {A = Option (List A)} (Some (a 
 -- an object that has no row
 pub found_none : (fields : List Field) (part : Text) (d : Data) (ds : List Data)
     → found_rows fields part (d ∷ []) ≡ None → found_rows fields part (d ∷ ds) ≡ None
-found_none fields part d ds h = elim (cases_Bool (is_found part fields d)) [
+found_none fields part d ds h = elim (cases_Bool (is_sought part fields d)) [
   | inl e ↦ let one = rw e at h in rw e (none_at (row_of fields d) (found_rows fields part ds) one)
   | inr e ↦ let no : ◌≡◌ {A = Option (List (List Text))} (Some []) None = rw e at h in cc
 ]
@@ -74,9 +75,12 @@ always_found : (fields : List Field) (d : Data) → is_found [] fields d ≡ tru
 always_found [] d = refl
 always_found (field ∷ fields) d = rw (always_found fields d) (or_true _)
 
-all_found : (fields : List Field) (ds : List Data) → filter (is_found [] fields) ds ≡ ds
+always_sought : (fields : List Field) (d : Data) → is_sought [] fields d ≡ true
+always_sought fields d = rw (always_found fields d) refl
+
+all_found : (fields : List Field) (ds : List Data) → filter (is_sought [] fields) ds ≡ ds
 all_found fields [] = refl
-all_found fields (d ∷ ds) = rw (always_found fields d, all_found fields ds) refl
+all_found fields (d ∷ ds) = rw (always_sought fields d, all_found fields ds) refl
 
 rows_all : (fields : List Field) (o : Option (List Data)) → option_and_then (found_rows fields []) o ≡ option_and_then (each (row_of fields)) o
 rows_all fields None = refl
@@ -97,10 +101,10 @@ named_later by n name d ds e = rw e refl
 
 -- ---- an object, by whether the part is found in it
 
-pub is_row : (fields : List Field) (part : Text) (d : Data) → is_found part fields d ≡ true → found_rows fields part (d ∷ []) ≡ each (row_of fields) (d ∷ [])
+pub is_row : (fields : List Field) (part : Text) (d : Data) → is_sought part fields d ≡ true → found_rows fields part (d ∷ []) ≡ each (row_of fields) (d ∷ [])
 is_row fields part d e = rw e refl
 
-pub no_row : (fields : List Field) (part : Text) (table : Table) (d : Data) → is_found part fields d ≡ false
+pub no_row : (fields : List Field) (part : Text) (table : Table) (d : Data) → is_sought part fields d ≡ false
     → option_map (more_rows table) (found_rows fields part (d ∷ [])) ≡ Some table
 no_row fields part table d e = rw e (ap (λ (t : Table). Some t) (nothing_more table))
 

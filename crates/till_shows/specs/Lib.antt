@@ -10,5 +10,6 @@ pub mod Lines
 pub mod Tables
 pub mod Lists
 pub mod Looks
+pub mod Questions
 pub mod Sheets
 pub mod Drawers

@@ -1,7 +1,8 @@
 -- The tables of the lists in bodies, and the look-up of one number in a list.
-use Rattle.std.specs.Prelude.{ℕ, ◌==◌, ◌&&◌, ◌||◌, nat_le, Bool, false, List, [], ◌∷◌, ◌++◌, map, filter, take, length, Option, Some, None, option_map}
+use Rattle.std.specs.Prelude.{ℕ, ◌==◌, ◌&&◌, ◌||◌, Bool, true, false, not, List, [], ◌∷◌, ◌++◌, map, filter, length, Option, Some, None, option_map}
 use Rattle.std.specs.Prelude.{option_and_then, unwrap_or, codes, if◌then◌else◌}
-use Rattle.std.specs.Str.{str_eq_ignore_ascii_case}
+use Rattle.std.specs.Char.{eq_ignore_ascii_case}
+use Rattle.std.specs.List.{list_all, slice_split}
 use Rattle.serde_json.specs.Data.{Data}
 use Rattle.shop_model.specs.Values.{Text}
 use Rattle.till_shows.specs.Bodies.{body_of, each, rows_in, text_at, has_number}
@@ -10,9 +11,16 @@ use Rattle.till_shows.specs.Lines.{Table}
 
 -- ---- what is looked for
 
--- the text begins with the part, in any case of ASCII letters
+-- a hyphen (45) of the text that the part leaves out
+abbrev pub is_left_out : ℕ → ℕ → Bool
+is_left_out p t = t == 45 && not (p == 45)
+
+-- The text begins with the part, in any case of ASCII letters. The part may leave out hyphens: `55512` begins `555-12`.
 abbrev pub begins_with : Text → Text → Bool
-begins_with part text = nat_le (length part) (length text) && str_eq_ignore_ascii_case (take (length part) text) part
+begins_with [] text = true
+begins_with (p ∷ part) [] = false
+begins_with (p ∷ part) (t ∷ text) = if is_left_out p t then begins_with (p ∷ part) text
+    else (eq_ignore_ascii_case p t && begins_with part text)
 
 -- the text contains the part; each text contains an empty part
 abbrev pub stands_in : Text → Text → Bool
@@ -31,6 +39,14 @@ abbrev pub is_found : Text → List Field → Data → Bool
 is_found part [] d = length part == 0
 is_found part (field ∷ fields) d = has_field part d field || is_found part fields d
 
+-- each word of the text is found; commas (44) separate the words
+abbrev pub are_found : Text → List Field → Data → Bool
+are_found text fields d = list_all (λ word. is_found word fields d) (slice_split (λ b. b == 44) text)
+
+-- Each word of the text is found, in any order; blanks (32) and commas separate the words. An empty word is found in each object.
+abbrev pub is_sought : Text → List Field → Data → Bool
+is_sought text fields d = list_all (λ piece. are_found piece fields d) (slice_split (λ b. b == 32) text)
+
 -- ---- tables
 
 -- the table with its headings and no row
@@ -40,9 +56,9 @@ headed fields = record { sides = map (λ (field : Field). field.side) fields; ro
 abbrev pub more_rows : Table → List (List Text) → Table
 more_rows table rows = record { sides = table.sides; rows = table.rows ++ rows }
 
--- a row for each object in which the part is found, in their order, and no other row
+-- a row for each object in which the text's words are found, in their order, and no other row
 abbrev pub found_rows : List Field → Text → List Data → Option (List (List Text))
-found_rows fields part ds = each (row_of fields) (filter (is_found part fields) ds)
+found_rows fields part ds = each (row_of fields) (filter (is_sought part fields) ds)
 
 -- the rows of the body's objects in which the part is found, below their headings
 abbrev pub table_in : List Field → Text → Text → Option Table

@@ -18,9 +18,13 @@ abbrev pub who_text : Bool → Text
 who_text true = codes "no"
 who_text false = codes "a"
 
--- the line doesn't say whether the copy was sent or scrapped: no customer has such a copy
+-- no customer has a copy that was sent or scrapped, and the server doesn't say which
+abbrev pub unless_text : Bool → Text
+unless_text true = codes ": it is here, unless it was sent off or scrapped"
+unless_text false = []
+
 abbrev pub stock_text : ℕ → Bool → Text
-stock_text copy is_in = who_text is_in ++ (codes " customer has copy " ++ decimal copy)
+stock_text copy is_in = who_text is_in ++ (codes " customer has copy " ++ (decimal copy ++ unless_text is_in))
 
 abbrev pub in_stock_in : ℕ → Text → Option Text
 in_stock_in copy body = option_map (stock_text copy) (option_and_then (flag_at (codes "in_stock")) (body_of body))

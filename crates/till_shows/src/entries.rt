@@ -55,7 +55,7 @@ fn receipt(
     format!(in alloc; "receive: branch {from}, consignment {number}, missing {missing}")
 }
 
-fn act_line(alloc: Global, act: &Act) -> Result<String, AllocError>
+pub(crate) fn act_line(alloc: Global, act: &Act) -> Result<String, AllocError>
     ensures { IfOk result (λ s. string_bytes s ≡ act_text (seen_act act.now)) }
 {
     match act {

@@ -11,6 +11,7 @@ mod looks;
 mod moments;
 mod numbers;
 mod parts;
+mod questions;
 mod refusals;
 mod replies;
 mod sheets;
@@ -30,6 +31,7 @@ pub use looks::{
     rewards_line,
 };
 pub use moments::{age_words, day_words, moment_words};
+pub use questions::{is_covered, is_grave, owed_cents, question_on};
 pub use refusals::{Sentences, sentences_on, told_refusal};
 pub use replies::reply_line;
 pub use sheets::{customer_sheet, film_sheet};

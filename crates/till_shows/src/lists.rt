@@ -4,7 +4,8 @@ ghost use Rattle.std.specs.Prelude.{◌≡◌, [], ◌∷◌, Some, None, IfOk, 
 ghost use Rattle.serde_json.specs.View.{view};
 ghost use Rattle.till_shows.specs.Bodies.{each};
 ghost use Rattle.till_shows.specs.Fields.{row_of};
-ghost use Rattle.till_shows.specs.Lists.{begins_with, stands_in, stands_at, has_field, is_found, headed, more_rows};
+ghost use Rattle.till_shows.specs.Lists.{is_left_out, begins_with, stands_in, stands_at, has_field};
+ghost use Rattle.till_shows.specs.Lists.{is_found, are_found, is_sought, headed, more_rows};
 ghost use Rattle.till_shows.specs.Lists.{found_rows, table_in, whole_table, customer_fields, film_fields};
 ghost use Rattle.till_shows.specs.Lists.{overdue_fields, arrival_fields, sent_fields, store_fields, category_fields};
 ghost use Rattle.till_shows.specs.Lists.{first_named, named_in};
@@ -17,11 +18,30 @@ use serde_json::Value;
 use shop_types::{CustomerNo, FilmNo};
 use std::alloc::{AllocError, Global};
 
-/// Reports whether the text begins with the part, in any case of ASCII letters.
+/// Reports whether the byte is a hyphen of the text that the part leaves out.
+fn is_left_out(p: u8, t: u8) -> bool
+    ensures { result ≡ is_left_out p t }
+{
+    t == b'-' && p != b'-'
+}
+
+/// Reports whether the text begins with the part, in any case of ASCII letters. The part may leave out hyphens.
 fn begins_with(text: &[u8], part: &[u8]) -> bool
     ensures { result ≡ begins_with part.now text.now }
 {
-    part.len() <= text.len() && text[..part.len()].eq_ignore_ascii_case(part)
+    let mut left = part;
+    for t in text {
+        let [p, rest @ ..] = left else {
+            return true;
+        };
+        if !is_left_out(*p, *t) {
+            if !p.eq_ignore_ascii_case(t) {
+                return false;
+            }
+            left = rest;
+        }
+    }
+    left.is_empty()
 }
 
 /// Reports whether the text contains the part, in any case of ASCII letters.
@@ -66,6 +86,20 @@ fn is_found(value: &Value, parts: &[Part], part: &str) -> bool
     part.is_empty()
 }
 
+/// Reports whether each word of the text is found in the object. Commas separate the words.
+fn are_found(value: &Value, parts: &[Part], text: &str) -> bool
+    ensures { result ≡ are_found text.now parts.now (view value.now) }
+{
+    text.split(',').all(|word| is_found(value, parts, word))
+}
+
+/// Reports whether each word of the text is found in the object. Blanks and commas separate the words.
+fn is_sought(value: &Value, parts: &[Part], text: &str) -> bool
+    ensures { result ≡ is_sought text.now parts.now (view value.now) }
+{
+    text.split(' ').all(|piece| are_found(value, parts, piece))
+}
+
 /// Adds the object's row to the table.
 fn add_row(alloc: Global, value: &Value, parts: &[Part], table: &mut Table) -> Result<(), NotShown>
     ensures shown { OnOk result (option_map (more_rows table.old) (each (row_of parts.now) (view value.now ∷ []))
@@ -78,7 +112,7 @@ fn add_row(alloc: Global, value: &Value, parts: &[Part], table: &mut Table) -> R
     Ok(())
 }
 
-/// Adds the object's row to the table, if the part is found in the object.
+/// Adds the object's row to the table, if the words of the part are found in the object.
 fn add_found(
     alloc: Global,
     value: &Value,
@@ -91,13 +125,13 @@ fn add_found(
     ensures other { IfErr result (λ fault. fault ≡ OtherForm
         → found_rows parts.now part.now (view value.now ∷ []) ≡ None) }
 {
-    if is_found(value, parts, part) {
+    if is_sought(value, parts, part) {
         return add_row(alloc, value, parts, table);
     }
     Ok(())
 }
 
-/// Adds a row for each object in which the part is found, in their order.
+/// Adds a row for each object in which the part's words are found, in their order.
 fn add_rows(
     alloc: Global,
     rows: &[Value],
@@ -124,7 +158,7 @@ fn empty_table(alloc: Global, parts: &[Part]) -> Result<Table, AllocError>
     Table::new(alloc, columns.as_slice())
 }
 
-/// Returns the table, with these parts, of the objects in which the part is found, in their order.
+/// Returns the table, with these parts, of the objects in which the part's words are found, in their order.
 fn table_of_rows(
     alloc: Global,
     rows: &[Value],
@@ -141,7 +175,7 @@ fn table_of_rows(
     Ok(table)
 }
 
-/// Returns the table, with these parts, of the body's objects in which the part is found, in the body's order.
+/// Returns the table, with these parts, of the body's objects in which the part's words are found, in the body's order.
 fn table_of(alloc: Global, body: &[u8], parts: &[Part], part: &str) -> Result<Table, NotShown>
     ensures shown { IfOk result (λ table. table_in parts.now part.now body.now ≡ Some table) }
     ensures other { IfErr result (λ fault. fault ≡ OtherForm → table_in parts.now part.now body.now ≡ None) }
@@ -174,9 +208,9 @@ fn customer_parts() -> [Part; 6]
     ]
 }
 
-/// Returns the table of the customers whose name or telephone number contains the part, from the body of
-/// `GET /views/customer_list`. Ignores the case of ASCII letters. Keeps the order of the list. Each text contains an
-/// empty part.
+/// Returns the table of the customers whose name or telephone number contains each word of the part, from the body of
+/// `GET /views/customer_list`. Blanks and commas separate the words, which may be in any order. Ignores the case of
+/// ASCII letters, and hyphens that a word leaves out. Keeps the order of the list. Each text contains an empty word.
 pub fn customers_with(alloc: Global, body: &[u8], part: &str) -> Result<Table, NotShown>
     ensures shown { IfOk result (λ table. table_in customer_fields part.now body.now ≡ Some table) }
     ensures other { IfErr result (λ fault. fault ≡ OtherForm → table_in customer_fields part.now body.now ≡ None) }
@@ -196,8 +230,9 @@ fn film_parts() -> [Part; 5]
     ]
 }
 
-/// Returns the table of the films whose title contains the part, from the body of `GET /views/film_list`. Ignores the
-/// case of ASCII letters. Keeps the order of the list. Each text contains an empty part.
+/// Returns the table of the films whose title contains each word of the part, from the body of `GET /views/film_list`.
+/// Blanks and commas separate the words, which may be in any order. Ignores the case of ASCII letters, and hyphens that
+/// a word leaves out. Keeps the order of the list. Each text contains an empty word.
 pub fn films_with(alloc: Global, body: &[u8], part: &str) -> Result<Table, NotShown>
     ensures shown { IfOk result (λ table. table_in film_fields part.now body.now ≡ Some table) }
     ensures other { IfErr result (λ fault. fault ≡ OtherForm → table_in film_fields part.now body.now ≡ None) }

@@ -4,7 +4,7 @@ ghost use Rattle.std.specs.Prelude.{◌≡◌, ◌++◌, Some, None, IfOk, IfErr
 ghost use Rattle.serde_json.specs.View.{view};
 ghost use Rattle.till_shows.specs.Bodies.{body_of, numbers_at};
 ghost use Rattle.till_shows.specs.Entries.{not_text};
-ghost use Rattle.till_shows.specs.Looks.{who_text, stock_text, in_stock_in, row_number, customer_or_none, holder_in, holder_text};
+ghost use Rattle.till_shows.specs.Looks.{who_text, unless_text, stock_text, in_stock_in, row_number, customer_or_none, holder_in, holder_text};
 ghost use Rattle.till_shows.specs.Looks.{counted_or, copies_of_film, film_in_stock_in, film_not_in_stock_in};
 ghost use Rattle.till_shows.specs.Looks.{balance_text, balance_in, rewards_in};
 ghost use Rattle.till_shows.specs.declared.bodies.NotShown.TheVariants.{OtherForm};
@@ -29,15 +29,26 @@ fn who(is_in: bool) -> &'static str
     if is_in { "no" } else { "a" }
 }
 
+/// Returns what is added of a copy that no customer has.
+fn unless(is_in: bool) -> &'static str
+    ensures { result.now ≡ unless_text is_in }
+{
+    if is_in {
+        ": it is here, unless it was sent off or scrapped"
+    } else {
+        ""
+    }
+}
+
 fn stock_text(alloc: Global, copy: CopyNo, is_in: bool) -> Result<String, AllocError>
     ensures { IfOk result (λ s. string_bytes s ≡ stock_text copy is_in) }
 {
-    let who = who(is_in);
-    format!(in alloc; "{who} customer has copy {}", copy.get())
+    let (who, unless) = (who(is_in), unless(is_in));
+    format!(in alloc; "{who} customer has copy {}{unless}", copy.get())
 }
 
-/// Returns the line for the body of `GET /in-stock/{copy}`: `no customer has copy 4`, or `a customer has copy 4`. The
-/// server looks at rentals alone: the copy may have been sent to another branch or scrapped.
+/// Returns the line for the body of `GET /in-stock/{copy}`: `a customer has copy 4`, or that none has. The server looks
+/// at rentals alone: the copy may have been sent to another branch or scrapped, and the line says so.
 pub fn in_stock_line(alloc: Global, copy: CopyNo, body: &[u8]) -> Result<String, NotShown>
     ensures shown { IfOk result (λ line. in_stock_in copy body.now ≡ Some (string_bytes line)) }
     ensures other { IfErr result (λ fault. fault ≡ OtherForm → in_stock_in copy body.now ≡ None) }

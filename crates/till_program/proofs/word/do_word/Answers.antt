@@ -117,3 +117,49 @@ returns-clause-untouched g c clean enters other =
     let read = c.plan_of.ensures.clean (c.carry_out.ensures.clean clean) in
     absurd (other (own_book c.args.desk.now.settings.now.mark c.in_ok-book.book.is_own
     (state g.S.Store c.args.conn.now) (c.in_ok-book.ensures.marked read) (c.in_ok-plan.ensures.marked enters)))
+
+-- ---- no answer where one is wanted
+
+pub returns-in_err-is_answered-clause-keeps : goal.returns-in_err-is_answered-clause-keeps
+returns-in_err-is_answered-clause-keeps g c clean kept branch =
+    stays_keeps _ c.args.desk.now.settings.now.mark (state g.S.Store c.args.conn.now) (state g.S.Store c.plan_of.new.conn)
+    (stays_both (state g.S.Store c.args.conn.now) (state g.S.Store c.read.new.conn)
+    (state g.S.Store c.plan_of.new.conn) (c.read.ensures.stays (c.plan_of.ensures.clean clean))
+    (c.plan_of.ensures.stays clean))
+
+pub returns-in_err-is_answered-clause-office : goal.returns-in_err-is_answered-clause-office
+returns-in_err-is_answered-clause-office g c clean kept office =
+    stays_grows _ (state g.S.Store c.args.conn.now) (state g.S.Store c.plan_of.new.conn)
+    (stays_both (state g.S.Store c.args.conn.now) (state g.S.Store c.read.new.conn)
+    (state g.S.Store c.plan_of.new.conn) (c.read.ensures.stays (c.plan_of.ensures.clean clean))
+    (c.plan_of.ensures.stays clean))
+
+pub returns-in_err-is_answered-clause-others : goal.returns-in_err-is_answered-clause-others
+returns-in_err-is_answered-clause-others g c other = absurd (other c.in_ok-plan.ensures.own)
+
+pub returns-in_err-is_answered-clause-stays : goal.returns-in_err-is_answered-clause-stays
+returns-in_err-is_answered-clause-stays g c clean other = absurd (other c.in_ok-plan.ensures.own)
+
+pub returns-in_err-is_answered-clause-foreign : goal.returns-in_err-is_answered-clause-foreign
+returns-in_err-is_answered-clause-foreign g c clean enters for other =
+    let read = c.plan_of.ensures.clean clean in
+    absurd (other (own_book c.args.desk.now.settings.now.mark c.in_ok-book.book.is_own
+    (state g.S.Store c.args.conn.now) (c.in_ok-book.ensures.marked read) (c.in_ok-plan.ensures.marked enters)))
+
+pub returns-in_err-is_answered-clause-untouched : goal.returns-in_err-is_answered-clause-untouched
+returns-in_err-is_answered-clause-untouched g c clean enters other =
+    stays_both (state g.S.Store c.args.conn.now) (state g.S.Store c.read.new.conn)
+    (state g.S.Store c.plan_of.new.conn) (c.read.ensures.stays (c.plan_of.ensures.clean clean))
+    (c.plan_of.ensures.stays clean)
+
+pub returns-in_err-plan-clause-unanswered : goal.returns-in_err-plan-clause-unanswered
+returns-in_err-plan-clause-unanswered g c clean no =
+    stays_both (state g.S.Store c.args.conn.now) (state g.S.Store c.read.new.conn)
+    (state g.S.Store c.plan_of.new.conn) (c.read.ensures.stays (c.plan_of.ensures.clean clean))
+    (c.plan_of.ensures.stays clean)
+
+pub returns-in_err-is_answered-clause-unanswered : goal.returns-in_err-is_answered-clause-unanswered
+returns-in_err-is_answered-clause-unanswered g c clean no =
+    stays_both (state g.S.Store c.args.conn.now) (state g.S.Store c.read.new.conn)
+    (state g.S.Store c.plan_of.new.conn) (c.read.ensures.stays (c.plan_of.ensures.clean clean))
+    (c.plan_of.ensures.stays clean)
