@@ -117,7 +117,7 @@ pub record GoesOn (closed now : Journal) : Type 0 where
   pub replies : (more : List Answer) × (now.replies ≡ closed.replies ++ more)
   pub settled : (more : List (ℕ × Answer)) × (now.settled ≡ closed.settled ++ more)
 
--- the numbers name the entries that settlements had accepted
+-- the numbers are those of the entries that settlements had accepted
 abbrev pub AreKnown : List ℕ → Journal → Type 0
 AreKnown known journal = (n : ℕ) → is_among n known ≡ is_among n (late_of journal.settled)
 

@@ -78,7 +78,7 @@ fn late_numbers(alloc: Global, settled: &[Settlement]) -> Result<Vec<u32>, Store
     Ok(late)
 }
 
-/// Tests whether the numbers have this one.
+/// Tests whether the number is one of these.
 fn is_among(number: u32, numbers: &[u32]) -> bool
     ensures { result ≡ is_among number numbers.now }
 {
