@@ -243,13 +243,6 @@ fn parted(alloc: Global, bytes: &[u8]) -> Option<(u64, Vec<u8>)> {
     Some((second, list))
 }
 
-/// Puts the bytes into a new file, which then takes the place of the file of that name.
-fn replace_own(rt: &HostRuntime, path: &str, bytes: &[u8]) -> io::Result<()> {
-    let new = format!(in rt.alloc(); "{path}.new")?;
-    write_own(rt, new.as_str(), bytes)?;
-    fs::rename(rt, new.as_str(), path)
-}
-
 impl Shelf for FileShelf<'_> {
     fn take(&self, alloc: Global, name: &'static str) -> Option<(u64, Vec<u8>)> {
         let path = self.path(alloc, name)?;

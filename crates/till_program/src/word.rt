@@ -45,6 +45,7 @@ use till_words::{Drawer, TillAct, TillLook, WordList, help_text};
 use till_work::{Server, Watch};
 
 /// What is to be done for a word, once the book was looked at.
+#[derive(Drop)]
 enum Plan {
     /// A command is entered, and then it is said what the customer owes.
     Give(Act, Option<CustomerNo>),
