@@ -139,7 +139,7 @@ fn closing_of(at: Moment, drawer: InDrawer, counted: u32) -> Closing
 
 /// What is in the drawer, and how that is said.
 #[derive(Drop)]
-struct Shown {
+struct DrawerSaid {
     drawer: InDrawer,
     said: Said,
 }
@@ -150,7 +150,7 @@ fn shown<S: Alter, K: WallClock, V: Server, L: Shelf>(
     desk: &Desk<'_, K, V, L>,
     conn: &mut Connection<S>,
     book: &Book,
-) -> Result<Shown, TillFault>
+) -> Result<DrawerSaid, TillFault>
     requires { conn.old.in_transaction ≡ false }
     ensures ended { conn.new.in_transaction ≡ false }
     ensures clean { HasCleanDisk (state S.Store conn.new) → HasCleanDisk (state S.Store conn.old) }
@@ -164,7 +164,7 @@ fn shown<S: Alter, K: WallClock, V: Server, L: Shelf>(
     }
     let waiting = book.place.entries.saturating_sub(book.place.replies);
     let said = says(desk.alloc, last.at, waiting, &drawer.tally)?;
-    Ok(Shown { drawer, said })
+    Ok(DrawerSaid { drawer, said })
 }
 
 /// Shows what is in the drawer. The book stays.
@@ -178,7 +178,7 @@ fn since<S: Alter, K: WallClock, V: Server, L: Shelf>(
     ensures clean { HasCleanDisk (state S.Store conn.new) → HasCleanDisk (state S.Store conn.old) }
     ensures stays { HasCleanDisk (state S.Store conn.new) → Stays (state S.Store conn.old) (state S.Store conn.new) }
 {
-    let Shown { said, .. } = shown(desk, conn, book)?;
+    let DrawerSaid { said, .. } = shown(desk, conn, book)?;
     Ok(said)
 }
 
@@ -194,7 +194,7 @@ fn close<S: Alter, K: WallClock, V: Server, L: Shelf>(
     ensures clean { HasCleanDisk (state S.Store conn.new) → HasCleanDisk (state S.Store conn.old) }
     ensures stays { HasCleanDisk (state S.Store conn.new) → Stays (state S.Store conn.old) (state S.Store conn.new) }
 {
-    let Shown { drawer, mut said } = shown(desk, conn, book)?;
+    let DrawerSaid { drawer, mut said } = shown(desk, conn, book)?;
     let closing = closing_of(desk.now()?, drawer, counted);
     add_closing(desk.alloc, desk.shelf, &closing)?;
     let line = closing_line(desk.alloc, closing.at, closing.expected, closing.counted)?;
