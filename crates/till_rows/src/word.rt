@@ -41,8 +41,8 @@ fn words_in(alloc: Global, line: &str) -> Result<Vec<String>, Fault> {
     }
 }
 
-/// What is typed, who types it, if that isn't the member of staff whose till it is, and whether what can't be undone is
-/// to be done.
+/// What is typed, and who types it, if that isn't the member of staff whose till it is. And whether what can't be undone
+/// is to be done.
 #[derive(Drop)]
 struct Typed {
     act: TillAct,

@@ -1,7 +1,7 @@
 //! The zones that a row's till may have, each with the till's settings in it and the rules of its clock on the wall.
 use crate::fault::Fault;
 use jiff_tz::{TimeZone, posix};
-use std::alloc::Global;
+use std::alloc::{AllocError, Global};
 use std::marker::Model;
 use till_requests::{Settings, read_settings};
 
@@ -79,7 +79,11 @@ impl Zones {
     pub fn new(alloc: Global) -> Result<Zones, Fault> {
         let mut zones = Vec::new(alloc);
         for known in KNOWN.as_slice() {
-            zones.push(in_zone(alloc, known)?)?;
+            let zone = in_zone(alloc, known)?;
+            match zones.push(zone) {
+                Ok(()) => {}
+                Err(full) => return Err(AllocError::from(full).into()),
+            }
         }
         Ok(Zones { zones })
     }
