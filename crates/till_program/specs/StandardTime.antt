@@ -18,6 +18,6 @@ unfoldable pub least_offset : ℕ → TimeZone → ℤ → ℤ → ℤ → ℤ
 least_offset zero zone end at least = least
 least_offset (suc n) zone end at least = least_then (least_offset n zone end) end least (next_at zone at)
 
--- the offset at that instant, and those of the 366 days after it
+-- the offset at that instant, and each offset of the 366 days after it
 abbrev pub standard_offset : TimeZone → ℤ → ℤ
 standard_offset zone now = least_offset 400 zone (now +ℤ pos 31_622_400_000_000_000) now (offset_at zone now)

@@ -88,7 +88,7 @@ fn says(
     Ok(said)
 }
 
-/// The last closing, of which no number is known if the drawer wasn't closed yet.
+/// What the last closing knows. If the drawer wasn't closed yet, it knows no number.
 #[derive(Drop)]
 struct Last {
     at: Option<Moment>,

@@ -4,6 +4,7 @@ ghost use Rattle.std.specs.Prelude.{◌≡◌, false, IfErr, IfSome};
 ghost use Rattle.sqlite.specs.Held.{state};
 ghost use Rattle.sqlite.specs.State.{HasCleanDisk};
 ghost use Rattle.till_work.specs.Told.{IsTold};
+ghost use Rattle.till_program.specs.Faults.{IsBookKept};
 ghost use Rattle.till_program.specs.Word.{EntersNothing};
 
 use crate::caches::Shelf;
@@ -93,6 +94,13 @@ struct Outcome {
     is_failed: bool,
 }
 
+/// Reports whether the book failed.
+fn has_failed(sure: &Result<(), TillFault>) -> bool
+    ensures { result ≡ false → IsBookKept sure.now }
+{
+    matches!(sure, Err(TillFault::Book))
+}
+
 /// Makes sure of refused entries after a word, and prints what that results in. Returns whether the book failed.
 fn sure_at<S: Alter, K: WallClock, V: Server, L: Shelf, W: Write, E: Write>(
     desk: &Desk<'_, K, V, L>,
@@ -110,7 +118,7 @@ fn sure_at<S: Alter, K: WallClock, V: Server, L: Shelf, W: Write, E: Write>(
     let mut more = Said::done(desk.alloc);
     let sure = make_sure(desk, conn, &mut more);
     print(Ok(more), out, err);
-    matches!(sure, Err(TillFault::Book))
+    has_failed(&sure)
 }
 
 /// Does a word at an open book, and prints what it resulted in. If it was done, refused entries are made sure of after
@@ -147,8 +155,8 @@ pub(crate) struct Standing {
     pub(crate) is_prompt: bool,
 }
 
-/// A word, how its answer is printed, whether it is done without a question, and who gives it, if it isn't the member
-/// of staff whose till it is.
+/// A word, how its answer is printed, and whether it is done without a question. And who gives it, if it isn't the
+/// member of staff whose till it is.
 #[derive(Drop)]
 struct Word {
     is_json: bool,
