@@ -65,7 +65,7 @@ returns-in-Last-clause-grows g c clean kept office planned =
 pub returns-in-Day-clause-done : goal.returns-in-Day-clause-done
 returns-in-Day-clause-done g c clean =
     carried_out c.day.result (IsTold (g.V.Server.opens c.args.desk.now.server.now) g.V.Reader.Read.remaining g.V.Writer.Write.contents)
-    (g.K.WallClock.shows c.args.desk.now.clock.now)
+    (local_clock (g.K.WallClock.shows c.args.desk.now.clock.now) c.args.desk.now.settings.now.zone)
     c.args.desk.now.settings.now.mark c.args.desk.now.settings.now.token (giver_of c.args.desk.now.settings.now.staff c.args.desk.now.staff) c.args.plan
     (plan.Day c.in-Day.asked) _ _ _ _ c.in-Day.is (on_ok _ (c.day.ensures.stays clean))
 

@@ -1,4 +1,4 @@
-use Rattle.std.proofs.Common.{◌≡◌, ◌⊎◌, ◌∙◌, Result, Ok, Err, IfErr, IsErrAnd, inr, refl}
+use Rattle.std.proofs.Common.{◌≡◌, ◌⊎◌, ◌∙◌, Result, Ok, Err, IfErr, IsErrAnd, inl, inr, refl, subst, sym}
 use Rattle.sqlite.specs.Held.{state}
 use Rattle.till_program.specs.declared.fault.TillFault.{TillFault}
 use Rattle.till_program.specs.declared.fault.TillFault.TheVariants.{OtherBook}
@@ -50,6 +50,20 @@ returns-clause-office g c clean kept office =
     (stays_both (state g.S.Store c.args.conn.now) (state g.S.Store c.read.new.conn)
     (state g.S.Store c.plan_of.new.conn) (c.read.ensures.stays read) (c.plan_of.ensures.stays planned))
     (c.carry_out.ensures.grows clean kept office c.in_ok-plan.ensures.planned)
+
+-- the reading's fault is returned
+read_on : {A : Type 0} (result : Result A TillFault) (fault wanted : TillFault) → IsErrAnd result (λ told. told ≡ fault) → IsReading fault
+    → IfErr result (λ told. IsReading told ⊎ (told ≡ wanted))
+read_on (Ok said) fault wanted handed reading = absurd handed
+read_on (Err told) fault wanted handed reading = inl (subst IsReading (sym handed) reading)
+
+pub returns-in_err-book-clause-others : goal.returns-in_err-book-clause-others
+returns-in_err-book-clause-others g c other =
+    read_on c.from_residual.result _ (others_fault c.args.desk.now.settings.now.staff) c.from_residual.ensures.1 c.in_err-book.ensures.fault
+
+pub returns-in_err-book-clause-foreign : goal.returns-in_err-book-clause-foreign
+returns-in_err-book-clause-foreign g c clean enters for other =
+    read_on c.from_residual.result _ OtherBook c.from_residual.ensures.1 c.in_err-book.ensures.fault
 
 -- the plan's fault is returned
 handed_on : {A B : Type 0} (result : Result A TillFault) (plan : Result B TillFault) (fault wanted : TillFault)
@@ -153,13 +167,13 @@ returns-in_err-is_answered-clause-untouched g c clean enters other =
     (c.plan_of.ensures.stays clean)
 
 pub returns-in_err-plan-clause-unanswered : goal.returns-in_err-plan-clause-unanswered
-returns-in_err-plan-clause-unanswered g c clean no =
+returns-in_err-plan-clause-unanswered g c clean lacking =
     stays_both (state g.S.Store c.args.conn.now) (state g.S.Store c.read.new.conn)
     (state g.S.Store c.plan_of.new.conn) (c.read.ensures.stays (c.plan_of.ensures.clean clean))
     (c.plan_of.ensures.stays clean)
 
 pub returns-in_err-is_answered-clause-unanswered : goal.returns-in_err-is_answered-clause-unanswered
-returns-in_err-is_answered-clause-unanswered g c clean no =
+returns-in_err-is_answered-clause-unanswered g c clean lacking =
     stays_both (state g.S.Store c.args.conn.now) (state g.S.Store c.read.new.conn)
     (state g.S.Store c.plan_of.new.conn) (c.read.ensures.stays (c.plan_of.ensures.clean clean))
     (c.plan_of.ensures.stays clean)
