@@ -44,14 +44,14 @@ fn words_in(alloc: Global, line: &str) -> Result<Vec<String>, Fault> {
 /// What is typed, and who types it, if that isn't the member of staff whose till it is. And whether what can't be undone
 /// is to be done.
 #[derive(Drop)]
-struct Typed {
+struct TypedLine {
     act: TillAct,
     staff: Option<StaffNo>,
     is_sure: bool,
 }
 
 /// Reads what the words ask for, with the stock file instead of its name.
-fn typed(alloc: Global, stock: &[u8], line: &str) -> Result<Typed, Fault> {
+fn typed(alloc: Global, stock: &[u8], line: &str) -> Result<TypedLine, Fault> {
     let words = words_in(alloc, line)?;
     let read = read_till_words(alloc, words.as_slice());
     drop(words);
@@ -67,7 +67,7 @@ fn typed(alloc: Global, stock: &[u8], line: &str) -> Result<Typed, Fault> {
         ) => {
             drop(book);
             match with_stock(alloc, act, stock) {
-                Ok(act) => Ok(Typed {
+                Ok(act) => Ok(TypedLine {
                     act,
                     staff,
                     is_sure,
@@ -169,7 +169,7 @@ pub fn type_at<'x, S: Alter, C: Counter>(
     if !conn.is_autocommit() {
         return Err(NO_BOOK);
     }
-    let Typed {
+    let TypedLine {
         act,
         staff,
         is_sure,
