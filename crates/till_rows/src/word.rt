@@ -181,11 +181,11 @@ pub fn type_at<'x, S: Alter, C: Counter>(
     match act {
         TillAct::Zone(name) => {
             let number = world.zones().number_of(name.as_str())?;
-            let desk = desk_in(alloc, world, kit, &server, number, staff, is_sure)?;
+            let desk = desk_in(alloc, &*world, &*kit, &server, number, staff, is_sure)?;
             tell(alloc, set(&desk, conn, kit, number), told)
         }
         act => {
-            let desk = desk_in(alloc, world, kit, &server, kit.zone(), staff, is_sure)?;
+            let desk = desk_in(alloc, &*world, &*kit, &server, kit.zone(), staff, is_sure)?;
             tell(alloc, done(&desk, conn, act), told)
         }
     }
