@@ -6,7 +6,7 @@ use crate::shelf::{Board, Hands};
 use crate::texts::Texts;
 use shop_types::Moment;
 use std::alloc::Global;
-use std::cell::{Cell, RefCell};
+use std::cell::RefCell;
 use std::marker::Model;
 use till_client::{ReplyReading, read_reply};
 
@@ -18,8 +18,6 @@ pub struct Kit<C: Counter> {
     clock: Hands,
     shelf: Board,
     wire: RefCell<Wire<C>>,
-    /// The number of the till's zone.
-    zone: Cell<usize>,
 }
 
 /// The model is trivial, as for `Image`.
@@ -63,7 +61,6 @@ impl<C: Counter> Kit<C> {
             clock: Hands::new(),
             shelf: Board::new(alloc),
             wire: RefCell::new(Wire::new(alloc, counter, repeats)),
-            zone: Cell::new(0),
         }
     }
 
@@ -77,16 +74,6 @@ impl<C: Counter> Kit<C> {
 
     pub fn wire(&self) -> &RefCell<Wire<C>> {
         &self.wire
-    }
-
-    /// Returns the number of the till's zone.
-    pub fn zone(&self) -> usize {
-        self.zone.get()
-    }
-
-    /// Sets the number of the till's zone.
-    pub fn moves_to(&self, zone: usize) {
-        self.zone.set(zone);
     }
 
     /// Sets the clock.

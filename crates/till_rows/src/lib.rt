@@ -16,6 +16,5 @@ mod shop;
 mod texts;
 mod word;
 mod world;
-mod zones;
 
 pub use rows::play_days;

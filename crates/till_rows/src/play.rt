@@ -120,24 +120,15 @@ impl<'x, D: InMemory, C: Counter> Play<'x, D, C> {
         self.kit.asks(self.alloc, line, &mut self.told)
     }
 
-    /// Begins the day in the zone of that name.
-    fn moves_to(&mut self, name: &str) -> Result<(), Fault> {
-        self.kit.moves_to(self.world.zones().number_of(name)?);
-        Ok(())
-    }
-
     /// Does what happens to the clock, the book or the line.
     fn happens(&mut self, what: &str) -> Result<(), Fault> {
-        if let Some(at) = what.strip_prefix("at ") {
-            return self.kit.sets(at);
-        }
-        if let Some(name) = what.strip_prefix("zone ") {
-            return self.moves_to(name);
-        }
-        match what {
-            "copy" => self.book.copies(),
-            "back" => self.book.puts_back(),
-            _ => self.kit.happens(what),
+        match what.strip_prefix("at ") {
+            Some(at) => self.kit.sets(at),
+            None => match what {
+                "copy" => self.book.copies(),
+                "back" => self.book.puts_back(),
+                _ => self.kit.happens(what),
+            },
         }
     }
 
@@ -156,7 +147,7 @@ impl<'x, D: InMemory, C: Counter> Play<'x, D, C> {
     }
 
     /// Plays the next line: `till> WORDS` or `till STATUS> WORDS`, `STATUS> WHO METHOD PATH BODY`, `: at MOMENT`,
-    /// `: zone NAME`, `: WHAT`, or one more line of the wanted text.
+    /// `: WHAT`, or one more line of the wanted text.
     pub fn plays(&mut self, line: &str) -> Result<(), Fault> {
         self.line = self.line.saturating_add(1);
         if line.is_empty() || line.starts_with("#") {

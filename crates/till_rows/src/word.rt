@@ -8,10 +8,11 @@ use crate::line::{Counter, Line};
 use crate::shelf::{Board, Hands};
 use crate::texts::Texts;
 use crate::world::World;
+use jiff_tz::TimeZone;
 use shop_types::{Act, LotName, StaffNo, StockFile};
 use sqlite::{Alter, Connection};
 use std::alloc::Global;
-use till_program::{Desk, Quiet, Said, TillFault, accept_zone, do_word, make_sure, zone_said};
+use till_program::{Desk, Quiet, Said, TillFault, do_word, make_sure};
 use till_words::{TillAct, TillLine, read_till_words, split_line};
 
 /// Returns the import of the stock file as a lot of that name.
@@ -118,45 +119,6 @@ fn tell(alloc: Global, said: Result<Said, TillFault>, told: &mut Texts) -> Resul
     }
 }
 
-/// Returns what the till works with, in the zone with that number, if that member of staff gives the word.
-fn desk_in<'x, C: Counter>(
-    alloc: Global,
-    world: &'x World,
-    kit: &'x Kit<C>,
-    server: &'x Line<'x, C>,
-    number: usize,
-    staff: Option<StaffNo>,
-    is_sure: bool,
-) -> Result<Desk<'x, Hands, Line<'x, C>, Board>, Fault> {
-    let zone = world.zones().at(number)?;
-    Ok(Desk {
-        alloc,
-        clock: kit.clock(),
-        server,
-        shelf: kit.shelf(),
-        routes: world.routes(),
-        settings: &zone.settings,
-        wall: zone.wall,
-        staff,
-        is_json: false,
-        is_sure,
-    })
-}
-
-/// Sets the till's zone to the desk's, which has that number, if the book accepts that zone, as the program does.
-fn set<S: Alter, C: Counter>(
-    desk: &Desk<'_, Hands, Line<'_, C>, Board>,
-    conn: &mut Connection<S>,
-    kit: &Kit<C>,
-    number: usize,
-) -> Result<Said, TillFault>
-    requires { conn.old.in_transaction ≡ false }
-{
-    accept_zone(desk, conn)?;
-    kit.moves_to(number);
-    zone_said(desk.alloc, desk.settings)
-}
-
 /// Types the line at a till's book, and puts what is printed into `told`. Returns false if the book's disk has failed.
 pub fn type_at<'x, S: Alter, C: Counter>(
     alloc: Global,
@@ -178,15 +140,17 @@ pub fn type_at<'x, S: Alter, C: Counter>(
         Err(fault) => return Err(fault),
     };
     let server = Line { wire: kit.wire() };
-    match act {
-        TillAct::Zone(name) => {
-            let number = world.zones().number_of(name.as_str())?;
-            let desk = desk_in(alloc, &*world, &*kit, &server, number, staff, is_sure)?;
-            tell(alloc, set(&desk, conn, kit, number), told)
-        }
-        act => {
-            let desk = desk_in(alloc, &*world, &*kit, &server, kit.zone(), staff, is_sure)?;
-            tell(alloc, done(&desk, conn, act), told)
-        }
-    }
+    let desk = Desk {
+        alloc,
+        clock: kit.clock(),
+        server: &server,
+        shelf: kit.shelf(),
+        routes: world.routes(),
+        settings: world.settings(),
+        wall: TimeZone::UTC,
+        staff,
+        is_json: false,
+        is_sure,
+    };
+    tell(alloc, done(&desk, conn, act), told)
 }
