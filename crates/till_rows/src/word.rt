@@ -119,6 +119,39 @@ fn tell(alloc: Global, said: Result<Said, TillFault>, told: &mut Texts) -> Resul
     }
 }
 
+/// Does what is typed at a desk without a zone, and puts what is printed into `told`. Returns false if the book's disk has
+/// failed.
+fn at_desk<'d, 'x, S: Alter, C: Counter>(
+    alloc: Global,
+    world: &'d World,
+    kit: &'d Kit<C>,
+    server: &'d Line<'x, C>,
+    conn: &mut Connection<S>,
+    typed: TypedLine,
+    told: &mut Texts,
+) -> Result<bool, Fault>
+    requires { conn.old.in_transaction ≡ false }
+{
+    let TypedLine {
+        act,
+        staff,
+        is_sure,
+    } = typed;
+    let desk = Desk {
+        alloc,
+        clock: kit.clock(),
+        server,
+        shelf: kit.shelf(),
+        routes: world.routes(),
+        settings: world.settings(),
+        wall: TimeZone::UTC,
+        staff,
+        is_json: false,
+        is_sure,
+    };
+    tell(alloc, done(&desk, conn, act), told)
+}
+
 /// Types the line at a till's book, and puts what is printed into `told`. Returns false if the book's disk has failed.
 pub fn type_at<'x, S: Alter, C: Counter>(
     alloc: Global,
@@ -131,26 +164,10 @@ pub fn type_at<'x, S: Alter, C: Counter>(
     if !conn.is_autocommit() {
         return Err(NO_BOOK);
     }
-    let TypedLine {
-        act,
-        staff,
-        is_sure,
-    } = match typed(alloc, world.stock(), line) {
+    let typed = match typed(alloc, world.stock(), line) {
         Ok(it) => it,
         Err(fault) => return Err(fault),
     };
     let server = Line { wire: kit.wire() };
-    let desk = Desk {
-        alloc,
-        clock: kit.clock(),
-        server: &server,
-        shelf: kit.shelf(),
-        routes: world.routes(),
-        settings: world.settings(),
-        wall: TimeZone::UTC,
-        staff,
-        is_json: false,
-        is_sure,
-    };
-    tell(alloc, done(&desk, conn, act), told)
+    at_desk(alloc, &*world, &*kit, &server, conn, typed, told)
 }
