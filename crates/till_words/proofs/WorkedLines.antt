@@ -81,15 +81,15 @@ film_by_words = refl
 
 -- ---- labels
 
-pub rent_by_labels : till_line_of (codes "rent" ∷ codes "K17" ∷ codes "C4" ∷ []) ≡ Some (line (till.Do (act.Rent 17 4)))
+pub rent_by_labels : till_line_of (codes "rent" ∷ codes "K17" ∷ codes "C12" ∷ []) ≡ Some (line (till.Do (act.Rent 17 12)))
 unfolding clap_on_literals read_of till_line_of
 rent_by_labels = refl
 
-pub label_of_the_other : till_line_of (codes "rent" ∷ codes "C17" ∷ codes "C4" ∷ []) ≡ None
+pub label_of_the_other : till_line_of (codes "rent" ∷ codes "C17" ∷ codes "C12" ∷ []) ≡ None
 unfolding clap_on_literals read_of till_line_of
 label_of_the_other = refl
 
-pub copy_alone : till_line_of (codes "C4" ∷ []) ≡ Some (line (till.Look (look.InStock 4)))
+pub copy_alone : till_line_of (codes "C12" ∷ []) ≡ Some (line (till.Look (look.InStock 12)))
 unfolding clap_on_literals read_of till_line_of
 copy_alone = refl
 
