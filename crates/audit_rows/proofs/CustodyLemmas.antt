@@ -1,4 +1,4 @@
--- If no two copies have the same key, what custody asks of each mark holds of all tests of marks, and each mark has an origin.
+-- If no two copies have the same key, each mark has an origin. What custody asks of each mark holds of all tests of marks.
 use Rattle.shop_types.proofs.Common.{◌≡◌, ◌&&◌, ◌||◌, ◌+◌, ◌==◌, ◌≤◌, ℕ, nat_lt, List, [], ◌∷◌, ◌++◌, map, not, Bool, true, false, cond, refl, sym, ap, ◌∙◌}
 use Rattle.shop_types.proofs.Common.{arith, true≢false, IsPermutation, list_any, list_all, bytes_eq, IsPermutation-map, IsPermutation-append, Row, Here}
 use Rattle.shop_types.proofs.Common.{Scrapped, BookCopy, Mark, Line, UnderWay, Missing, are_different, one, is_mark, is_origin, copy_is, line_is, rows_made}

@@ -78,8 +78,8 @@ fn cents_on(payments: &[Paid], month: (i32, i32)) -> u64
     total
 }
 
-/// Returns whether the payments on the days of a month, from its first to its last, are more than `purchases` and are
-/// of more than `cents` cents. That both have to be passed, and not reached, is our own.
+/// Returns whether the payments on the days of a month are more than `purchases`, and more than `cents` cents in all.
+/// The month's first and last day belong to it. That both have to be passed, and not reached, is our own.
 pub fn rewarded(payments: &[Paid], month: (i32, i32), purchases: u32, cents: u32) -> bool
     requires { length payments.now ≤ 1_000_000 }
     ensures sum { result ≡ passes month purchases cents payments.now }

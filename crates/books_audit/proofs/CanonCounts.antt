@@ -1,4 +1,5 @@
--- The tables of counts are the same for rows in order, for the books that have the rows, and for all other books for which the tables stand.
+-- The tables of counts are the same for rows in order and for the books that have the rows.
+-- They are the same for all other books for which the tables stand.
 use Rattle.shop_schema.proofs.Common.{◌≡◌, ◌==◌, ℕ, List, [], ◌∷◌, map, filter, length, sym, ap, subst, ◌∙◌, Bool, IsPermutation, flat_map, flat_map_same_on}
 use Rattle.shop_schema.proofs.Common.{IsPermutation-map, IsPermutation-sym, IsPermutation-trans, length_permutation, IsPermutation-filter, Row, Owned, is_of}
 use Rattle.shop_schema.proofs.Common.{numbered, Branch, Customer, Rental, Terms, Payment, Kept, Books, BookCopy, Customers, CopyRows, Rentals, TermRows}

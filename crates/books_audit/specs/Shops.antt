@@ -18,13 +18,13 @@ abbrev pub HaveTables : Trees → TableRows → Type 0
 HaveTables trees tables = HaveEach tables 0 (map (λ t. map (columns_of (length t.columns)) (trees t.tree)) shop_schema.tables)
 
 -- `sound` is true exactly if the tables stand for sound books whose rows the program can hold. The counts are right for any books for which the tables stand,
--- sound or not, if the rows can be held and have each key once. If the tables stand for no such books, nothing is counted.
+-- if the rows can be held and have each key once; the books needn't be sound. If the tables stand for no such books, nothing is counted.
 pub record IsAuditOfShop (trees : Trees) (audit : Audit) : Type 0 where
   pub sound : (rules : Rules) → IsTrue audit.sound ↔ ((books : Books) × StandsFor trees books × AreValues books × IsSound (widest rules) books)
   pub counts : (books : Books) → StandsFor trees books → AreValues books → HaveKeys books → Counts audit books
   pub nothing : ¬ ((books : Books) × StandsFor trees books × AreValues books × HaveKeys books) → CountsNothing audit
 
--- The audit is right for all rows of the tables, whatever they hold, and for the books for which the tables stand, if there are any.
+-- The audit is right for all rows of the tables, whatever they hold. If the tables stand for books, it is right for the books too.
 pub record AuditsTables (trees : Trees) (audit : Audit) : Type 0 where
   pub tables : (tables : TableRows) → HaveTables trees tables → IsAuditOf tables audit
   pub books : IsAuditOfShop trees audit

@@ -17,8 +17,8 @@ use sql_rows::StoreFault;
 use sqlite::{Alter, Transaction};
 use std::alloc::Global;
 
-/// Checks whether the tables stand for sound books, by the widest limits that a chain can have, and counts their
-/// copies by where the copies are. If the tables stand for no books, they aren't sound, and all counts are 0. They
+/// Checks whether the tables stand for sound books, by the widest limits that a chain can have. Counts the books'
+/// copies by where they are. If the tables stand for no books, they aren't sound, and all counts are 0. They
 /// stand for no books if a row isn't one of its table's, or a shared row's or a line's number is missing. A key that
 /// is there twice, a line without a consignment, a rental without terms, and terms without a rental have the same
 /// effect. So has a table of counts that differs from the counts of the books. The time is n log n in the number of

@@ -151,7 +151,8 @@ module _ {D : Type 0} {g : Ghosts D} (c : Held (FileStore D g)) (files : Files D
   held_of_shop schema = shows_what_is_held c files opened found (begins_with_some opened_state.now.schema (subst HasVersion (sym schema) refl))
 
   pub holds_sound : opened_state.now.schema ≡ shop_schema → (books : Books) → StandsFor opened_state.now.trees books → HoldsSoundly (image_of g files) books
-  holds_sound schema books stands = (opened_state.committed.trees, held_of_shop schema, subst (λ (t : Trees). StandsFor t books) (same_trees c files opened found) stands)
+  holds_sound schema books stands =
+      (opened_state.committed.trees, held_of_shop schema, subst (λ (t : Trees). StandsFor t books) (same_trees c files opened found) stands)
 
   pub holds_no_chain : Knows Missing opened_state → HoldsNoChain (image_of g files)
   holds_no_chain (inl none) db held sound books stands =
@@ -173,7 +174,8 @@ module _ {D : Type 0} {g : Ghosts D} (c : Held (FileStore D g)) (files : Files D
 
   pub holds_damage : Knows This opened_state → ¬ StandsSoundly opened_state.now.trees → HoldsDamage (image_of g files)
   unfolding has_this_version
-  holds_damage it none = let this = has_this_version it in (this.0, this.1, this.2, this.3, λ sound. none (subst StandsSoundly (sym (same_trees c files opened found)) sound))
+  holds_damage it none =
+      let this = has_this_version it in (this.0, this.1, this.2, this.3, λ sound. none (subst StandsSoundly (sym (same_trees c files opened found)) sound))
 
   pub has_no_version : Knows Missing opened_state → HasNoVersion (image_of g files)
   has_no_version (inl none) db held = (opened_state.now.schema, is_database c files opened found db held, inl none)

@@ -50,8 +50,8 @@ pub record HoldsBooks (image : Image) (books : Books) : Type 0 where
   pub sound : IsSound widest_rules books
   pub values : AreValues books
 
--- The files keep the books of a closed chain: a close promises this, and an open requires it. The books are sound. If the disk was honest, anything that the
--- files hold, or that a crash leaves of them, is a database whose tables stand for the books.
+-- The files keep the books of a closed chain: a close promises this, and an open requires it. The books are sound. If the disk was honest, the files hold a
+-- database whose tables stand for the books. So they do after a crash.
 pub record KeepsBooks {D : Type 0} (g : Ghosts D) (files : Files D) (books : Books) : Type 0 where
   pub sound : IsSound widest_rules books
   pub values : AreValues books
@@ -72,8 +72,8 @@ HoldsNoChain image = (db : Trees) → HoldsDatabase image db → IsDatabaseOf sh
 abbrev pub HasThisVersion : Image → Type 0
 HasThisVersion image = (db : Trees) × IsHeldIn image db × IsDatabaseOf shop_schema db × (version_of (map (columns_of 1) (db 0)) ≡ This)
 
--- No database in the files says a version. It doesn't begin with the table of the version, or that table hasn't exactly its one row, or the table says this
--- version of other tables.
+-- No database in the files says a version: it doesn't begin with the table of the version, or that table hasn't exactly its one row. Or the table says this
+-- version, and the other tables are others.
 abbrev pub HasNoVersion : Image → Type 0
 HasNoVersion image = (db : Trees) → HoldsDatabase image db → (schema : Schema) × IsDatabaseOf schema db
     × ((¬ HasVersion schema)
@@ -98,7 +98,7 @@ HoldsDamage image = (db : Trees) × IsHeldIn image db × IsDatabaseOf shop_schem
 
 -- ---- files of version 1, in which rentals had no terms
 
--- an image of the two files, as read or as a crash left it, holds a database whose tables stand for the books of version 1
+-- an image of the two files, read or left by a crash, holds a database whose tables stand for the books of version 1
 pub record HoldsVersion1Books (image : Image) (books : Books) : Type 0 where
   pub db : Trees
   pub holds : ∥ HoldsDatabase image db ∥₁

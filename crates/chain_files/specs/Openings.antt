@@ -87,7 +87,7 @@ pub record IsNotOpened {D : Type 0} (g : Ghosts D) (files : Files D) (why : Open
   pub other : AreClean g left.log left.db → why ≡ fault.OtherVersion → HasOtherVersion (image_of g files)
   -- Damaged: the files hold a chain of this version, whose tables stand for no sound books
   pub damaged : AreClean g left.log left.db → why ≡ fault.Damaged → AreClean g files.log files.db × HoldsDamage (image_of g files)
-  -- for any fault, the files are as the failed opening of their database left them, or they still hold the database that was found in them
+  -- for any fault, the files are as the failed opening of their database left them, or still hold the database that was found in them
   pub kept : AreClean g left.log left.db → OpenFailed g files left ⊎ ((db : Trees) × IsFoundIn (image_of g files) db × HoldsOne g left (λ found. found ≡ db))
   -- So what remains in the files keeps the books that they kept: the books of a chain that was closed,
   pub books : AreClean g left.log left.db → (books : Books) → KeepsBooks g files books → OpenFailed g files left ⊎ KeepsBooks g left books
@@ -107,7 +107,7 @@ pub record IsMigratedIn {D : Type 0} {g : Ghosts D} (files : Files D) (given : L
   pub honest : HasCleanDisk (file_state chain.conn) → AreClean g files.log files.db
   -- the files held the tables of version 1
   pub first : HasCleanDisk (file_state chain.conn) → HasVersion1 (image_of g files)
-  -- even if nothing was known of the files, they held sound books of version 1, and the chain has them with the terms of each rental
+  -- even if nothing was known of the files, they held sound books of version 1; the chain has them, with the terms of each rental
   pub sound : HasCleanDisk (file_state chain.conn)
       → (books : Books) × HoldsVersion1Soundly (image_of g files) books × IsAt over_files chain (migrated books) (migrated books)
   -- the chain has the books of version 1 that the files held, with the terms of each rental,
@@ -131,7 +131,7 @@ pub record IsNotMigrated {D : Type 0} (g : Ghosts D) (files : Files D) (why : Op
   pub other : AreClean g left.log left.db → why ≡ fault.OtherVersion → TellsVersion Other (image_of g files)
   -- Damaged: the files hold tables of version 1 that stand for no sound books
   pub damaged : AreClean g left.log left.db → why ≡ fault.Damaged → AreClean g files.log files.db × HoldsVersion1Damage (image_of g files)
-  -- For any fault, the files are as the failed opening of their database left them, or they still hold the database that was found in them. If the store
+  -- For any fault, the files are as the failed opening of their database left them, or still hold the database that was found in them. If the store
   -- failed or was out of memory or room, they may hold the migrated database instead.
   pub kept : AreClean g left.log left.db → OpenFailed g files left
       ⊎ ((db : Trees) × IsFoundIn (image_of g files) db × HoldsOne g left (λ found. (found ≡ db) ⊎ ((is_store_fault why ≡ true) × AreMigrated db found)))

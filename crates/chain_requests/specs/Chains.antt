@@ -79,7 +79,7 @@ failed_at caller request old =
     if old.is_failed then old
     else record old { is_failed = true; besides = after_for (rules_of old.limits) (known_caller old.books.catalogue caller) request old.books }
 
--- One request of a caller. Either the books make their step and the caller gets its reply, or memory or room ran out and the books stay, or the store fails.
+-- One request of a caller. The books make their step and the caller gets its reply, or memory or room ran out and the books stay, or the store fails.
 -- Once the store has failed, it fails at all later requests.
 pub record Answers (caller : Caller) (request : Request) (answer : Answer) (old new : Holding) : Type 0 where
   pub limits : new.limits ≡ old.limits

@@ -29,8 +29,8 @@ MayHaveMoreFields front =
     (more : List ℕ) × (h : RequestHead) × (0 < length more) × ReadsRequest (front ++ more) h []
     × (32 < length h.fields)
 
--- Where bytes that can't begin a head end inside a target, whose UTF-8 is tested at its end, or inside
--- or after a 33rd field and before the head's empty line, it is left open whether they are refused already.
+-- Bytes that can't begin a head may end inside a target, whose UTF-8 is tested at its end. Or they end inside or
+-- after a 33rd field and before the head's empty line. Then it is left open whether they are refused already.
 abbrev pub IsOpen : List ℕ → Type 0
 IsOpen front = EndsInTarget front ⊎ MayHaveMoreFields front
 

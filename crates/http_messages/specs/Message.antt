@@ -9,8 +9,8 @@ use Rattle.httparse.specs.Spans.{name_and_value}
 use Rattle.shop_types.specs.Digits.{decimal_value}
 use Rattle.http_messages.specs.Items.{says_close}
 
--- a request: POST or else GET, the target's bytes, the caller's token where there is exactly one,
--- whether the connection ends after the reply, and the body's bytes
+-- a request: POST or else GET, the target's bytes, the caller's token if there is exactly one, whether the
+-- connection ends after it, and the body's bytes
 pub record Message : Type 0 where
   pub posts : Bool
   pub target : List ℕ
@@ -35,8 +35,8 @@ values_of name (p ∷ ps) = if same_name p.0 name then p.1 ∷ values_of name ps
 abbrev pub pairs_of : RequestHead → List Pair
 pairs_of h = map name_and_value h.fields
 
--- the body's size by the values of `content-length`: 0 where there is none (RFC 9112, section 6.3),
--- and no size where there is more than one, equal ones too (our own profile), or one that is no size
+-- The body's size by the values of `content-length`: 0 if there is none (RFC 9112, section 6.3). It has no size if
+-- there is more than one, even equal ones (our own profile), or one that is no size.
 abbrev pub size_in : List (List ℕ) → Option ℕ
 size_in [] = Some 0
 size_in (v ∷ []) = decimal_value v
@@ -60,9 +60,8 @@ abbrev pub is_absent : List (List ℕ) → Bool
 is_absent [] = true
 is_absent (v ∷ vs) = false
 
--- The body's size by a head's method and fields. There is none, and the head is refused, where the method
--- is neither GET nor POST, where there is a `transfer-encoding` field, or where `content-length` gives
--- none (our own profile).
+-- The body's size by a head's method and fields. A head without one is refused. It has none if the method is
+-- neither GET nor POST, if there is a `transfer-encoding` field, or if `content-length` gives none (our own profile).
 abbrev pub size_of_pairs : List ℕ → List Pair → Option ℕ
 size_of_pairs method pairs =
     if (is_get method || is_post method) && is_absent (values_of (codes "transfer-encoding") pairs)

@@ -2,8 +2,8 @@
 use Rattle.std.specs.Prelude.{ℕ, List, [], ◌∷◌, ◌++◌, length, codes, decimal, unwrap_or}
 use Rattle.http.specs.StatusCode.{reason_phrase}
 
--- the canonical phrase of a status by the table of the crate `http` (after RFC 9110, section 15),
--- and nothing for a number that has none there
+-- the canonical phrase of a status by the table of the crate `http` (after RFC 9110, section 15), and nothing for
+-- another number
 abbrev pub phrase : ℕ → List ℕ
 phrase status = unwrap_or (reason_phrase status) []
 

@@ -40,7 +40,7 @@ pub struct Request<'b> {
 #[derive(Clone, Copy, Debug)]
 pub enum Fault {
     /// `bad_head`: no head of HTTP/1.x with at most 32 fields can begin so, or the method is neither
-    /// GET nor POST, or there is a `transfer-encoding` field, more than one `content-length`, or one
+    /// GET nor POST. Or there is a `transfer-encoding` field, more than one `content-length`, or one
     /// that isn't 1 to 19 digits.
     BadHead,
     /// `too_long`: no head ends within 8,192 bytes, or the body has more than 65,536 bytes.

@@ -37,7 +37,7 @@ abbrev pub counted : Count → Books → ℕ
 counted OfficeKeys books = length books.catalogue.kept
 counted (Of b kind) books = count_in (kind_number kind) b books
 
--- the branch has at most one count of the kind, and each count is below 2 ^ 32, so that a raised count fits 64 bits
+-- the branch has at most one count of the kind, and each count is below 2 ^ 32 (a raised count fits 64 bits)
 pub record CountsOnce (b : ℕ) (kind : CountKind) (counts : Counts) : Type 0 where
   pub once : PicksOne (is_count b (kind_number kind)) counts.counters
   pub small : AllByRecursion (λ it. it.last < 2 ^ 32) counts.counters

@@ -44,7 +44,7 @@ pub record SetsVersion (old new : Trees) (token : Text) : Type 0 where
 abbrev pub Migrates : State → State → Type 0
 Migrates old new = (rules : Rules) (books : Books) → IsSoundWithoutTerms rules books → HoldsVersion1 old books → Holds new (migrated books)
 
--- If the first table of version 1 said its version, then whatever books the new tables stand for, the old tables stood for the same books without terms.
+-- If the first table of version 1 said its version, the old tables stood for the books of the new tables, without terms.
 abbrev pub StoodForSame : State → State → Type 0
 StoodForSame old new =
     IsFirstShop old → IsFirstKeyed old → (token : Text) → Tells first_version token old.now.trees

@@ -200,7 +200,7 @@ keeps_balances rules books code sound = record {
 
 -- ---- soundness
 
--- Books with other terms are sound where those are of branches that are there and are numbered, and each branch's shop has what is asked of them.
+-- Books with other terms are sound if the terms are numbered, each of a branch that is there. Each branch's shop has to have what is asked.
 module _ (Were Are : Shop → Type 0) (rules : Rules) (books : Books) (its : List (Row Terms)) where
   abbrev with_its : Books
   with_its = record books { terms = its }

@@ -47,7 +47,7 @@ open_rental_overdue : Plays rules copy_and_customer (
 unfolding computing
 open_rental_overdue = refl
 
--- a balance goes by the price for which it was rented
+-- a balance counts the price for which it was rented
 price_lowered : Plays rules (copy_and_customer ++ five_days_out) (
     (orders (codes "p1") (PriceFilm 1 299), ok (codes "{\"film\":1,\"rate\":299}"))
     ∷ (asks 1 (Balance 1 (march 10)), ok (codes "{\"balance\":200}"))
@@ -77,7 +77,7 @@ rule_by_comment : Plays rules (copy_and_customer ++ five_days_out) (
 unfolding computing
 rule_by_comment = refl
 
--- an open rental is charged each day past, and its replacement cost once these are more than twice its period, which six days past three aren't
+-- An open rental is charged each day past its period, and its replacement cost once these are more than twice the period. Six days aren't.
 replacement_charged : Plays rules (copy_and_customer ++ (does 1 (codes "a") ten (Rent 1 1), ok (codes "{\"rental\":1}")) ∷ []) (
     (asks 1 (Balance 1 (march 10)), ok (codes "{\"balance\":499}"))
     ∷ (asks 1 (Balance 1 (march 11)), ok (codes "{\"balance\":499}"))

@@ -46,7 +46,8 @@ ties_and_loose_payments = refl
 
 staff_of_third_branch : Plays rules [] ((
   asks 3 (OneView StaffList),
-  ok (codes "[{\"address\":\"2 Side\",\"branch\":3,\"city\":\"Brisbane\",\"country\":\"Australia\",\"id\":3,\"name\":\"KIM ROSS\",\"phone\":\"\",\"postal\":\"\"}]"),
+  ok (codes
+      "[{\"address\":\"2 Side\",\"branch\":3,\"city\":\"Brisbane\",\"country\":\"Australia\",\"id\":3,\"name\":\"KIM ROSS\",\"phone\":\"\",\"postal\":\"\"}]"),
 )
     ∷ [])
 unfolding computing

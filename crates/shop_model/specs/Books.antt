@@ -1,9 +1,10 @@
--- The books of all branches in one list a table, the step that an event makes of them, and what one branch sees of a history. All of it is our own.
+-- The books of all branches, one list a table; an event's step of them; what one branch sees of a history. All of it is our own.
 use Rattle.std.specs.Prelude.{ℕ, ◌+◌, ◌==◌, ◌&&◌, Bool, true, false, not, if◌then◌else◌, List, [], ◌∷◌, ◌++◌, length, map, filter, flat_map, Option, Some, None}
 use Rattle.std.specs.Str.{bytes_eq}
 use Rattle.shop_model.specs.Rows.{arrived, lacks, Row, Owned, of, owned_by, is_row, put_all, set_rows, update_where, numbered, mem}
 use Rattle.shop_model.specs.Calendar.{Moment}
-use Rattle.shop_model.specs.Values.{Text, Branch, Customer, new_customer, CopyState, Here, Sent, Scrapped, Copy, Rental, Terms, Payment, Arrival, Parcel, Act, AddCustomer, SetActive, Rent, TakeBack, Pay, Import, Dispatch, Receive, Scrap, Command, OfficeAsk, Rules}
+use Rattle.shop_model.specs.Values.{Text, Branch, Customer, new_customer, CopyState, Here, Sent, Scrapped, Copy, Rental, Terms, Payment}
+use Rattle.shop_model.specs.Values.{Arrival, Parcel, Act, AddCustomer, SetActive, Rent, TakeBack, Pay, Import, Dispatch, Receive, Scrap, Command, OfficeAsk, Rules}
 use Rattle.shop_model.specs.Refusals.{NoCounter, NoRoute}
 use Rattle.shop_model.specs.Shop.{Kept, Catalogue, Shop}
 use Rattle.shop_model.specs.Stock.{terms_now}

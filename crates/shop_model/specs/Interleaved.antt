@@ -21,7 +21,7 @@ pub record LeavesTheSame (rules : Rules) (look : OfficeAsk → Books → Reply) 
   pub replies : replies_to b (run rules look events books) ≡ replies_to b (run rules look events' books)
   pub state : state_of b (last_books rules events books) ≡ state_of b (last_books rules events' books)
 
--- Its own requests, head office's accepted commands and the consignments that are sent to it have to keep their order, as it sees them, and nothing else has to
+-- Only three things have to keep their order, as it sees them: its own requests, head office's accepted commands, and the consignments that are sent to it.
 abbrev pub OrderIsWithinViews : Type 0
 OrderIsWithinViews =
     (rules : Rules) (look : OfficeAsk → Books → Reply) (events events' : List Event) (books : Books) (b : ℕ) → HasNumbers books

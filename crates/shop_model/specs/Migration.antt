@@ -38,7 +38,8 @@ film_overdue catalogue shop moment = filter (is_film_overdue catalogue shop mome
 
 -- the terms of a branch's rental under its number, read from the film's row as it is now
 abbrev pub row_terms : Books → Row Rental → List (Row Terms)
-row_terms books row = map (λ it. record { branch = row.branch; number = row.number; it = it }) (terms_now books.catalogue (shop_of row.branch books) row.it.copy)
+row_terms books row =
+    map (λ it. record { branch = row.branch; number = row.number; it = it }) (terms_now books.catalogue (shop_of row.branch books) row.it.copy)
 
 -- each rental gets its terms, and all else stays row for row
 abbrev pub migrated : Books → Books

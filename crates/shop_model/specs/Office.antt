@@ -25,11 +25,12 @@ abbrev pub goes_before : Consignment → Consignment → Bool
 goes_before a b = nat_lt a.source b.source || a.source == b.source && (nat_lt a.addressee b.addressee || a.addressee == b.addressee && nat_lt a.number b.number)
 
 -- Sales have a row for each branch with such a payment; custody asks for the branch first and then for the mark. An audit is the reply over sound books,
--- and says without a look at them that they are. Of other books that would be wrong; its premise is that there are none to be read: the books with which
--- a chain begins are sound (`OpeningBooksAreSound`, `EmptyIsSound`), a chain has others only if they are, and no request leaves sound books for others
+-- and says without a look at them that they are. Of other books that would be wrong; its premise is that there are none to be read. The books with which
+-- a chain begins are sound (`OpeningBooksAreSound`, `EmptyIsSound`). A chain has others only if they are sound, and each request leaves sound books sound
 -- (`StaySound`).
 abbrev pub office_look : OfficeAsk → Books → Reply
-office_look Sales books = Shows (RowsAre (map listed_store (flat_map (λ (it : ℕ × Branch). sales_by_store it.0 books.catalogue (shop_of it.0 books)) (numbered books.catalogue.branches))))
+office_look Sales books = Shows (RowsAre (map listed_store
+    (flat_map (λ (it : ℕ × Branch). sales_by_store it.0 books.catalogue (shop_of it.0 books)) (numbered books.catalogue.branches))))
 office_look (Custody b x) books =
     let mark : Mark = record { branch = b; copy = x } in
     if lacks books.catalogue.branches b then Sorry NoBranch

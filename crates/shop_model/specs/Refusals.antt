@@ -96,7 +96,7 @@ problem_name Memory = codes "memory"
 problem_name Size = codes "size"
 problem_name StoreFailed = codes "store_failed"
 
--- 403 for a caller that isn't known, 404 for a route that isn't there, 409 for what the books forbid, 503 where the store can't, else 400
+-- 403 for an unknown caller, 404 for an unknown route, 409 for what the books forbid, 503 if the store can't, else 400
 abbrev pub status_of : ℕ → ℕ
 status_of number =
     if number == 3 then 403

@@ -1,5 +1,6 @@
 -- The manual's functions and procedures over one shop and the shared rows. Money is in cents.
-use Rattle.std.specs.Prelude.{if◌then◌else◌, ℕ, ◌+◌, ◌-◌, ◌*◌, ◌==◌, ◌&&◌, nat_lt, nat_le, ℤ, pos, ◌-ℤ◌, Bool, true, false, not, List, [], length, map, filter, flat_map, zip, is_none, Option, Some, None}
+use Rattle.std.specs.Prelude.{if◌then◌else◌, ℕ, ◌+◌, ◌-◌, ◌*◌, ◌==◌, ◌&&◌, nat_lt, nat_le, ℤ, pos, ◌-ℤ◌, Bool, true, false, not, List, []}
+use Rattle.std.specs.Prelude.{length, map, filter, flat_map, zip, is_none, Option, Some, None}
 use Rattle.std.specs.List.{list_any}
 use Rattle.shop_model.specs.Rows.{at, numbered, total}
 use Rattle.shop_model.specs.Calendar.{Moment, day_of, is_by, month_before}
@@ -23,7 +24,8 @@ held_by x rentals = map (λ rental. rental.customer) (filter (keeps_out x) renta
 
 -- `film_in_stock` of the manual: the numbers, rising, of the copies of that film that are in stock; that they have to be here is our own
 abbrev pub film_in_stock : ℕ → Shop → List ℕ
-film_in_stock film shop = map (λ (it : ℕ × Copy). it.0) (filter (λ (it : ℕ × Copy). it.1.film == film && is_here it.1 && in_stock it.0 shop.rentals) (numbered shop.copies))
+film_in_stock film shop =
+    map (λ (it : ℕ × Copy). it.0) (filter (λ (it : ℕ × Copy). it.1.film == film && is_here it.1 && in_stock it.0 shop.rentals) (numbered shop.copies))
 
 -- `film_not_in_stock` of the manual: those that are here and aren't in stock
 abbrev pub film_not_in_stock : ℕ → Shop → List ℕ

@@ -1,5 +1,5 @@
--- The manual's views over the catalogue and one shop, as typed rows, and the text of each row. Their order is that of numbers where nothing else is said (our
--- own, since a view has none), and texts are ordered by their bytes (our own). The members of a row's text stand in the byte order of their names, which are
+-- The manual's views over the catalogue and one shop, as typed rows, and the text of each row. Rows are ordered by their numbers if nothing else is said (our
+-- own, since a view has no order). Texts are ordered by their bytes (our own). The members of a row's text stand in the byte order of their names, which are
 -- our own.
 use Rattle.std.specs.Prelude.{ℕ, ◌==◌, ◌&&◌, ◌||◌, nat_lt, Bool, not, if◌then◌else◌, List, [], ◌∷◌, ◌++◌, codes, decimal, map, filter, flat_map, Option}
 use Rattle.std.specs.Option.{option_to_list}
@@ -120,7 +120,9 @@ is_cast catalogue film actor = list_any (λ (it : Cast). it.film == film && it.a
 
 -- the actors as "first last", by their numbers
 abbrev pub actors_text : Catalogue → ℕ → Text
-actors_text catalogue film = join_by (λ (it : ℕ × Actor). full_name it.1.first it.1.last) (codes ", ") (filter (λ (it : ℕ × Actor). is_cast catalogue film it.0) (numbered catalogue.actors))
+actors_text catalogue film =
+    join_by (λ (it : ℕ × Actor). full_name it.1.first it.1.last) (codes ", ")
+    (filter (λ (it : ℕ × Actor). is_cast catalogue film it.0) (numbered catalogue.actors))
 
 pub record FilmRow : Type 0 where
   pub number : ℕ
@@ -231,7 +233,8 @@ abbrev pub listed_store : StoreRow → Text
 listed_store it = object ((codes "manager", quoted it.manager) ∷ (codes "store", quoted it.store) ∷ (codes "total", decimal it.total) ∷ [])
 
 abbrev pub sales_of : Catalogue → Shop → ℕ → List (Payment × Rental)
-sales_of catalogue shop category = filter (λ (it : Payment × Rental). list_any (λ (f : Film). f.category == category) (film_of catalogue shop it.1)) (paid_rentals shop)
+sales_of catalogue shop category =
+    filter (λ (it : Payment × Rental). list_any (λ (f : Film). f.category == category) (film_of catalogue shop it.1)) (paid_rentals shop)
 
 -- the greatest total first (the manual), and then by name (our own)
 abbrev pub sells_more : Text × ℕ → Text × ℕ → Bool

@@ -233,8 +233,8 @@ pub fn branches_commute()
     ensures { BranchesCommute }
 {}
 
-/// A command of a branch and a command of head office may come in either order, if the branch's command doesn't read what
-/// the other changes.
+/// A command of a branch and one of head office may come in either order, if the branch's doesn't read what the other
+/// changes.
 pub fn office_commutes()
     ensures { OfficeCommutes }
 {}

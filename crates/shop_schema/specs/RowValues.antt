@@ -1,8 +1,6 @@
--- Which rows the program can hold, and the columns of each table's rows: the ranges and forms of their values, as the shop's profile sets them, and those
--- values
--- in SQL, as they come from the rows of the books. A moment is its text, so that the order of bytes is that of time; a truth value is 0 or 1; what may be
--- missing
--- is NULL.
+-- Which rows the program can hold: the ranges and forms of their values, as the shop's profile sets them. And the columns of each table's rows: the values in
+-- SQL, as they come from the rows of the books. A moment is its text, so that the order of bytes is the order of time; a truth value is 0 or 1; what may be
+-- missing is NULL.
 use Rattle.std.specs.Prelude.{◌≡◌, ◌≤◌, ◌<◌, ◌^◌, ℕ, ◌||◌, List, [], ◌∷◌, ◌++◌, map, length, true, codes, IsUtf8, IfSome}
 use Rattle.std.specs.List.{AllByRecursion}
 use Rattle.std.specs.Str.{bytes_eq}

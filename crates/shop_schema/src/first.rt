@@ -53,8 +53,8 @@ fn fill_first<S: Alter>(tx: &mut Transaction<'_, S>, office: &Token) -> Result<(
     execute(tx, FIRST_COUNT, &[])
 }
 
-/// Makes the tables of version 1, with head office's token and no other row of a chain, in a database that has no
-/// table, and commits that: all of it or nothing. This program doesn't open such a chain; it makes one of its own of
+/// Makes the tables of version 1, with head office's token and no other row of a chain. The database has no table
+/// before. Commits all of it or nothing. This program doesn't open such a chain; it makes one of its own of
 /// it (`migrate_tables`).
 pub fn create_first<S: Alter>(conn: &mut Connection<S>, office: &Token) -> Result<(), StoreFault>
     requires { conn.old.in_transaction ≡ false }

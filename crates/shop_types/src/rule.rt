@@ -3,7 +3,7 @@
 pub enum Rule {
     /// The manual's code: a rental's rate, and a dollar for each late day.
     ByCode,
-    /// The comment beside it: a dollar for each day that a rental is past its period, returned or not, and its
-    /// replacement cost where these are more than twice its period.
+    /// The comment beside it: a dollar for each day that a rental is past its period, returned or not. If these
+    /// days are more than twice its period, its replacement cost is added.
     ByComment,
 }

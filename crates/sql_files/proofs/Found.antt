@@ -1,5 +1,6 @@
 -- The database that opening finds in files.
-use Rattle.sql_rows.proofs.Common.{◌≡◌, ◌≢◌, ◌∙◌, inl, inr, refl, sym, ap, subst, List, [], ◌∷◌, AllZip, ∥∥₁_elim, ∥∥₁_map, Schema, State, Database, HasCleanDisk}
+use Rattle.sql_rows.proofs.Common.{◌≡◌, ◌≢◌, ◌∙◌, inl, inr, refl, sym, ap, subst, List, [], ◌∷◌, AllZip, ∥∥₁_elim, ∥∥₁_map, Schema, State, Database}
+use Rattle.sql_rows.proofs.Common.{HasCleanDisk}
 use Rattle.sql_rows.proofs.Common.{Survives, Held, no_schema, AreListed, IsTableRow, IsIndexRow, IsViewRow}
 use Rattle.sql_rows.proofs.Unique.{one_schema}
 use Rattle.sql_rows.specs.Files.{HoldsOne, IsHeldIn, IsFoundIn, HoldsNoTable}

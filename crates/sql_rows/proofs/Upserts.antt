@@ -129,9 +129,8 @@ none_pass p rows miss =
 
 -- ---- the rows afterwards, and what is shown
 
--- `values` is the row, without its rowid; `seen` says whether a row has its key, `set` what a row is set to, and `told` what is shown of a row, each written
--- over the
--- columns. What is set may be a sum, which is a number only of values that fit.
+-- `values` is the row, without its rowid. Each of the others is over the columns. `seen` says whether a row has its key, `set` what a row is set to, and
+-- `told` what is shown of it. What is set may be a sum, which is a number only of values that fit.
 module _ {X : Type 0} (schema : Schema) (sql : List ℕ) (at : ℕ) (table : Table)
     (width base : ℕ) (target : List ℕ) (terms shown shows : List Term) (params values : Row)
     (columns : X → Row) (seen : Row → Bool) (p : X → Bool) (set : Row → Row) (g : X → X) (told : Row → Row) (IsFit : X → Type 0)

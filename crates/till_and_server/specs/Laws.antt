@@ -167,7 +167,7 @@ SettledTillAndServer =
 
 -- ---- what the till keeps
 
--- a chain in one of these lives answers each exchange over streams that a till's server opened
+-- the chain, in some life, answers each exchange over streams that a till's server opened
 abbrev pub AreAnswered : {R W : Type 0} → (R → W → Type 0) → (R → Option (List ℕ)) → (W → Option (List ℕ)) → Rules → ℕ → List ServedLife → Books → Type 0
 AreAnswered opens remaining contents rules b lives old =
     (request : List ℕ) (answer : Answer) (it : IsTold opens remaining contents request answer)

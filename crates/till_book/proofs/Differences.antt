@@ -204,7 +204,9 @@ module _ (worth : Counted → ℕ) (refused : worth counted.Refused ≡ 0) (n : 
     both k (c ∷ commands) more (r ∷ replies) others end few apart =
         let entry : Entry = record { command = c; reply = Some r } in
         let rest : List Entry = entries_of (commands ++ more) (replies ++ others) in
-        let here = answered_before k c r (omega (arith, end)) (λ answer some. apart 0 r answer refl (subst (λ (m : ℕ). accepted_of m all ≡ Some answer) (plain k) some)) in
+        let here =
+        answered_before k c r (omega (arith, end))
+        (λ answer some. apart 0 r answer refl (subst (λ (m : ℕ). accepted_of m all ≡ Some answer) (plain k) some)) in
         let more_of =
         both (k + 1) commands more replies others (omega (arith, end)) (omega (arith, few))
         (λ i it answer there some. apart (suc i) it answer there (subst (λ (m : ℕ). accepted_of m all ≡ Some answer) (moved k i) some)) in

@@ -1,6 +1,7 @@
 -- What is read of the book for the drawer is what came since a closing.
 use Rattle.sql_rows.proofs.Common.{◌≡◌, ◌∙◌, ◌+◌, ◌<◌, ◌≤◌, ◌==◌, ◌&&◌, ◌||◌, ℕ, zero, suc, Bool, not, true, false, List, [], ◌∷◌, ◌++◌, map}
-use Rattle.sql_rows.proofs.Common.{length, slice_get, Option, Some, None, option_map, refl, sym, ap, subst, arith, inl, inr, cases_Bool, nat_tests, Differ, append_assoc, append-nil}
+use Rattle.sql_rows.proofs.Common.{length, slice_get, Option, Some, None, option_map, refl, sym, ap, subst, arith, inl, inr, cases_Bool, nat_tests, Differ}
+use Rattle.sql_rows.proofs.Common.{append_assoc, append-nil}
 use Rattle.std.specs.Prelude.{is_some, nat_lt, drop, get_or, if◌then◌else◌}
 use Rattle.shop_model.specs.Values.{Command}
 use Rattle.shop_model.specs.Answers.{Answer}
@@ -45,7 +46,8 @@ entry_there : (commands : List Command) (replies : List Answer) (i : ℕ) (c : C
     → slice_get (entries_of commands replies) i ≡ Some (record { command = c; reply = slice_get replies i })
 entry_there [] replies i c there = absurd (same_none c there)
 entry_there (x ∷ commands) [] zero c there = ap (λ (it : Command). Some (record { command = it; reply = None })) (same_some x c there)
-entry_there (x ∷ commands) [] (suc i) c there = entry_there commands [] i c there ∙ ap (λ (o : Option Answer). Some (record { command = c; reply = o })) (nothing_at i)
+entry_there (x ∷ commands) [] (suc i) c there =
+    entry_there commands [] i c there ∙ ap (λ (o : Option Answer). Some (record { command = c; reply = o })) (nothing_at i)
   where
     nothing_at : (i : ℕ) → ◌≡◌ {A = Option Answer} (slice_get [] i) None
     nothing_at zero = refl
@@ -113,7 +115,8 @@ one_counted n known late k i entries request commands replies so_far more say th
 
 -- ---- what was accepted late
 
-among_alike : (journal : Journal) → Differ number journal.settled → (m : ℕ) → is_among m (late_of (in_order journal.settled)) ≡ is_among m (late_of journal.settled)
+among_alike : (journal : Journal) → Differ number journal.settled → (m : ℕ)
+    → is_among m (late_of (in_order journal.settled)) ≡ is_among m (late_of journal.settled)
 among_alike journal once m =
     late_is m (in_order journal.settled) ∙ ap is_some (accepted_in_order m journal.settled once) ∙ sym (late_is m journal.settled)
 
@@ -167,7 +170,8 @@ is_since n known from replies rows journal settled drawer once ordered late low 
   counted = λ commands say.
       let es : List Entry = entries_of commands journal.replies in
       let its : drawer.late.items ≡ late_of (in_order journal.settled) = late ∙ ap late_of ordered in
-      let say_rows : Say rows.entries (drop from commands) = subst (λ l. Say l (drop from commands)) (sym read.entries) (say_drop from journal.entries commands say) in
+      let say_rows : Say rows.entries (drop from commands) =
+      subst (λ l. Say l (drop from commands)) (sym read.entries) (say_drop from journal.entries commands say) in
       let place : from + 1 ≡ 1 + from = omega arith in
       counts_it (drop from commands) say_rows
       ∙ ap (λ l. counted_from n known drawer.late.items (from + 1) (entries_of (drop from commands) l)) read.replies

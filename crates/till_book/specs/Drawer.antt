@@ -117,11 +117,11 @@ pub record GoesOn (closed now : Journal) : Type 0 where
   pub replies : (more : List Answer) × (now.replies ≡ closed.replies ++ more)
   pub settled : (more : List (ℕ × Answer)) × (now.settled ≡ closed.settled ++ more)
 
--- the numbers are those of the entries that settlements had accepted
+-- the numbers are the numbers of the entries that settlements had accepted
 abbrev pub AreKnown : List ℕ → Journal → Type 0
 AreKnown known journal = (n : ℕ) → is_among n known ≡ is_among n (late_of journal.settled)
 
--- What came since a closing is worth the difference of the book then and now, however entries are valued, if a refused one is worth nothing.
+-- What came since a closing is worth the difference of the book then and now. Entries may be valued in any way that makes a refused one worth nothing.
 abbrev pub DrawerIsTheDifference : Type 0
 DrawerIsTheDifference =
     (worth : Counted → ℕ) (commands more : List Command) (known : List ℕ) (closed now : Journal) → worth counted.Refused ≡ 0

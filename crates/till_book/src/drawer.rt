@@ -78,7 +78,7 @@ fn late_numbers(alloc: Global, settled: &[Settlement]) -> Result<Vec<u32>, Store
     Ok(late)
 }
 
-/// Tests whether the number is one of these.
+/// Tests whether the list has the number.
 fn is_among(number: u32, numbers: &[u32]) -> bool
     ensures { result ≡ is_among number numbers.now }
 {
@@ -248,8 +248,8 @@ fn rows_since<S: Alter>(
     })
 }
 
-/// Reads what came into the drawer since the closing at which the book had so many replies, and settlements had accepted
-/// the entries of the known numbers. Nothing changes, even if this fails.
+/// Reads what came into the drawer since a closing. At the closing the book had so many replies, and settlements had
+/// accepted the entries of the known numbers. Nothing changes, even if this fails.
 pub fn drawer_since<S: Alter>(
     alloc: Global,
     routes: &Routes,

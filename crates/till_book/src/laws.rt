@@ -3,7 +3,7 @@
 ghost use Rattle.till_book.specs.Drawer.{DrawerIsTheDifference};
 
 /// What the drawer counts since a closing is worth the difference between the whole book then and the whole book now. So
-/// the counted payments are the accepted payments of the book now, less those of the book at the closing.
+/// the counted payments are the accepted payments of the book now, less the accepted payments at the closing.
 pub fn a_drawer_is_the_difference()
     ensures { DrawerIsTheDifference }
 {}

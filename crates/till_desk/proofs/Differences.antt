@@ -18,5 +18,6 @@ pub next_same : (one two : List ℕ) (d i : ℕ) → (take i one ≡ take i two 
     → bit_or d (bit_xor (get_or one i 0) (get_or two i 0)) ≡ 0
 next_same one two d i before e =
     let front : take i one ≡ take i two = sym (take-take i (i + 1) one (omega arith)) ∙ ap (take i) e ∙ take-take i (i + 1) two (omega arith) in
-    let byte : get_or one i 0 ≡ get_or two i 0 = sym (get_or-take (i + 1) one i 0 (omega arith)) ∙ ap (λ (x : List ℕ). get_or x i 0) e ∙ get_or-take (i + 1) two i 0 (omega arith) in
+    let byte : get_or one i 0 ≡ get_or two i 0 =
+    sym (get_or-take (i + 1) one i 0 (omega arith)) ∙ ap (λ (x : List ℕ). get_or x i 0) e ∙ get_or-take (i + 1) two i 0 (omega arith) in
     rw (before front, byte, xor_self) refl

@@ -67,7 +67,7 @@ pub fn read_frame<'b>(bytes: &'b [u8], secret: &Secret) -> Result<(&'b [u8], &'b
     body_of(rest)
 }
 
-/// Returns the frame of these words and this file. Fails with `Form` if a word, the line or the file is too long.
+/// Returns the frame that has the words and the file. Fails with `Form` if a word, the line or the file is too long.
 pub fn frame(
     alloc: Global,
     secret: &Secret,

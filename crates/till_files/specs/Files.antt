@@ -75,7 +75,7 @@ pub record HoldsFirstBook (image : Image) (journal : Journal) : Type 0 where
   pub holds : ∥ HoldsDatabase image db ∥₁
   pub written : IsWritten db journal
 
--- if the disk was honest, whatever is found in the files, or a crash leaves of them, is a database whose first tables are this journal
+-- if the disk was honest, the files hold a database whose first tables are this journal, even after a crash
 abbrev pub KeepsFirstBook : {D : Type 0} → Ghosts D → Files D → Journal → Type 0
 KeepsFirstBook g files journal = AreClean g files.log files.db → HoldsOne g files (λ db. IsWritten db journal)
 

@@ -100,7 +100,7 @@ fn held_by<K: WallClock, V: Server, L: Shelf>(
     says_holder(desk.alloc, copy, who, &name, said)
 }
 
-/// Who has the copy, or that no customer has it.
+/// Says who has the copy, or that no customer does.
 fn in_stock<K: WallClock, V: Server, L: Shelf>(
     desk: &Desk<'_, K, V, L>,
     copy: CopyNo,

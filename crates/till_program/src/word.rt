@@ -359,7 +359,7 @@ fn carry_out<S: Alter, K: WallClock, V: Server, L: Shelf, W: Watch>(
 /// or look at head office's book is refused, whoever gives it: `IsOffice`. Head office's words at a branch's book are
 /// refused: `IsBranch`. If the last entry was entered with another mark than the settings', a word that enters or sends
 /// is refused, and the book stays: `OtherBook`. A word that wants an answer and has none is refused, and the book stays:
-/// `Unsure`, unless one of these comes first. A word that makes a book, a prompt, or a stock file that is still to be
+/// `Unsure`, unless another refusal comes first. A word that makes a book, a prompt, or a stock file that is still to be
 /// read is answered as a usage. So is a word that sets the book's zone.
 pub fn do_word<S: Alter, K: WallClock, V: Server, L: Shelf, W: Watch>(
     desk: &Desk<'_, K, V, L>,

@@ -6,7 +6,7 @@ use Rattle.std.specs.List.{list_all}
 abbrev pub is_zone_byte : ℕ → Bool
 is_zone_byte b = nat_le 33 b && nat_le b 126
 
--- 1 to 60 of these bytes
+-- a name has 1 to 60 such bytes
 abbrev pub is_zone_name : List ℕ → Bool
 is_zone_name bytes = nat_le 1 (length bytes) && nat_le (length bytes) 60 && list_all is_zone_byte bytes
 

@@ -170,7 +170,7 @@ fn read_full(alloc: Global, words: &[String]) -> Result<TillLine, Usage>
     }
 }
 
-/// Reads the line that the words are, without the program's name. Several words that are looked for are one text, a
+/// Reads the line that the words are, without the program's name. Several words that are looked for are one text. A
 /// number or a copy's label alone asks for that copy, and a customer's label for that customer. If the words are no
 /// line, fails with `Usage::Words`, whose text says how to give the words. If there is no memory, fails with
 /// `Usage::Memory`.

@@ -31,9 +31,8 @@ pub record IsAt (mark : Text) (place : Place) (s : State) (journal : Journal) (c
   pub entries : place.entries ≡ length journal.entries
   pub replies : place.replies ≡ length journal.replies
 
--- What was entered, recorded and settled is a front part of the new journal. Each later reply is the reply to the entry of its own place, one after another,
--- and each
--- later settlement is a reply to the entry of its number.
+-- What was entered, recorded and settled is a front part of the new journal. Each later reply is the reply to the entry of its own place, one after another.
+-- Each later settlement is a reply to the entry of its number.
 pub record Extends (Tells : List ℕ → Answer → Type 0) (old new : Journal) : Type 0 where
   pub entries : (more : List (List ℕ)) × (new.entries ≡ old.entries ++ more)
   pub replies : (more : List Answer) × (new.replies ≡ old.replies ++ more) × AreTold Tells new.entries (length old.replies) more

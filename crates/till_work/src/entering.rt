@@ -108,8 +108,8 @@ fn is_later(last: Option<Moment>, moment: Moment) -> bool
 /// Enters a command's request after the last, and commits it. `number` is the entry's number, `mark` the till's mark
 /// and `token` its token.
 ///
-/// The bytes have to say a command by the server's own readers, whose key is the mark and the number, and whose
-/// moment is after the last entry's, which is read from the book. So the keys of a book that was made by this call
+/// The bytes have to say a command by the server's own readers. Its key is the mark and the number. Its moment is after
+/// the last entry's, which is read from the book. So the keys of a book that was made by this call
 /// alone are its own, and its moments rise. A number is never used twice, since no entry is ever taken out.
 pub fn enter_command<S: Alter>(
     alloc: Global,
