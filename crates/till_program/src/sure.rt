@@ -23,6 +23,8 @@ pub(crate) fn wants_yes(act: &TillAct) -> bool
         TillAct::ReturnCopy(_) | TillAct::Office(_) | TillAct::Send | TillAct::Look(_) => false,
         TillAct::Waiting | TillAct::Last(_) | TillAct::Help | TillAct::Init(_) => false,
         TillAct::Import { .. } | TillAct::Prompt | TillAct::Zone(_) | TillAct::Day(_) => false,
+        TillAct::Today(_) | TillAct::Again { .. } => false,
+        TillAct::Slip => false,
     }
 }
 
@@ -103,5 +105,7 @@ pub(crate) fn question<K: WallClock, V: Server, L: Shelf>(
         TillAct::ReturnCopy(_) | TillAct::Office(_) | TillAct::Send | TillAct::Look(_) => Ok(None),
         TillAct::Waiting | TillAct::Last(_) | TillAct::Help | TillAct::Init(_) => Ok(None),
         TillAct::Import { .. } | TillAct::Prompt | TillAct::Zone(_) | TillAct::Day(_) => Ok(None),
+        TillAct::Today(_) | TillAct::Again { .. } => Ok(None),
+        TillAct::Slip => Ok(None),
     }
 }

@@ -244,6 +244,8 @@ fn plan_of<S: Alter, K: WallClock, V: Server, L: Shelf>(
         TillAct::Day(asked) => day_plan(desk, asked),
         TillAct::Help | TillAct::Init(_) | TillAct::Import { .. } => Ok(Plan::Usage),
         TillAct::Zone(_) | TillAct::Prompt => Ok(Plan::Usage),
+        TillAct::Today(_) | TillAct::Again { .. } => Ok(Plan::Usage),
+        TillAct::Slip => Ok(Plan::Usage),
     }
 }
 
