@@ -58,15 +58,19 @@ impl List {
     }
 }
 
-/// The list, where the shelf has one that isn't old.
-fn kept<K: WallClock, V: Server, L: Shelf>(
-    desk: &Desk<'_, K, V, L>,
-    list: List,
-) -> Option<Vec<u8>> {
-    let (second, bytes) = desk.shelf.take(desk.alloc, list.name())?;
-    let now = desk.seconds().ok()?;
-    if second <= now && now - second < KEPT {
-        Some(bytes)
+/// A list from the shelf, and for how many seconds it has been there.
+#[derive(Drop)]
+struct Kept {
+    body: Vec<u8>,
+    seconds: u64,
+}
+
+/// Returns the list, if the shelf has one that isn't old.
+fn kept<K: WallClock, V: Server, L: Shelf>(desk: &Desk<'_, K, V, L>, list: List) -> Option<Kept> {
+    let (second, body) = desk.shelf.take(desk.alloc, list.name())?;
+    let seconds = desk.seconds().ok()?.checked_sub(second)?;
+    if seconds < KEPT {
+        Some(Kept { body, seconds })
     } else {
         None
     }
@@ -88,11 +92,13 @@ fn fetched<K: WallClock, V: Server, L: Shelf>(
     Ok(answer)
 }
 
-/// A list, and those in it that were looked for. If the list was refused, the table has no row.
+/// A list, its rows that were looked for, and how many whole minutes ago the server gave it. If the list was refused,
+/// the table has no row.
 #[derive(Drop)]
 pub(crate) struct Picked {
     pub(crate) answer: Answer,
     pub(crate) table: Table,
+    pub(crate) minutes: u64,
 }
 
 /// Picks the rows of the list in which the part is found.
@@ -102,7 +108,11 @@ fn pick(alloc: Global, list: List, answer: Answer, part: &str) -> Result<Picked,
         Some(_) => Table::new(alloc, &[])?,
         None => list.with(alloc, body, part)?,
     };
-    Ok(Picked { answer, table })
+    Ok(Picked {
+        answer,
+        table,
+        minutes: 0,
+    })
 }
 
 /// Returns the rows of a list that have the part in them. If the kept list has none, a new one is asked for.
@@ -111,11 +121,15 @@ pub(crate) fn found<K: WallClock, V: Server, L: Shelf>(
     list: List,
     part: &str,
 ) -> Result<Picked, TillFault> {
-    if let Some(body) = kept(desk, list) {
+    if let Some(Kept { body, seconds }) = kept(desk, list) {
         if let Ok(table) = list.with(desk.alloc, body.as_slice(), part) {
             if !table.is_empty() {
                 let answer = Answer { status: 200, body };
-                return Ok(Picked { answer, table });
+                return Ok(Picked {
+                    answer,
+                    table,
+                    minutes: seconds / 60,
+                });
             }
         }
     }
@@ -129,7 +143,7 @@ pub(crate) fn name_if_known<K: WallClock, V: Server, L: Shelf>(
     customer: CustomerNo,
 ) -> Option<String> {
     let list = kept(desk, List::Customers)?;
-    customer_named(desk.alloc, list.as_slice(), customer).ok()?
+    customer_named(desk.alloc, list.body.as_slice(), customer).ok()?
 }
 
 /// The customer's name; where the kept list lacks it, a new one is asked for. It is none where the list is refused.
@@ -153,7 +167,7 @@ pub(crate) fn title_of<K: WallClock, V: Server, L: Shelf>(
     film: FilmNo,
 ) -> Result<Option<String>, TillFault> {
     if let Some(list) = kept(desk, List::Films) {
-        if let Ok(Some(title)) = film_named(desk.alloc, list.as_slice(), film) {
+        if let Ok(Some(title)) = film_named(desk.alloc, list.body.as_slice(), film) {
             return Ok(Some(title));
         }
     }

@@ -9,6 +9,7 @@ use crate::fault::TillFault;
 use crate::lists::{List, found, name_of, title_of};
 use crate::said::Said;
 use shop_types::{Ask, CopyNo, CustomerNo, FilmNo, Moment, Refusal, View};
+use std::alloc::Global;
 use till_client::Answer;
 use till_requests::{look_request, view_request};
 use till_shows::{Table, customer_sheet, holder, refusal_in};
@@ -163,7 +164,19 @@ fn search<K: WallClock, V: Server, L: Shelf>(
     if says_all(desk.alloc, desk.is_json, &it.answer, said)? {
         return Ok(());
     }
-    says_table(desk.alloc, &it.table, list.none(), said)
+    says_table(desk.alloc, &it.table, list.none(), said)?;
+    says_age(desk.alloc, it.minutes, said)
+}
+
+/// Says how old a kept list is, if that is a minute or more.
+fn says_age(alloc: Global, minutes: u64, said: &mut Said) -> Result<(), TillFault> {
+    if minutes == 1 {
+        said.line("This list is 1 minute old.")?;
+    } else if minutes > 1 {
+        let line = format!(in alloc; "This list is {minutes} minutes old.")?;
+        said.line(line.as_str())?;
+    }
+    Ok(())
 }
 
 /// Those who have a customer's number in their telephone number, where that is no short one: a number that no

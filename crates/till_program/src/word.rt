@@ -260,7 +260,7 @@ fn told<K: WallClock, V: Server, L: Shelf>(
 ) -> Result<Said, TillFault> {
     let mut said = tell(desk, act, told)?;
     if told.is_accepted() {
-        if matches!(act, Act::Customer(_)) {
+        if matches!(act, Act::Customer(_) | Act::Active { .. }) {
             desk.shelf.forget(List::Customers.name());
         }
         if let (Some(customer), false) = (customer, desk.is_json) {
