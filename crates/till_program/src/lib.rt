@@ -46,7 +46,9 @@ pub use files::write_own;
 pub use init::{is_free, settings_path};
 pub use line::{Line, Patience, Way};
 pub use opening::{OpenBook, close_held, close_if_asked};
-pub use program::{ASKED, Asks, Performed, Standing, Stock, Words, book_of, perform_words, run};
+pub use program::{
+    ASKED, Asks, Performed, Standing, Stock, Words, book_of, perform_words, run, says_yes,
+};
 pub use prompt::change_staff;
 pub use said::Said;
 pub use settling::make_sure;

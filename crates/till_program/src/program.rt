@@ -219,8 +219,8 @@ struct Word {
     way: Way,
 }
 
-/// Asks the question, and reads a line. Returns whether it is `y` or `yes`.
-fn says_yes<W: Write>(rt: &HostRuntime, question: &str, out: &mut W) -> bool {
+/// Asks the question on `out`, and reads a line. Returns whether it is `y` or `yes`.
+pub fn says_yes<W: Write>(rt: &HostRuntime, question: &str, out: &mut W) -> bool {
     if write!(out, "{question}").is_err() || out.flush().is_err() {
         return false;
     }
@@ -264,7 +264,7 @@ fn consent<K: WallClock, V: Server, L: Shelf, W: Write>(
 }
 
 /// Returns what a window's word resulted in that wasn't done yet: its question is printed.
-fn asked<W: Write>(question: &str, line: Line, out: &mut W) -> Outcome {
+fn question_outcome<W: Write>(question: &str, line: Line, out: &mut W) -> Outcome {
     let _ = write!(out, "{question}");
     Outcome {
         status: ASKED,
@@ -319,7 +319,7 @@ fn with_tools<'x, W: Write, E: Write>(
         match consent(rt, &desk, &act, asks, out) {
             Consent::Given => desk.is_sure = true,
             Consent::Missing => {}
-            Consent::Asked(question) => return asked(question.as_str(), way.line, out),
+            Consent::Asked(question) => return question_outcome(question.as_str(), way.line, out),
         }
     }
     let begun = rt.monotonic().unwrap_or(Duration::ZERO);
