@@ -151,7 +151,7 @@ fn enter_act<S: Alter, K: WallClock, V: Server, L: Shelf>(
     }
 }
 
-/// Enters a command, and sends what waits and then it.
+/// Enters a command, and sends what waits and then it. While the line is down it waits in the book.
 fn give_once<S: Alter, K: WallClock, V: Server, L: Shelf, W: Watch>(
     desk: &Desk<'_, K, V, L>,
     conn: &mut Connection<S>,
@@ -176,6 +176,9 @@ fn give_once<S: Alter, K: WallClock, V: Server, L: Shelf, W: Watch>(
     match enter_act(desk, conn, book, act, ahead) {
         Ok(()) => {}
         Err(fault) => return Err(fault),
+    }
+    if desk.line.is_down() {
+        return Err(TillFault::Waits);
     }
     match send_all(desk, conn, &mut book.place, watch) {
         Ok(Some(answer)) => Ok(Told { answer }),

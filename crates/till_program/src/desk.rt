@@ -8,6 +8,7 @@ ghost use Rattle.till_program.specs.Faults.{giver_of};
 use crate::caches::Shelf;
 use crate::clock::WallClock;
 use crate::fault::TillFault;
+use crate::line::Line;
 use crate::wall::on_wall;
 use counter_routes::Routes;
 use jiff_tz::TimeZone;
@@ -33,6 +34,8 @@ pub struct Desk<'d, K: WallClock, V: Server, L: Shelf> {
     pub settings: &'d Settings,
     /// The zone of the clock on the wall, by which moments are shown.
     pub wall: TimeZone<'d>,
+    /// Whether the server answers, as far as is known.
+    pub line: Line,
     /// Who gives the word, where it isn't whose till it is.
     pub staff: Option<StaffNo>,
     /// Whether the server's bodies are printed as they are.
@@ -117,8 +120,11 @@ impl<K: WallClock, V: Server, L: Shelf> Desk<'_, K, V, L> {
         }
     }
 
-    /// Asks for something that changes nothing, up to three times.
+    /// Asks for something that changes nothing, up to three times. While the line is down it fails at once.
     pub(crate) fn ask(&self, request: &[u8]) -> Result<Answer, TillFault> {
+        if self.line.is_down() {
+            return Err(TillFault::Down);
+        }
         'rounds: for round in 0..ROUNDS {
             if round > 0 {
                 self.clock.sleep(Duration::from_millis(200 * round));

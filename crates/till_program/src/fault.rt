@@ -39,6 +39,10 @@ pub enum TillFault {
     Ahead(u64),
     /// No reply came.
     Unanswered,
+    /// The line to the server is down: the command waits in the book.
+    Waits,
+    /// The line to the server is down: nothing can be asked.
+    Down,
     /// The server had no memory, room or store.
     NotNow,
     /// The server doesn't know the till's token.
@@ -92,6 +96,7 @@ impl TillFault {
             | TillFault::Unsure
             | TillFault::Already
             | TillFault::NotKept => 1,
+            TillFault::Waits | TillFault::Down => 4,
             TillFault::Unanswered | TillFault::NotNow | TillFault::NotKnown | TillFault::Silent => {
                 4
             }
@@ -109,6 +114,14 @@ impl TillFault {
             | TillFault::Ahead(_)
             | TillFault::Foreign => 3,
         }
+    }
+
+    /// Tests whether the server was asked, and gave no reply that counts.
+    pub(crate) fn is_unanswered(self) -> bool {
+        matches!(
+            self,
+            TillFault::Unanswered | TillFault::NotNow | TillFault::Silent
+        )
     }
 
     /// What it is, and what to do.
@@ -139,6 +152,10 @@ impl TillFault {
             TillFault::Ahead(_) => "The last entry is too far ahead of the clock.",
             TillFault::Unanswered =>
                 "No answer came. What was said is in the book and goes again by itself, once.",
+            TillFault::Waits =>
+                "The line to the server is down. What was said is in the book and goes by itself, once.",
+            TillFault::Down =>
+                "The line to the server is down, so that can't be asked now. Say the word again later.",
             TillFault::NotNow =>
                 "The server can't take it now. What was said is in the book and goes again by itself, once.",
             TillFault::NotKnown =>

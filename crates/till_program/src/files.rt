@@ -49,8 +49,8 @@ fn make_own(rt: &HostRuntime, path: &str) -> io::Result<()> {
     }
 }
 
-/// Writes a file of the till's in the place of what it held.
-pub(crate) fn write_own(rt: &HostRuntime, path: &str, bytes: &[u8]) -> io::Result<()> {
+/// Writes a file of the till's in the place of what it held. Its owner alone may read it.
+pub fn write_own(rt: &HostRuntime, path: &str, bytes: &[u8]) -> io::Result<()> {
     make_own(rt, path)?;
     fs::write(rt, path, bytes)
 }

@@ -9,8 +9,8 @@ use till_files::close_book;
 use till_requests::{NoSettings, Settings, Zone, new_mark, read_settings, settings_text};
 use till_words::{Beginning, ZoneText};
 
-/// The file of a book's settings.
-pub(crate) fn settings_path(rt: &HostRuntime, book: &str) -> Result<String, TillFault> {
+/// Returns the name of the file of a book's settings.
+pub fn settings_path(rt: &HostRuntime, book: &str) -> Result<String, TillFault> {
     let alloc = rt.alloc();
     Ok(format!(in alloc; "{book}.conf")?)
 }
@@ -24,9 +24,9 @@ pub(crate) fn settings_of(rt: &HostRuntime, book: &str) -> Result<Settings, Till
     Ok(read_settings(rt.alloc(), text.as_slice())?)
 }
 
-/// Whether a book may be made there. Its settings are written last: as long as they aren't there or hold nothing, an
+/// Tests whether a book may be made there. Its settings are written last: as long as they aren't there or hold nothing, an
 /// `init` that was cut off may have left a book without an entry.
-fn is_free(rt: &HostRuntime, book: &str) -> Result<bool, TillFault> {
+pub fn is_free(rt: &HostRuntime, book: &str) -> Result<bool, TillFault> {
     let alloc = rt.alloc();
     let settings = settings_path(rt, book)?;
     let is_written = match fs::read(rt, settings.as_str()) {

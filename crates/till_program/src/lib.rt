@@ -16,6 +16,7 @@ mod files;
 mod greeting;
 mod init;
 mod input;
+mod line;
 mod lists;
 mod lists_of_entries;
 mod looks;
@@ -41,7 +42,14 @@ pub use caches::Shelf;
 pub use clock::WallClock;
 pub use desk::Desk;
 pub use fault::TillFault;
-pub use program::run;
+pub use files::write_own;
+pub use init::{is_free, settings_path};
+pub use line::{Line, Patience, Way};
+pub use opening::{OpenBook, close_held, close_if_asked};
+pub use program::{
+    ASKED, Asks, Performed, Standing, Stock, Words, book_of, perform_words, run, says_yes,
+};
+pub use prompt::change_staff;
 pub use said::Said;
 pub use settling::make_sure;
 pub use wall::on_wall;

@@ -60,7 +60,7 @@ fn office_bytes<K: WallClock, V: Server, L: Shelf>(
     Ok(sealed.bytes)
 }
 
-/// Enters those bytes, and sends them until they are answered.
+/// Enters those bytes, and sends them until they are answered. While the line is down they wait in the book.
 fn give_request<S: Alter, K: WallClock, V: Server, L: Shelf, W: Watch>(
     desk: &Desk<'_, K, V, L>,
     conn: &mut Connection<S>,
@@ -78,6 +78,9 @@ fn give_request<S: Alter, K: WallClock, V: Server, L: Shelf, W: Watch>(
     match enter_request(conn, place, request) {
         Ok(()) => {}
         Err(fault) => return Err(TillFault::from(fault)),
+    }
+    if desk.line.is_down() {
+        return Err(TillFault::Waits);
     }
     match send_all(desk, conn, place, watch) {
         Ok(Some(answer)) => office_said(desk.alloc, desk.is_json, &answer),

@@ -26,7 +26,7 @@ pub(crate) struct Tools {
 
 /// An open book. No other process can open the book until it is closed.
 #[derive(Drop)]
-pub(crate) struct OpenBook {
+pub struct OpenBook {
     pub(crate) tools: Tools,
     pub(crate) conn: Connection<FileStore<File>>,
 }
@@ -59,6 +59,11 @@ impl OpenBook {
         Ok(OpenBook { tools, conn })
     }
 
+    /// Returns the server's address, as the book's settings have it.
+    pub fn address(&self) -> &str {
+        self.tools.settings.address.as_str()
+    }
+
     /// Closes the book: another window may have it.
     pub(crate) fn close(self) {
         let OpenBook { tools, conn } = self;
@@ -83,7 +88,7 @@ impl OpenBook {
 }
 
 /// Closes the book that is held, if one is.
-pub(crate) fn close_held(held: &mut Option<OpenBook>)
+pub fn close_held(held: &mut Option<OpenBook>)
     ensures { IfSome held.new (λ book. book.conn.in_transaction ≡ false) }
 {
     if let Some(book) = held.take() {
@@ -92,7 +97,7 @@ pub(crate) fn close_held(held: &mut Option<OpenBook>)
 }
 
 /// Closes the book that is held, if another window asks for it.
-pub(crate) fn close_if_asked(rt: &HostRuntime, held: &mut Option<OpenBook>)
+pub fn close_if_asked(rt: &HostRuntime, held: &mut Option<OpenBook>)
     requires { IfSome held.old (λ book. book.conn.in_transaction ≡ false) }
     ensures { IfSome held.new (λ book. book.conn.in_transaction ≡ false) }
 {

@@ -12,7 +12,9 @@ use crate::clock::WallClock;
 use crate::desk::Desk;
 use crate::fault::TillFault;
 use crate::files::FileShelf;
+use crate::greeting::greeting;
 use crate::init::begin;
+use crate::line::{Line, Way};
 use crate::opening::{OpenBook, Tools, close_held, opened};
 use crate::prompt::prompt;
 use crate::said::Said;
@@ -51,13 +53,31 @@ impl Watch for Progress<'_> {
     }
 }
 
+/// Where the stock file of an import is.
+#[derive(Clone, Copy)]
+pub enum Stock<'w> {
+    /// The import names a file of this machine.
+    Named,
+    /// The import came with these bytes, from where its file is.
+    Sent(&'w [u8]),
+}
+
+/// Returns the bytes of the stock file of that name.
+fn stock_file(rt: &HostRuntime, stock: Stock<'_>, file: &FileName) -> Result<Vec<u8>, TillFault> {
+    match stock {
+        Stock::Named => match fs::read(rt, file.as_str()) {
+            Ok(bytes) => Ok(bytes),
+            Err(_) => Err(TillFault::NoFile),
+        },
+        Stock::Sent(bytes) => Ok(Vec::from_slice(rt.alloc(), bytes)?),
+    }
+}
+
 /// Returns the act with its stock file read, if it names one.
-fn with_file(rt: &HostRuntime, act: TillAct) -> Result<TillAct, TillFault> {
+fn with_file(rt: &HostRuntime, stock: Stock<'_>, act: TillAct) -> Result<TillAct, TillFault> {
     match act {
         TillAct::Import { file, lot } => {
-            let Ok(bytes) = fs::read(rt, file.as_str()) else {
-                return Err(TillFault::NoFile);
-            };
+            let bytes = stock_file(rt, stock, &file)?;
             match StockFile::new(bytes) {
                 Some(file) => Ok(TillAct::Do(Act::Import { lot, file })),
                 None => Err(TillFault::TooLarge),
@@ -87,11 +107,23 @@ fn print<W: Write, E: Write>(said: Result<Said, TillFault>, out: &mut W, err: &m
     }
 }
 
-/// The status of a word, and whether the book failed at it: then it is to be opened anew.
+/// The status of a word, whether the book failed at it, and what it showed of the line. A book that failed is to be
+/// opened anew.
 #[derive(Clone, Copy)]
 struct Outcome {
     status: u8,
     is_failed: bool,
+    line: Line,
+}
+
+/// Returns what is known of the line after a word.
+fn line_after(before: Line, is_send: bool, said: &Result<Said, TillFault>) -> Line {
+    match said {
+        Ok(_) if is_send => Line::Open,
+        Ok(_) => before,
+        Err(fault) if fault.is_unanswered() => Line::Down,
+        Err(_) => before,
+    }
 }
 
 /// Reports whether the book failed.
@@ -134,41 +166,61 @@ fn word_at<S: Alter, K: WallClock, V: Server, L: Shelf, W: Write, E: Write>(
     requires { conn.old.in_transaction ≡ false }
     ensures ended { conn.new.in_transaction ≡ false }
 {
+    let is_send = matches!(act, TillAct::Send);
     let said = do_word(desk, conn, act, watch);
+    let line = line_after(desk.line, is_send, &said);
     let is_failed = matches!(said, Err(TillFault::Book));
     let status = print(said, out, err);
     if status != 0 {
-        return Outcome { status, is_failed };
+        return Outcome {
+            status,
+            is_failed,
+            line,
+        };
     }
     Outcome {
         status,
         is_failed: sure_at(desk, conn, out, err),
+        line,
     }
 }
 
-/// Who stands at the till, and whether a question can be asked there.
+/// The status of a word of a window's prompt that wasn't done, since its question is the answer.
+pub const ASKED: u8 = 5;
+
+/// Who is asked before a word that can't be undone.
+#[derive(Clone, Copy, Debug, PartialEq, Eq)]
+pub enum Asks {
+    /// Nobody: it isn't done without `--yes`.
+    Nobody,
+    /// Whoever types at this program's prompt.
+    Prompt,
+    /// Whoever types at a window's prompt. The question is the answer to the word.
+    Window,
+}
+
+/// Who stands at the till, and who is asked before a word that can't be undone.
 #[derive(Clone, Copy)]
-pub(crate) struct Standing {
+pub struct Standing {
     /// Who gives the words, if it isn't the member of staff whose till it is.
-    pub(crate) staff: Option<StaffNo>,
-    /// Whether the words come from a prompt.
-    pub(crate) is_prompt: bool,
+    pub staff: Option<StaffNo>,
+    pub asks: Asks,
 }
 
 /// A word, how its answer is printed, and whether it is done without a question. And who gives it, if it isn't the
-/// member of staff whose till it is.
+/// member of staff whose till it is, and how it may use the line to the server.
 #[derive(Drop)]
 struct Word {
     is_json: bool,
     is_sure: bool,
-    /// Whether a question can be asked.
-    is_asked: bool,
+    asks: Asks,
     staff: Option<StaffNo>,
     act: TillAct,
+    way: Way,
 }
 
-/// Asks the question, and reads a line. Returns whether it is `y` or `yes`.
-fn says_yes<W: Write>(rt: &HostRuntime, question: &str, out: &mut W) -> bool {
+/// Asks the question on `out`, and reads a line. Returns whether it is `y` or `yes`.
+pub fn says_yes<W: Write>(rt: &HostRuntime, question: &str, out: &mut W) -> bool {
     if write!(out, "{question}").is_err() || out.flush().is_err() {
         return false;
     }
@@ -181,18 +233,43 @@ fn says_yes<W: Write>(rt: &HostRuntime, question: &str, out: &mut W) -> bool {
     false
 }
 
-/// Returns whether the word is to be done: it can be undone, or what is owed covers it, or the answer was yes.
-fn is_confirmed<K: WallClock, V: Server, L: Shelf, W: Write>(
+/// What came of the question before a word.
+#[derive(Drop)]
+enum Consent {
+    /// The word is to be done: it can be undone, or what is owed covers it, or the answer was yes.
+    Given,
+    /// Nobody said yes to it.
+    Missing,
+    /// The window is to ask this.
+    Asked(String),
+}
+
+/// Returns what came of the question before a word.
+fn consent<K: WallClock, V: Server, L: Shelf, W: Write>(
     rt: &HostRuntime,
     desk: &Desk<'_, K, V, L>,
     act: &TillAct,
-    is_asked: bool,
+    asks: Asks,
     out: &mut W,
-) -> bool {
+) -> Consent {
     match question(desk, act) {
-        Ok(None) => true,
-        Ok(Some(question)) => is_asked && says_yes(rt, question.as_str(), out),
-        Err(_) => false,
+        Ok(None) => Consent::Given,
+        Ok(Some(question)) => match asks {
+            Asks::Window => Consent::Asked(question),
+            Asks::Prompt if says_yes(rt, question.as_str(), out) => Consent::Given,
+            Asks::Prompt | Asks::Nobody => Consent::Missing,
+        },
+        Err(_) => Consent::Missing,
+    }
+}
+
+/// Returns what a window's word resulted in that wasn't done yet: its question is printed.
+fn question_outcome<W: Write>(question: &str, line: Line, out: &mut W) -> Outcome {
+    let _ = write!(out, "{question}");
+    Outcome {
+        status: ASKED,
+        is_failed: false,
+        line,
     }
 }
 
@@ -211,13 +288,15 @@ fn with_tools<'x, W: Write, E: Write>(
     let Word {
         is_json,
         is_sure,
-        is_asked,
+        asks,
         staff,
         act,
+        way,
     } = word;
     let server = Tcp {
         rt,
         address: tools.settings.address.as_str(),
+        patience: way.patience,
     };
     let shelf = FileShelf {
         rt,
@@ -231,12 +310,17 @@ fn with_tools<'x, W: Write, E: Write>(
         routes: &tools.routes,
         settings: &tools.settings,
         wall: wall_zone(&tools.rules, &tools.settings.zone),
+        line: way.line,
         staff,
         is_json,
         is_sure,
     };
     if !is_sure {
-        desk.is_sure = is_confirmed(rt, &desk, &act, is_asked, out);
+        match consent(rt, &desk, &act, asks, out) {
+            Consent::Given => desk.is_sure = true,
+            Consent::Missing => {}
+            Consent::Asked(question) => return question_outcome(question.as_str(), way.line, out),
+        }
     }
     let begun = rt.monotonic().unwrap_or(Duration::ZERO);
     let mut watch = Progress {
@@ -246,8 +330,8 @@ fn with_tools<'x, W: Write, E: Write>(
     word_at(&desk, conn, act, &mut watch, out, err)
 }
 
-/// Does a word at the book of that name, prints what it resulted in, and returns its status. The book stays open, and
-/// is held, unless it failed.
+/// Does a word at the book of that name, prints what it resulted in, and returns its status and what it showed of the
+/// line. The book stays open, and is held, unless it failed.
 fn at_book<W: Write, E: Write>(
     rt: &HostRuntime,
     name: &str,
@@ -255,7 +339,7 @@ fn at_book<W: Write, E: Write>(
     word: Word,
     out: &mut W,
     err: &mut E,
-) -> Result<u8, TillFault>
+) -> Result<Performed, TillFault>
     requires { IfSome held.old (λ book. book.conn.in_transaction ≡ false) }
     ensures { IfSome held.new (λ book. book.conn.in_transaction ≡ false) }
 {
@@ -266,11 +350,14 @@ fn at_book<W: Write, E: Write>(
     } else {
         *held = Some(book);
     }
-    Ok(outcome.status)
+    Ok(Performed {
+        status: outcome.status,
+        line: outcome.line,
+    })
 }
 
-/// Returns the name of the book's file.
-pub(crate) fn book_of(rt: &HostRuntime, named: &Option<FileName>) -> Result<String, TillFault> {
+/// Returns the name of the book's file: the one that is given, or `till.book`.
+pub fn book_of(rt: &HostRuntime, named: &Option<FileName>) -> Result<String, TillFault> {
     let name = match named {
         Some(name) => name.as_str(),
         None => BOOK,
@@ -278,16 +365,16 @@ pub(crate) fn book_of(rt: &HostRuntime, named: &Option<FileName>) -> Result<Stri
     Ok(String::from_str(rt.alloc(), name)?)
 }
 
-/// Does what a line of words asks for, prints what it resulted in, and returns its status. A prompt in a line is
-/// answered by the words that there are.
+/// Does what a line of words asks for, prints what it resulted in, and returns its status and what it showed of the
+/// line to the server. A prompt in a line is answered by the words that there are.
 fn perform_line<W: Write, E: Write>(
     rt: &HostRuntime,
     line: TillLine,
-    standing: Standing,
+    given: Words<'_>,
     held: &mut Option<OpenBook>,
     out: &mut W,
     err: &mut E,
-) -> Result<u8, TillFault>
+) -> Result<Performed, TillFault>
     requires { IfSome held.old (λ book. book.conn.in_transaction ≡ false) }
     ensures { IfSome held.new (λ book. book.conn.in_transaction ≡ false) }
 {
@@ -299,32 +386,48 @@ fn perform_line<W: Write, E: Write>(
         act,
     } = line;
     let book = book_of(rt, &book)?;
+    let Words {
+        standing,
+        stock,
+        way,
+        ..
+    } = given;
     match act {
         TillAct::Init(beginning) => {
             close_held(held);
-            Ok(print(begin(rt, book.as_str(), beginning), out, err))
+            let status = print(begin(rt, book.as_str(), beginning), out, err);
+            Ok(Performed::at(status, way))
         }
-        TillAct::Help | TillAct::Prompt => Ok(print(help(rt), out, err)),
-        TillAct::Zone(zone) => Ok(print(
-            set_zone(rt, book.as_str(), held, zone.as_str()),
-            out,
-            err,
-        )),
+        TillAct::Prompt if standing.asks == Asks::Window => {
+            let said = greeted(rt, book.as_str(), staff.or(standing.staff));
+            Ok(Performed::at(print(said, out, err), way))
+        }
+        TillAct::Help | TillAct::Prompt => Ok(Performed::at(print(help(rt), out, err), way)),
+        TillAct::Zone(zone) => {
+            let said = set_zone(rt, book.as_str(), held, zone.as_str());
+            Ok(Performed::at(print(said, out, err), way))
+        }
         act => {
-            let act = with_file(rt, act)?;
+            let act = with_file(rt, stock, act)?;
             let word = Word {
                 is_json,
                 is_sure,
-                is_asked: standing.is_prompt && !is_json,
-                staff: match staff {
-                    Some(staff) => Some(staff),
-                    None => standing.staff,
-                },
+                asks: if is_json { Asks::Nobody } else { standing.asks },
+                staff: staff.or(standing.staff),
                 act,
+                way,
             };
             at_book(rt, book.as_str(), held, word, out, err)
         }
     }
+}
+
+/// Returns what a prompt says first.
+fn greeted(rt: &HostRuntime, book: &str, staff: Option<StaffNo>) -> Result<Said, TillFault> {
+    let line = greeting(rt, book, staff)?;
+    let mut said = Said::done(rt.alloc());
+    said.line(line.as_str())?;
+    Ok(said)
 }
 
 /// Returns the words that there are.
@@ -346,27 +449,55 @@ fn usage(rt: &HostRuntime, words: &[String], text: &str) -> Result<Said, TillFau
     Ok(said)
 }
 
-/// Does what words ask for that don't begin a prompt, and returns the status. The book that is held is closed if
-/// another is named; the book of the words is held after them, unless it failed.
-pub(crate) fn perform_words<W: Write, E: Write>(
+/// Words, who stands where they are said, where the stock file is that they may name, and how they may use the line to the
+/// server.
+#[derive(Clone, Copy)]
+pub struct Words<'w> {
+    pub words: &'w [String],
+    pub standing: Standing,
+    pub stock: Stock<'w>,
+    pub way: Way,
+}
+
+/// The status of words, and what is known of the line to the server after them.
+#[derive(Clone, Copy, Debug)]
+pub struct Performed {
+    pub status: u8,
+    pub line: Line,
+}
+
+impl Performed {
+    /// Words with that status, which showed nothing of the line.
+    fn at(status: u8, way: Way) -> Performed {
+        Performed {
+            status,
+            line: way.line,
+        }
+    }
+}
+
+/// Does what words ask for that don't begin a prompt, and returns the status and what is known of the line after them.
+/// The book that is held is closed if another is named. The book of the words is held after them, unless it failed.
+pub fn perform_words<W: Write, E: Write>(
     rt: &HostRuntime,
-    words: &[String],
-    standing: Standing,
+    given: Words<'_>,
     held: &mut Option<OpenBook>,
     out: &mut W,
     err: &mut E,
-) -> u8
+) -> Performed
     requires { IfSome held.old (λ book. book.conn.in_transaction ≡ false) }
     ensures { IfSome held.new (λ book. book.conn.in_transaction ≡ false) }
 {
-    match read_till_words(rt.alloc(), words) {
-        Ok(line) => match perform_line(rt, line, standing, held, out, err) {
-            Ok(status) => status,
-            Err(fault) => print(Err(fault), out, err),
+    let Words { words, way, .. } = given;
+    let said = match read_till_words(rt.alloc(), words) {
+        Ok(line) => match perform_line(rt, line, given, held, out, err) {
+            Ok(performed) => return performed,
+            Err(fault) => Err(fault),
         },
-        Err(Usage::Words(text)) => print(usage(rt, words, text.as_str()), out, err),
-        Err(Usage::Memory) => print(Err(TillFault::Memory), out, err),
-    }
+        Err(Usage::Words(text)) => usage(rt, words, text.as_str()),
+        Err(Usage::Memory) => Err(TillFault::Memory),
+    };
+    Performed::at(print(said, out, err), way)
 }
 
 /// Opens the book for words that don't begin a prompt, does what they ask for, and closes it.
@@ -377,13 +508,18 @@ fn perform_once<W: Write, E: Write>(
     err: &mut E,
 ) -> u8 {
     let mut held = None;
-    let standing = Standing {
-        staff: None,
-        is_prompt: false,
+    let given = Words {
+        words,
+        standing: Standing {
+            staff: None,
+            asks: Asks::Nobody,
+        },
+        stock: Stock::Named,
+        way: Way::open(),
     };
-    let status = perform_words(rt, words, standing, &mut held, out, err);
+    let performed = perform_words(rt, given, &mut held, out, err);
     close_held(&mut held);
-    status
+    performed.status
 }
 
 /// Runs the whole program for its words, without its own name. It prints on `out` what a word resulted in, and on

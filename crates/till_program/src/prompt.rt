@@ -5,14 +5,23 @@ ghost use Rattle.std.specs.Prelude.{◌≡◌, false, IfSome};
 use crate::fault::TillFault;
 use crate::greeting::greeting;
 use crate::input::has_input;
+use crate::line::{LineNotes, Patience, Way};
 use crate::opening::{OpenBook, close_held, close_if_asked};
-use crate::program::{Standing, book_of, perform_words};
+use crate::program::{Asks, Standing, Stock, Words, book_of, perform_words};
 use shop_types::StaffNo;
 use std::io::{ErrorKind, Write};
+use std::time::{Clock, Duration};
 use till_words::{TillLine, read_till_words, split_line};
 
 /// For how many milliseconds a line is waited for before another look at whether another window asks for the book.
 const LOOKS: i32 = 500;
+
+/// What a prompt knows from one line to the next: who stands there, and since when the line to the server is down.
+#[derive(Clone, Copy)]
+struct Known {
+    standing: Standing,
+    notes: LineNotes,
+}
 
 /// Tests whether the words end the prompt.
 fn is_end(words: &[String]) -> bool {
@@ -23,7 +32,7 @@ fn is_end(words: &[String]) -> bool {
 }
 
 /// Lets the member of staff of that number stand at the till, and says so.
-fn change<W: Write, E: Write>(
+pub fn change_staff<W: Write, E: Write>(
     number: &str,
     standing: &mut Standing,
     out: &mut W,
@@ -44,12 +53,42 @@ fn change<W: Write, E: Write>(
     Ok(())
 }
 
+/// Does what words ask for. For a minute after a word that got no reply, the line to the server is taken for down.
+fn perform_noted<W: Write, E: Write>(
+    rt: &HostRuntime,
+    words: &[String],
+    known: &mut Known,
+    held: &mut Option<OpenBook>,
+    out: &mut W,
+    err: &mut E,
+)
+    requires { IfSome held.old (λ book. book.conn.in_transaction ≡ false) }
+    ensures { IfSome held.new (λ book. book.conn.in_transaction ≡ false) }
+{
+    let line = known.notes.at(rt.monotonic().unwrap_or(Duration::ZERO));
+    let given = Words {
+        words,
+        standing: known.standing,
+        stock: Stock::Named,
+        way: Way {
+            line,
+            patience: Patience::Long,
+        },
+    };
+    let performed = perform_words(rt, given, held, out, err);
+    known.notes.note(
+        line,
+        performed.line,
+        rt.monotonic().unwrap_or(Duration::ZERO),
+    );
+}
+
 /// Does what the words of a line ask for. `staff N` changes who stands at the till.
 fn perform_said<W: Write, E: Write>(
     rt: &HostRuntime,
     before: &[String],
     said: Vec<String>,
-    standing: &mut Standing,
+    known: &mut Known,
     held: &mut Option<OpenBook>,
     out: &mut W,
     err: &mut E,
@@ -59,7 +98,7 @@ fn perform_said<W: Write, E: Write>(
 {
     if let [word, number] = said.as_slice() {
         if word.as_str() == "staff" {
-            return change(number.as_str(), standing, out, err);
+            return change_staff(number.as_str(), &mut known.standing, out, err);
         }
     }
     let mut words = Vec::new(rt.alloc());
@@ -67,7 +106,7 @@ fn perform_said<W: Write, E: Write>(
         words.push(word.clone()?)?;
     }
     words.extend(said)?;
-    perform_words(rt, words.as_slice(), *standing, held, out, err);
+    perform_noted(rt, words.as_slice(), known, held, out, err);
     Ok(())
 }
 
@@ -76,7 +115,7 @@ fn perform_line<W: Write, E: Write>(
     rt: &HostRuntime,
     before: &[String],
     line: &str,
-    standing: &mut Standing,
+    known: &mut Known,
     held: &mut Option<OpenBook>,
     out: &mut W,
     err: &mut E,
@@ -96,7 +135,7 @@ fn perform_line<W: Write, E: Write>(
         return Ok(false);
     }
     if !more.is_empty() {
-        perform_said(rt, before, more, standing, held, out, err)?;
+        perform_said(rt, before, more, known, held, out, err)?;
     }
     Ok(true)
 }
@@ -142,14 +181,17 @@ fn perform_lines<W: Write, E: Write>(
     requires { IfSome held.old (λ book. book.conn.in_transaction ≡ false) }
     ensures { IfSome held.new (λ book. book.conn.in_transaction ≡ false) }
 {
-    let mut standing = Standing {
-        staff: None,
-        is_prompt: true,
+    let mut known = Known {
+        standing: Standing {
+            staff: None,
+            asks: Asks::Prompt,
+        },
+        notes: LineNotes::new(),
     };
     invite(rt, held, out)?;
     'lines: for line in rt.lines(rt.alloc()) {
         let goes_on = match line {
-            Ok(line) => { perform_line(rt, before, line.as_str(), &mut standing, held, out, err)? }
+            Ok(line) => perform_line(rt, before, line.as_str(), &mut known, held, out, err)?,
             Err(error) if error.kind() == ErrorKind::InvalidData => {
                 writeln!(err, "That line isn't UTF-8. Say it again in other letters.")?;
                 true

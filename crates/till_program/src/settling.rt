@@ -138,7 +138,7 @@ fn settle_refused<S: Alter, K: WallClock, V: Server, L: Shelf>(
 
 /// Makes sure of some refused entries of a branch's book, if a later one was accepted. Says which of them have acted
 /// all the same. Nothing is entered or recorded but their settlements, unless the book failed. Head office's commands
-/// have no moment, so one that was refused could still be done: it isn't sent again.
+/// have no moment, so one that was refused could still be done: it isn't sent again. While the line is down nothing is.
 pub fn make_sure<S: Alter, K: WallClock, V: Server, L: Shelf>(
     desk: &Desk<'_, K, V, L>,
     conn: &mut Connection<S>,
@@ -154,7 +154,7 @@ pub fn make_sure<S: Alter, K: WallClock, V: Server, L: Shelf>(
         → KeepsATillsBook (IsTold (V.opens desk.now.server.now) V.Reader.remaining V.Writer.contents) mark (state
         S.Store conn.old) (state S.Store conn.new) }
 {
-    if desk.settings.staff.is_none() {
+    if desk.settings.staff.is_none() || desk.line.is_down() {
         return Ok(());
     }
     let entries = open_entries(desk.alloc, conn)?;

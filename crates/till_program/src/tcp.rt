@@ -2,30 +2,41 @@
 
 ghost use Rattle.std.specs.Prelude.{⊤};
 
+use crate::line::Patience;
 use std::io::{self, ErrorKind};
 use std::net::{TcpStream, ToSocketAddrs};
 use std::time::Duration;
 use till_work::Server;
-
-/// For how many seconds a connection is waited for, at each address of a name.
-const CONNECTS: u64 = 10;
-
-/// For how many seconds a reply is waited for: longer than the server waits for a peer, so that what the till has
-/// given up the server has too.
-const PATIENCE: u64 = 40;
 
 /// A server at an address, `HOST:PORT`.
 #[derive(Clone, Copy)]
 pub(crate) struct Tcp<'a> {
     pub(crate) rt: &'a HostRuntime,
     pub(crate) address: &'a str,
+    pub(crate) patience: Patience,
+}
+
+/// For how long a connection is waited for, at each address of a name.
+fn connects(patience: Patience) -> Duration {
+    match patience {
+        Patience::Long => Duration::from_secs(10),
+        Patience::Short => Duration::from_secs(2),
+    }
+}
+
+/// For how long a reply is waited for.
+fn replies(patience: Patience) -> Duration {
+    match patience {
+        Patience::Long => Duration::from_secs(40),
+        Patience::Short => Duration::from_secs(5),
+    }
 }
 
 /// A connection to the first address of that name that answers.
-fn connected(rt: &HostRuntime, address: &str) -> io::Result<TcpStream> {
+fn connected(rt: &HostRuntime, address: &str, patience: Patience) -> io::Result<TcpStream> {
     let mut last = io::Error::from(ErrorKind::InvalidInput);
     for to in address.to_socket_addrs(rt)? {
-        match TcpStream::connect_timeout(rt, &to, Duration::from_secs(CONNECTS)) {
+        match TcpStream::connect_timeout(rt, &to, connects(patience)) {
             Ok(stream) => return Ok(stream),
             Err(error) => last = error,
         }
@@ -44,10 +55,11 @@ impl Server for Tcp<'_> {
     ghost refuses = { λ _. ⊤ };
 
     fn connect(&self) -> io::Result<(TcpStream, TcpStream)> {
-        let stream = connected(self.rt, self.address)?;
+        let stream = connected(self.rt, self.address, self.patience)?;
         stream.set_nodelay(true)?;
-        stream.set_read_timeout(Some(Duration::from_secs(PATIENCE)))?;
-        stream.set_write_timeout(Some(Duration::from_secs(PATIENCE)))?;
+        let patience = replies(self.patience);
+        stream.set_read_timeout(Some(patience))?;
+        stream.set_write_timeout(Some(patience))?;
         let writer = stream.try_clone()?;
         Ok((stream, writer))
     }

@@ -15,6 +15,7 @@ use crate::desk::Desk;
 use crate::fault::TillFault;
 use crate::files::{FileShelf, replace_own};
 use crate::init::{settings_path, text_of};
+use crate::line::Way;
 use crate::opening::{OpenBook, Tools, opened};
 use crate::said::Said;
 use crate::tcp::Tcp;
@@ -69,9 +70,11 @@ fn accepted(
     ensures { conn.new.in_transaction ≡ false }
 {
     let name = tools.name.as_str();
+    let way = Way::open();
     let server = Tcp {
         rt,
         address: tools.settings.address.as_str(),
+        patience: way.patience,
     };
     let shelf = FileShelf { rt, book: name };
     let desk = Desk {
@@ -82,6 +85,7 @@ fn accepted(
         routes: &tools.routes,
         settings: &tools.settings,
         wall: wall_zone(&tools.rules, &tools.settings.zone),
+        line: way.line,
         staff: None,
         is_json: false,
         is_sure: false,

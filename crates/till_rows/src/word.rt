@@ -145,6 +145,7 @@ fn at_desk<'d, 'x, S: Alter, C: Counter>(
         routes: world.routes(),
         settings: world.settings(),
         wall: TimeZone::UTC,
+        line: till_program::Line::Open,
         staff,
         is_json: false,
         is_sure,

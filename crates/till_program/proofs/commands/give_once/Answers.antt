@@ -49,3 +49,9 @@ returns-in-Err-send_all-clause-keeps g c clean kept =
     (c.in-Ok.ensures.entered (c.send_all.ensures.clean clean)))
     (sends_goes _ mark c.enter_act.new.book.place c.send_all.new.place (state g.S.Store c.enter_act.new.conn) (state g.S.Store c.send_all.new.conn)
     (c.in-Err-send_all.ensures.sends clean (kept_as c.in-Err-send_all.fault kept)))
+
+pub returns-then-is_down-clause-keeps : goal.returns-then-is_down-clause-keeps
+returns-then-is_down-clause-keeps g c clean kept =
+    try_goes _ _ c.args.desk.now.settings.now.mark _ _ _ c.args.book.now.place c.enter_act.new.book.place
+    (state g.S.Store c.args.conn.now) (state g.S.Store c.enter_act.new.conn)
+    (c.in-Ok.ensures.entered clean)

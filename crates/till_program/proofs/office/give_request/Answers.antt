@@ -38,3 +38,9 @@ returns-in-Err-send_all-clause-grows g c clean kept =
     c.in-Ok.ensures.counted (c.in-Ok.ensures.entered (c.send_all.ensures.clean clean)))
     (sends_grows _ c.enter_request.new.place c.send_all.new.place (state g.S.Store c.enter_request.new.conn) (state g.S.Store c.send_all.new.conn)
     (c.in-Err-send_all.ensures.sends clean (kept_as c.in-Err-send_all.fault kept)))
+
+pub returns-then-is_down-clause-grows : goal.returns-then-is_down-clause-grows
+returns-then-is_down-clause-grows g c clean kept =
+    entry_grows _ (c.args.place.now.entries + 1) c.args.request.now c.args.place.now c.enter_request.new.place
+    (state g.S.Store c.args.conn.now) (state g.S.Store c.enter_request.new.conn) refl
+    c.in-Ok.ensures.counted (c.in-Ok.ensures.entered clean)

@@ -1,0 +1,83 @@
+//! The line to the server, as far as a till knows it.
+
+ghost use Rattle.std.specs.Prelude.{◌≡◌, true};
+ghost use Rattle.till_program.specs.declared.line.Line.TheVariants as line;
+
+use std::time::Duration;
+
+/// For how many seconds a prompt takes a line for down after a word that got no reply.
+const REST: u64 = 60;
+
+/// Whether the server answers, as far as is known.
+#[derive(Clone, Copy, Debug, PartialEq, Eq)]
+pub enum Line {
+    /// It does, or nothing is known of it. What is entered is sent, and looks are asked for.
+    Open,
+    /// It doesn't. What is entered waits, and looks fail at once. `send` tries all the same.
+    Down,
+}
+
+impl Line {
+    /// Tests whether the server doesn't answer.
+    pub fn is_down(self) -> bool
+        ensures { result ≡ true → self ≡ line.Down }
+    {
+        matches!(self, Line::Down)
+    }
+}
+
+/// For how long a server is waited for.
+#[derive(Clone, Copy, Debug, PartialEq, Eq)]
+pub enum Patience {
+    /// A connection is waited for 10 seconds and a reply 40, which is longer than the server waits for a peer.
+    Long,
+    /// A connection is waited for 2 seconds and a reply 5, since other windows wait meanwhile.
+    Short,
+}
+
+/// How a word may use the line to the server.
+#[derive(Clone, Copy, Debug)]
+pub struct Way {
+    pub line: Line,
+    pub patience: Patience,
+}
+
+impl Way {
+    /// A line of which nothing is known, with all patience.
+    pub(crate) fn open() -> Way {
+        Way {
+            line: Line::Open,
+            patience: Patience::Long,
+        }
+    }
+}
+
+/// Since when a prompt takes the line for down, if it does.
+#[derive(Clone, Copy)]
+pub(crate) struct LineNotes {
+    since: Option<Duration>,
+}
+
+impl LineNotes {
+    /// Nothing is known of the line.
+    pub(crate) fn new() -> LineNotes {
+        LineNotes { since: None }
+    }
+
+    /// Returns what is known of the line at that time.
+    pub(crate) fn at(&self, now: Duration) -> Line {
+        match self.since {
+            Some(since) if now < since.saturating_add(Duration::from_secs(REST)) => Line::Down,
+            Some(_) | None => Line::Open,
+        }
+    }
+
+    /// Notes what a word showed of the line at that time.
+    pub(crate) fn note(&mut self, before: Line, after: Line, now: Duration) {
+        match (before, after) {
+            (_, Line::Open) => self.since = None,
+            (Line::Open, Line::Down) => self.since = Some(now),
+            (Line::Down, Line::Down) => {}
+        }
+    }
+}
