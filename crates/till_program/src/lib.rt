@@ -2,7 +2,9 @@
 //! words.
 #![tactic(auto)]
 
+mod again;
 mod answers;
+mod asked;
 mod book;
 mod caches;
 mod clock;
@@ -23,13 +25,16 @@ mod office;
 mod opening;
 mod program;
 mod prompt;
+mod refused;
 mod returns;
 mod said;
+mod same_act;
 mod sendings;
 mod settling;
 mod standard;
 mod sure;
 mod tcp;
+mod today;
 mod wall;
 mod watch;
 mod word;
@@ -44,6 +49,7 @@ pub use fault::TillFault;
 pub use program::run;
 pub use said::Said;
 pub use settling::make_sure;
+pub use today::said_day;
 pub use wall::on_wall;
 pub use watch::Quiet;
 pub use word::do_word;

@@ -7,6 +7,7 @@ ghost use Rattle.till_work.specs.Told.{IsTold};
 ghost use Rattle.till_program.specs.Faults.{IsBookKept};
 ghost use Rattle.till_program.specs.Word.{EntersNothing};
 
+use crate::asked::ask_before;
 use crate::caches::Shelf;
 use crate::clock::WallClock;
 use crate::desk::Desk;
@@ -19,10 +20,11 @@ use crate::said::Said;
 use crate::settling::make_sure;
 use crate::sure::question;
 use crate::tcp::Tcp;
+use crate::today::said_day;
 use crate::word::do_word;
 use crate::zone_word::set_zone;
 use crate::zones::wall_zone;
-use shop_types::{Act, StaffNo, StockFile, Usage};
+use shop_types::{Act, Moment, StaffNo, StockFile, Usage};
 use sqlite::{Alter, Connection, FileStore};
 use sqlite_std_file::File;
 use std::fs;
@@ -186,13 +188,22 @@ fn is_confirmed<K: WallClock, V: Server, L: Shelf, W: Write>(
     rt: &HostRuntime,
     desk: &Desk<'_, K, V, L>,
     act: &TillAct,
+    last: Option<Moment>,
     is_asked: bool,
     out: &mut W,
 ) -> bool {
-    match question(desk, act) {
+    match question(desk, act, last) {
         Ok(None) => true,
         Ok(Some(question)) => is_asked && says_yes(rt, question.as_str(), out),
         Err(_) => false,
+    }
+}
+
+/// Prints the fault of a word that wasn't begun.
+fn not_done<W: Write, E: Write>(fault: TillFault, out: &mut W, err: &mut E) -> Outcome {
+    Outcome {
+        status: print(Err(fault), out, err),
+        is_failed: matches!(fault, TillFault::Book),
     }
 }
 
@@ -234,9 +245,15 @@ fn with_tools<'x, W: Write, E: Write>(
         staff,
         is_json,
         is_sure,
+        said_day: said_day(rt.alloc(), &shelf),
     };
+    let asked = match ask_before(rt, &desk, conn, &act, is_asked, out) {
+        Ok(asked) => asked,
+        Err(fault) => return not_done(fault, out, err),
+    };
+    desk.said_day = asked.said_day;
     if !is_sure {
-        desk.is_sure = is_confirmed(rt, &desk, &act, is_asked, out);
+        desk.is_sure = is_confirmed(rt, &desk, &act, asked.last, is_asked, out);
     }
     let begun = rt.monotonic().unwrap_or(Duration::ZERO);
     let mut watch = Progress {
