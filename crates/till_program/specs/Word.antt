@@ -85,7 +85,7 @@ EntersOrSends act.Waiting = ⊥
 EntersOrSends (act.Last count) = ⊥
 EntersOrSends (act.Day asked) = ⊥
 EntersOrSends (act.Today date) = ⊥
-EntersOrSends (act.Again late) = ⊥
+EntersOrSends (act.Again late) = ⊤
 EntersOrSends act.Slip = ⊥
 EntersOrSends act.Help = ⊥
 EntersOrSends (act.Zone name) = ⊥
@@ -103,6 +103,8 @@ IsPlannedFor staff (plan.ReadOffice words) = staff ≡ None
 IsPlannedFor staff plan.Waiting = ⊤
 IsPlannedFor staff (plan.Last count) = ⊤
 IsPlannedFor staff (plan.Day asked) = IsSome staff
+IsPlannedFor staff (plan.Today date) = ⊤
+IsPlannedFor staff (plan.Again late) = IsSome staff
 IsPlannedFor staff plan.Usage = ⊤
 
 -- a branch's commands and looks are for a branch's book, and head office's words for its own
@@ -118,7 +120,7 @@ IsFor staff act.Send = ⊤
 IsFor staff (act.Last count) = ⊤
 IsFor staff (act.Day asked) = IsSome staff
 IsFor staff (act.Today date) = ⊤
-IsFor staff (act.Again late) = ⊤
+IsFor staff (act.Again late) = IsSome staff
 IsFor staff act.Slip = ⊤
 IsFor staff act.Help = ⊤
 IsFor staff (act.Zone name) = ⊤

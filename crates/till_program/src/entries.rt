@@ -7,11 +7,12 @@ ghost use Rattle.till_book.specs.Steps.{Stays};
 
 use crate::fault::TillFault;
 use counter_routes::Routes;
-use shop_types::Command;
+use shop_types::{Command, Refusal};
 use sqlite::{Alter, Connection};
 use std::alloc::Global;
 use till_book::{BookReply, BookRows, read_after};
 use till_client::{NotSealed, command_of};
+use till_shows::refusal_in;
 
 /// The entries after a number, with their replies, as they were read. The first of them is at 0.
 #[derive(Drop)]
@@ -68,6 +69,17 @@ impl EntriesAfter {
             Ok(command) => Ok(command),
             Err(NotSealed::Memory) => Err(TillFault::Memory),
             Err(NotSealed::Other) => Err(TillFault::OtherBook),
+        }
+    }
+
+    /// Tests whether the entry at that place was refused at first because the branch had a later moment.
+    pub(crate) fn is_back_at(&self, at: usize) -> bool {
+        match self.rows.replies.as_slice().get(at) {
+            Some(reply) => matches!(
+                refusal_in(reply.status, reply.body.as_slice()),
+                Some(Refusal::MomentBack)
+            ),
+            None => false,
         }
     }
 

@@ -99,7 +99,7 @@ fn words_line(alloc: Global, request: Option<&[u8]>) -> Result<String, TillFault
 }
 
 /// Returns what the entry at that place asks for. Its moment is shown by the clock on the wall.
-fn asked_at<K: WallClock, V: Server, L: Shelf>(
+pub(crate) fn asked_at<K: WallClock, V: Server, L: Shelf>(
     desk: &Desk<'_, K, V, L>,
     entries: &EntriesAfter,
     at: usize,
