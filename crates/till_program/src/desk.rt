@@ -49,7 +49,7 @@ pub struct Desk<'d, K: WallClock, V: Server, L: Shelf> {
 }
 
 impl<K: WallClock, V: Server, L: Shelf> Desk<'_, K, V, L> {
-    /// Who the till is, by its settings.
+    /// Returns who the till is, by its settings.
     pub(crate) fn identity(&self) -> Identity<'_>
         ensures mark { result.mark.now ≡ self.now.settings.now.mark }
         ensures token { result.token.now ≡ self.now.settings.now.token }
@@ -87,7 +87,7 @@ impl<K: WallClock, V: Server, L: Shelf> Desk<'_, K, V, L> {
         }
     }
 
-    /// The moment by the clock, or the last entry's where that is later: what was entered counts in it.
+    /// Returns the clock's moment, or the last entry's if that is later, so that what was entered counts.
     pub(crate) fn now_behind(&self, last: Option<Moment>) -> Result<Moment, TillFault> {
         let now = self.now()?;
         match last {
@@ -103,7 +103,7 @@ impl<K: WallClock, V: Server, L: Shelf> Desk<'_, K, V, L> {
         on_wall(self.wall, zone_offset(&self.settings.zone), at)
     }
 
-    /// Who gives a branch's word: at head office's book nobody does, also where somebody is named.
+    /// Returns who gives a branch's word. Fails with `IsOffice` at head office's book, also if somebody is named.
     pub(crate) fn giver(&self) -> Result<StaffNo, TillFault>
         ensures given { result ≡ giver_of self.now.settings.now.staff self.now.staff }
         ensures branch { OnOk result (IsSome self.now.settings.now.staff) }

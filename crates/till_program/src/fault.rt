@@ -84,8 +84,8 @@ pub enum TillFault {
 }
 
 impl TillFault {
-    /// The program's status for it: 1 where a word can't be done as it was said, 3 for a fault of the till's own, 4
-    /// where it isn't answered yet.
+    /// Returns the program's status for it: 1 if a word can't be done as it was said, 4 if it isn't answered yet, and 3
+    /// for the till's own faults.
     pub fn status(self) -> u8
         ensures { 0 < result }
     {
@@ -133,7 +133,7 @@ impl TillFault {
         )
     }
 
-    /// What it is, and what to do.
+    /// Returns what it is, and what to do.
     fn sentences(self) -> &'static str {
         match self {
             TillFault::Book =>

@@ -27,7 +27,7 @@ const DATABASE: &[u8] = b"SQLite format 3\0";
 /// Who may read and write the till's files: their owner.
 const OWNER: u32 = 0o600;
 
-/// Whether there is such a file.
+/// Returns whether there is such a file.
 pub(crate) fn is_there(rt: &HostRuntime, path: &str) -> bool {
     fs::metadata(rt, path).is_ok()
 }
@@ -66,7 +66,7 @@ pub(crate) fn replace_own(rt: &HostRuntime, path: &str, bytes: &[u8]) -> Result<
     Ok(())
 }
 
-/// Whether the file holds nothing, or begins as a database does.
+/// Returns whether the file holds nothing, or begins as a database does.
 pub(crate) fn may_be_book(rt: &HostRuntime, path: &str) -> bool {
     match fs::read(rt, path) {
         Ok(bytes) => bytes.is_empty() || bytes.as_slice().starts_with(DATABASE),
@@ -74,7 +74,7 @@ pub(crate) fn may_be_book(rt: &HostRuntime, path: &str) -> bool {
     }
 }
 
-/// The fault of a book in a file. A file that is read and is no database is no till's book.
+/// Returns the fault of a book in a file. If the file can be read and is no database, it is no till's book.
 fn fault_at(rt: &HostRuntime, path: &str, fault: BookFault) -> TillFault {
     let is_other = matches!(fault, BookFault::Store) && is_there(rt, path);
     if is_other && !may_be_book(rt, path) {

@@ -26,7 +26,7 @@ pub(crate) enum List {
 }
 
 impl List {
-    /// Its name on the shelf.
+    /// Returns the list's name on the shelf.
     pub(crate) fn name(self) -> &'static str {
         match self {
             List::Customers => "customers",
@@ -34,7 +34,7 @@ impl List {
         }
     }
 
-    /// What is said where nothing has what is looked for.
+    /// Returns what is said if nothing has what is looked for.
     pub(crate) fn none(self) -> &'static str {
         match self {
             List::Customers => "no customer has that in name or phone",
@@ -49,7 +49,7 @@ impl List {
         }
     }
 
-    /// Those in the list's body in which the part stands.
+    /// Returns the rows of the list's body that have the part in them.
     fn with(self, alloc: Global, body: &[u8], part: &str) -> Result<Table, NotShown> {
         match self {
             List::Customers => customers_with(alloc, body, part),
@@ -146,7 +146,8 @@ pub(crate) fn name_if_known<K: WallClock, V: Server, L: Shelf>(
     customer_named(desk.alloc, list.body.as_slice(), customer).ok()?
 }
 
-/// The customer's name; where the kept list lacks it, a new one is asked for. It is none where the list is refused.
+/// Returns the customer's name. If the kept list lacks it, a new list is asked for. Returns none if the list is
+/// refused.
 pub(crate) fn name_of<K: WallClock, V: Server, L: Shelf>(
     desk: &Desk<'_, K, V, L>,
     customer: CustomerNo,
@@ -161,7 +162,7 @@ pub(crate) fn name_of<K: WallClock, V: Server, L: Shelf>(
     Ok(customer_named(desk.alloc, list.body.as_slice(), customer)?)
 }
 
-/// The film's title; where the kept list lacks it, a new one is asked for. It is none where the list is refused.
+/// Returns the film's title. If the kept list lacks it, a new list is asked for. Returns none if the list is refused.
 pub(crate) fn title_of<K: WallClock, V: Server, L: Shelf>(
     desk: &Desk<'_, K, V, L>,
     film: FilmNo,

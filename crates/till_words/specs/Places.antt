@@ -1,4 +1,4 @@
--- Values in their places: the name of its option is put before each value.
+-- Values that are given by their places: each gets the name of its option before it.
 use Rattle.std.specs.Prelude.{ℕ, suc, ◌==◌, ◌&&◌, ◌||◌, Bool, false, not, List, [], ◌∷◌, ◌++◌, length, take, drop, filter, codes, if◌then◌else◌}
 use Rattle.std.specs.List.{list_any, starts_with, before_first}
 use Rattle.std.specs.Str.{bytes_eq}
