@@ -6,6 +6,7 @@ pub mod StandardTime
 pub mod Wall
 pub mod Word
 pub mod Doing
+pub mod Adding
 pub mod Sure
 pub mod Today
 pub mod Again

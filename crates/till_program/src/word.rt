@@ -11,6 +11,7 @@ ghost use Rattle.till_requests.specs.Zones.{offset_of};
 ghost use Rattle.till_program.specs.Clock.{local_clock};
 ghost use Rattle.till_program.specs.Faults.{IsBookKept, IsReading, giver_of, others_fault};
 ghost use Rattle.till_program.specs.Giving.{GivesAct};
+ghost use Rattle.till_program.specs.Adding.{AddsTries, EntersPlan, EntersWord};
 ghost use Rattle.till_program.specs.Word.{
   KeepsATillsBook,
   KeepsABook,
@@ -326,6 +327,11 @@ fn give_and_tell<S: Alter, K: WallClock, V: Server, L: Shelf, W: Watch>(
         → GoesOn (IsTold (V.opens desk.now.server.now) V.Reader.remaining V.Writer.contents)
         desk.now.settings.now.mark book.old.place (state S.Store conn.old) book.new.place
         (state S.Store conn.new) }
+    ensures adds { HasCleanDisk (state S.Store conn.new) → IsBookKept result
+        → AddsTries (local_clock (K.shows desk.now.clock.now) desk.now.settings.now.zone)
+        desk.now.settings.now.mark desk.now.settings.now.token
+        (giver_of desk.now.settings.now.staff desk.now.staff) (seen_act act.now)
+        book.old.place (state S.Store conn.old) book.new.place (state S.Store conn.new) }
 {
     let before = book.place;
     let it = match give(desk, conn, book, act, watch) {
@@ -369,6 +375,11 @@ fn carry_out<S: Alter, K: WallClock, V: Server, L: Shelf, W: Watch>(
         → IsPlannedFor desk.now.settings.now.staff plan
         → Grows (IsTold (V.opens desk.now.server.now) V.Reader.remaining V.Writer.contents) book.old.place (state
         S.Store conn.old) book.new.place (state S.Store conn.new) }
+    ensures enters { HasCleanDisk (state S.Store conn.new) → IsBookKept result
+        → EntersPlan (local_clock (K.shows desk.now.clock.now) desk.now.settings.now.zone)
+        desk.now.settings.now.mark desk.now.settings.now.token
+        (giver_of desk.now.settings.now.staff desk.now.staff) plan book.old.place
+        (state S.Store conn.old) book.new.place (state S.Store conn.new) }
     ensures again { HasCleanDisk (state S.Store conn.new) → IfOk result (λ said. said.status < 3
         → RepeatsPlan (IsTold (V.opens desk.now.server.now) V.Reader.remaining V.Writer.contents)
         (local_clock (K.shows desk.now.clock.now) desk.now.settings.now.zone) desk.now.settings.now.mark desk.now.settings.now.token
@@ -392,6 +403,7 @@ fn carry_out<S: Alter, K: WallClock, V: Server, L: Shelf, W: Watch>(
 
 /// Does a word at an open book, and says what it resulted in. An act that was typed is given once. A copy that comes
 /// back is the return of the register's rental. After `send` each entry has its reply. A look leaves the book as it is.
+/// Whatever becomes of a word, it enters nothing but tries of what was typed, unless the book failed.
 ///
 /// A branch's book stays one unless it failed, and what is in it stays, in head office's book too. A branch's command
 /// or look at head office's book is refused, whoever gives it: `IsOffice`. Head office's words at a branch's book are
@@ -445,6 +457,11 @@ pub fn do_word<S: Alter, K: WallClock, V: Server, L: Shelf, W: Watch>(
         → ¬ dates.IsDatedBook (local_clock (K.shows desk.now.clock.now) desk.now.settings.now.zone)
         desk.now.wall.entry (offset_of desk.now.settings.now.zone) desk.now.said_day (state S.Store conn.old)
         → Stays (state S.Store conn.old) (state S.Store conn.new) }
+    ensures enters { HasCleanDisk (state S.Store conn.new) → IsBookKept result
+        → EntersWord (local_clock (K.shows desk.now.clock.now) desk.now.settings.now.zone)
+        desk.now.settings.now.mark desk.now.settings.now.token
+        (giver_of desk.now.settings.now.staff desk.now.staff) act
+        (state S.Store conn.old) (state S.Store conn.new) }
     ensures again { HasCleanDisk (state S.Store conn.new) → IfOk result (λ said. said.status < 3
         → RepeatsWord (IsTold (V.opens desk.now.server.now) V.Reader.remaining V.Writer.contents)
         (local_clock (K.shows desk.now.clock.now) desk.now.settings.now.zone) desk.now.settings.now.mark desk.now.settings.now.token
