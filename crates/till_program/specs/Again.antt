@@ -17,7 +17,7 @@ GivesNth Tells shows mark token own n acts before old after new =
     × GivesAct Tells shows mark token (giver_of own (Some it.staff)) (seen_act it.act) before old after new
 
 -- the first n acts were given, one after another, and nothing else happened to the book
-unfoldable pub GivesFirst : (List ℕ → Answer → Type 0) → (ℕ → Type 0) → Text → Text → Option ℕ → ℕ → List Repeat → Place → State → Place → State → Type 0
+abbrev pub GivesFirst : (List ℕ → Answer → Type 0) → (ℕ → Type 0) → Text → Text → Option ℕ → ℕ → List Repeat → Place → State → Place → State → Type 0
 GivesFirst Tells shows mark token own zero acts before old after new = (after ≡ before) × Stays old new
 GivesFirst Tells shows mark token own (suc n) acts before old after new =
     (mid : Place) × (s : State) × GivesFirst Tells shows mark token own n acts before old mid s × GivesNth Tells shows mark token own n acts mid s after new
