@@ -10,7 +10,7 @@ use crate::caches::Shelf;
 use crate::clock::WallClock;
 use crate::desk::Desk;
 use crate::fault::TillFault;
-use crate::today::{day_said, dated, enters_acts};
+use crate::today::{dated, day_said, enters_acts};
 use shop_types::Moment;
 use sqlite::{Alter, Connection};
 use std::io::Write;

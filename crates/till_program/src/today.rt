@@ -61,9 +61,7 @@ struct Clocks {
 }
 
 /// Reads both clocks.
-fn clocks<K: WallClock, V: Server, L: Shelf>(
-    desk: &Desk<'_, K, V, L>,
-) -> Result<Clocks, TillFault>
+fn clocks<K: WallClock, V: Server, L: Shelf>(desk: &Desk<'_, K, V, L>) -> Result<Clocks, TillFault>
     ensures till { IfOk result (λ it. local_clock (K.shows desk.now.clock.now) desk.now.settings.now.zone
         (seconds_of it.till)) }
     ensures wall { IfOk result (λ it. spec.IsOnWall desk.now.wall.entry (offset_of desk.now.settings.now.zone)
