@@ -5,3 +5,5 @@ pub mod Adding
 pub mod LastMoment
 pub mod Marks
 pub mod StandardLemmas
+pub mod Today
+pub mod Again

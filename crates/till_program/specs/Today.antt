@@ -33,8 +33,8 @@ enters_acts (act.Today date) = false
 enters_acts act.Slip = false
 enters_acts act.Prompt = false
 
--- The clock on the wall, in that zone, shows that moment when a clock so many seconds ahead of UTC shows `now`. Of an instant or a moment that the calendar lacks
--- nothing is said.
+-- The clock on the wall, in that zone, shows that moment when a clock so many seconds ahead of UTC shows `now`. Of an instant or a moment that the calendar
+-- lacks nothing is said.
 abbrev pub IsOnWall : TimeZone → ℤ → Moment → Moment → Type 0
 IsOnWall zone offset now shown =
     (offset_at zone (instant_of offset (seconds_of now)) ≡ offset → shown ≡ now)
@@ -58,7 +58,7 @@ abbrev pub IsNear : Option Moment → Moment → Type 0
 IsNear None now = ⊥
 IsNear (Some last) now = seconds_of now ≤ seconds_of last + 129_600
 
--- At a moment that the clock showed, the last entry was at most 36 hours ago, or the date of the clock on the wall had been said.
+-- The clock showed a moment. Then the last entry was at most 36 hours ago, or the date of the clock on the wall had been said.
 abbrev pub HasDate : (ℕ → Type 0) → TimeZone → ℤ → Option ℤ → Option Moment → Type 0
 HasDate shows zone offset said last =
     (now shown : Moment) × shows (seconds_of now) × IsOnWall zone offset now shown × (IsNear last now ⊎ (said ≡ Some (pos (day_of shown))))

@@ -79,7 +79,7 @@ fn give_each<S: Alter, K: WallClock, V: Server, L: Shelf, W: Watch>(
         desk.now.settings.now.mark book.old.place (state S.Store conn.old) book.new.place
         (state S.Store conn.new) }
 {
-    'acts: for it in acts {
+    'givings: for it in acts {
         match give_again(desk, conn, book, it, watch) {
             Ok(()) => continue,
             Err(TillFault::Book) => return Err(TillFault::Book),

@@ -10,7 +10,7 @@ use crate::caches::Shelf;
 use crate::clock::WallClock;
 use crate::desk::Desk;
 use crate::fault::TillFault;
-use crate::today::{day_said, dated, enters_acts};
+use crate::today::{dated, day_said, enters_acts};
 use shop_types::Moment;
 use sqlite::{Alter, Connection};
 use std::io::Write;
@@ -44,7 +44,7 @@ fn wants_day<K: WallClock, V: Server, L: Shelf>(
         && matches!(dated(desk, book), Err(TillFault::Undated))
 }
 
-/// Asks for today's date, and returns the number of its day.
+/// Asks for today's date, and returns the number of its day. The word `today` may be before the date.
 fn ask_day<K: WallClock, V: Server, L: Shelf, W: Write>(
     rt: &HostRuntime,
     desk: &Desk<'_, K, V, L>,
@@ -53,7 +53,10 @@ fn ask_day<K: WallClock, V: Server, L: Shelf, W: Write>(
     write!(out, "Today's date, as 2026-03-09: ")?;
     out.flush()?;
     match next_line(rt) {
-        Some(date) => day_said(desk, date.as_str().trim()),
+        Some(line) => {
+            let date = line.as_str().trim();
+            day_said(desk, date.strip_prefix("today ").unwrap_or(date))
+        }
         None => Err(TillFault::Undated),
     }
 }

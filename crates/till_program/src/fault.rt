@@ -189,7 +189,7 @@ impl TillFault {
             TillFault::Unsure =>
                 "That can't be undone, and nothing was entered. If it is to be done, say --yes before the word.",
             TillFault::Undated =>
-                "Nothing was entered for more than 36 hours. Look at a calendar, and say today's date first: today YYYY-MM-DD.",
+                "There is no entry yet, or the last one is more than 36 hours ago. Look at a calendar, and say today's date first: today YYYY-MM-DD.",
             TillFault::OtherDay { .. } => "That isn't the date of the till's clock.",
             TillFault::NoDate => "That is no date. Say today's date as today YYYY-MM-DD.",
         }

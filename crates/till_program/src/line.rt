@@ -43,7 +43,7 @@ pub struct Way {
 }
 
 impl Way {
-    /// A line of which nothing is known, with all patience.
+    /// Returns the way over a line that may be open, with all patience.
     pub(crate) fn open() -> Way {
         Way {
             line: Line::Open,

@@ -388,8 +388,8 @@ pub fn book_of(rt: &HostRuntime, named: &Option<FileName>) -> Result<String, Til
     Ok(String::from_str(rt.alloc(), name)?)
 }
 
-/// Does what a line of words asks for, prints what it resulted in, and returns its status and what it showed of the
-/// line to the server. A prompt in a line is answered by the words that there are.
+/// Does what a line of words asks for, and prints what it resulted in. Returns its status and what it showed of the line to
+/// the server. A prompt in a line is answered by the words that there are.
 fn perform_line<W: Write, E: Write>(
     rt: &HostRuntime,
     line: TillLine,
@@ -472,8 +472,8 @@ fn usage(rt: &HostRuntime, words: &[String], text: &str) -> Result<Said, TillFau
     Ok(said)
 }
 
-/// Words, who stands where they are said, where the stock file is that they may name, and how they may use the line to the
-/// server.
+/// Words, and who stands where they are said. And where the stock file is that they may name, and how they may use the line
+/// to the server.
 #[derive(Clone, Copy)]
 pub struct Words<'w> {
     pub words: &'w [String],

@@ -1,5 +1,9 @@
 //! The entries that were refused because the branch had a later moment, and weren't repeated yet.
 
+ghost use Rattle.std.specs.Prelude.{IfOk, OnOk};
+ghost use Rattle.std.specs.List.{All};
+ghost use Rattle.till_program.specs.Again.{IsBackAt, IsRefused};
+
 use crate::caches::Shelf;
 use crate::clock::WallClock;
 use crate::desk::Desk;
@@ -73,7 +77,11 @@ fn add_entry<K: WallClock, V: Server, L: Shelf>(
     late: bool,
     today: i32,
     repeats: &mut Repeats,
-) -> Result<(), TillFault> {
+) -> Result<(), TillFault>
+    requires { IsBackAt entries.now.rows.replies at }
+    ensures { All (IsRefused entries.now.rows.entries entries.now.rows.replies) repeats.old.acts.items
+        → OnOk result (All (IsRefused entries.now.rows.entries entries.now.rows.replies) repeats.new.acts.items) }
+{
     let command = entries.command_at(desk.alloc, desk.routes, at)?;
     if is_repeated(desk, entries, at, &command)? {
         return Ok(());
@@ -92,7 +100,9 @@ pub(crate) fn repeats_in<K: WallClock, V: Server, L: Shelf>(
     desk: &Desk<'_, K, V, L>,
     entries: &EntriesAfter,
     late: bool,
-) -> Result<Repeats, TillFault> {
+) -> Result<Repeats, TillFault>
+    ensures { IfOk result (λ it. All (IsRefused entries.now.rows.entries entries.now.rows.replies) it.acts.items) }
+{
     let today = wall_day(desk)?;
     let mut repeats = Repeats {
         acts: Vec::new(desk.alloc),

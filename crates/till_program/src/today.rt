@@ -61,9 +61,7 @@ struct Clocks {
 }
 
 /// Reads both clocks.
-fn clocks<K: WallClock, V: Server, L: Shelf>(
-    desk: &Desk<'_, K, V, L>,
-) -> Result<Clocks, TillFault>
+fn clocks<K: WallClock, V: Server, L: Shelf>(desk: &Desk<'_, K, V, L>) -> Result<Clocks, TillFault>
     ensures till { IfOk result (λ it. local_clock (K.shows desk.now.clock.now) desk.now.settings.now.zone
         (seconds_of it.till)) }
     ensures wall { IfOk result (λ it. spec.IsOnWall desk.now.wall.entry (offset_of desk.now.settings.now.zone)
@@ -135,14 +133,23 @@ pub(crate) fn dated_if<K: WallClock, V: Server, L: Shelf>(
     if enters { dated(desk, book) } else { Ok(()) }
 }
 
-/// Puts the date beside the book if it is the one that the clock on the wall shows, and returns that clock's moment.
-/// Fails with `OtherDay` if it is another date.
+/// The day of a date that was said, and a moment of the clock on the wall on that day.
+#[derive(Clone, Copy)]
+struct Accepted {
+    said: i32,
+    wall: Moment,
+}
+
+/// Puts the date beside the book, if it is the one that the clock on the wall shows. Fails with `OtherDay` if it is
+/// another date.
 fn accept_day<K: WallClock, V: Server, L: Shelf>(
     desk: &Desk<'_, K, V, L>,
     date: &str,
-) -> Result<Moment, TillFault>
-    ensures { IfOk result (spec.IsShownOnWall (local_clock (K.shows desk.now.clock.now) desk.now.settings.now.zone)
-        desk.now.wall.entry (offset_of desk.now.settings.now.zone)) }
+) -> Result<Accepted, TillFault>
+    ensures shown { IfOk result (λ it. spec.IsShownOnWall
+        (local_clock (K.shows desk.now.clock.now) desk.now.settings.now.zone) desk.now.wall.entry
+        (offset_of desk.now.settings.now.zone) it.wall) }
+    ensures said { IfOk result (λ it. it.said ≡ pos (day_of it.wall)) }
 {
     let Some(said) = day_in(desk.alloc, date)? else {
         return Err(TillFault::NoDate);
@@ -154,10 +161,10 @@ fn accept_day<K: WallClock, V: Server, L: Shelf>(
     }
     let now = desk.seconds()?;
     desk.shelf.put(desk.alloc, NAME, now, date.as_bytes());
-    if said_day(desk.alloc, desk.shelf) != Some(clock) {
+    if said_day(desk.alloc, desk.shelf) != Some(said) {
         return Err(TillFault::System);
     }
-    Ok(wall)
+    Ok(Accepted { said, wall })
 }
 
 /// Accepts the date as today's, and returns the number of its day.
@@ -169,8 +176,8 @@ pub(crate) fn day_said<K: WallClock, V: Server, L: Shelf>(
         (local_clock (K.shows desk.now.clock.now) desk.now.settings.now.zone) desk.now.wall.entry
         (offset_of desk.now.settings.now.zone) day) }
 {
-    let wall = accept_day(desk, date)?;
-    Ok(wall.day())
+    let Accepted { said, .. } = accept_day(desk, date)?;
+    Ok(said)
 }
 
 /// Returns the name of a day of the week.
@@ -192,7 +199,7 @@ pub(crate) fn today<K: WallClock, V: Server, L: Shelf>(
     date: &str,
 ) -> Result<Said, TillFault> {
     let alloc = desk.alloc;
-    let wall = accept_day(desk, date)?;
+    let Accepted { wall, .. } = accept_day(desk, date)?;
     let (weekday, words) = (weekday(wall.day()), day_words(alloc, wall)?);
     let mut said = Said::done(alloc);
     let line = format!(in alloc; "Today is {weekday} {words}.")?;

@@ -412,8 +412,8 @@ fn carry_out<S: Alter, K: WallClock, V: Server, L: Shelf, W: Watch>(
 /// `Unsure`, unless another refusal comes first. A word that makes a book, a prompt, or a stock file that is still to be
 /// read is answered as a usage. So is a word that sets the book's zone.
 ///
-/// A word that enters commands is refused if the book has no entry, or its last one is more than 36 hours before the
-/// clock, and the date of the clock on the wall wasn't said: `Undated`. Then the book stays.
+/// A word that enters commands wants today's date first if the book is empty, or its last entry is more than 36 hours
+/// ago. If the date of the clock on the wall wasn't said, the word is refused, and the book stays: `Undated`.
 pub fn do_word<S: Alter, K: WallClock, V: Server, L: Shelf, W: Watch>(
     desk: &Desk<'_, K, V, L>,
     conn: &mut Connection<S>,
