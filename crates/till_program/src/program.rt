@@ -277,12 +277,7 @@ fn question_outcome<W: Write>(question: &str, line: Line, out: &mut W) -> Outcom
 }
 
 /// Prints the fault of a word that wasn't begun.
-fn not_done<W: Write, E: Write>(
-    fault: TillFault,
-    line: Line,
-    out: &mut W,
-    err: &mut E,
-) -> Outcome {
+fn not_done<W: Write, E: Write>(fault: TillFault, line: Line, out: &mut W, err: &mut E) -> Outcome {
     Outcome {
         status: print(Err(fault), out, err),
         is_failed: matches!(fault, TillFault::Book),

@@ -79,11 +79,7 @@ fn searched_text(alloc: Global, value: &Value, field: &Part) -> Result<Option<St
 }
 
 /// Returns the object's searched texts without upper and lower case.
-fn searched_texts(
-    alloc: Global,
-    value: &Value,
-    parts: &[Part],
-) -> Result<Vec<String>, AllocError>
+fn searched_texts(alloc: Global, value: &Value, parts: &[Part]) -> Result<Vec<String>, AllocError>
     ensures { IfOk result (λ texts. map string_bytes texts.items ≡ searched_texts parts.now (view value.now)) }
 {
     let mut texts = Vec::new(alloc);
@@ -122,12 +118,7 @@ fn is_sought(texts: &[String], words: &str) -> bool
 }
 
 /// Reports whether each word is found in the object.
-fn has_words(
-    alloc: Global,
-    value: &Value,
-    parts: &[Part],
-    words: &str,
-) -> Result<bool, AllocError>
+fn has_words(alloc: Global, value: &Value, parts: &[Part], words: &str) -> Result<bool, AllocError>
     ensures { IfOk result (λ has. has ≡ has_words words.now parts.now (view value.now)) }
 {
     let texts = searched_texts(alloc, value, parts)?;
