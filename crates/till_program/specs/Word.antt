@@ -103,6 +103,7 @@ IsPlannedFor staff (plan.ReadOffice words) = staff ≡ None
 IsPlannedFor staff plan.Waiting = ⊤
 IsPlannedFor staff (plan.Last count) = ⊤
 IsPlannedFor staff (plan.Day asked) = IsSome staff
+IsPlannedFor staff plan.Slip = IsSome staff
 IsPlannedFor staff plan.Usage = ⊤
 
 -- a branch's commands and looks are for a branch's book, and head office's words for its own
@@ -119,7 +120,7 @@ IsFor staff (act.Last count) = ⊤
 IsFor staff (act.Day asked) = IsSome staff
 IsFor staff (act.Today date) = ⊤
 IsFor staff (act.Again late) = ⊤
-IsFor staff act.Slip = ⊤
+IsFor staff act.Slip = IsSome staff
 IsFor staff act.Help = ⊤
 IsFor staff (act.Zone name) = ⊤
 IsFor staff act.Prompt = ⊤

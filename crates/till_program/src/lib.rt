@@ -27,6 +27,7 @@ mod returns;
 mod said;
 mod sendings;
 mod settling;
+mod slips;
 mod standard;
 mod sure;
 mod tcp;
