@@ -40,7 +40,7 @@ IsPlanOf s (typed.Last count) it = it ≡ plan.Last count
 IsPlanOf s (typed.Day asked) it = it ≡ plan.Day asked
 IsPlanOf s (typed.Today date) it = it ≡ plan.Today date
 IsPlanOf s (typed.Again late) it = it ≡ plan.Again late
-IsPlanOf s typed.Slip it = it ≡ plan.Usage
+IsPlanOf s typed.Slip it = it ≡ plan.Slip
 IsPlanOf s typed.Help it = it ≡ plan.Usage
 IsPlanOf s (typed.Zone name) it = it ≡ plan.Usage
 IsPlanOf s (typed.Init beginning) it = it ≡ plan.Usage
@@ -60,6 +60,7 @@ IsCarriedOut Tells shows mark token giver (plan.Last count) before old after new
 IsCarriedOut Tells shows mark token giver (plan.Day asked) before old after new = Stays old new
 IsCarriedOut Tells shows mark token giver (plan.Today date) before old after new = Stays old new
 IsCarriedOut Tells shows mark token giver (plan.Again late) before old after new = ⊤
+IsCarriedOut Tells shows mark token giver plan.Slip before old after new = Stays old new
 IsCarriedOut Tells shows mark token giver plan.Usage before old after new = Stays old new
 
 -- the act was given at a till's book, and got some answer

@@ -105,6 +105,7 @@ IsPlannedFor staff (plan.Last count) = ⊤
 IsPlannedFor staff (plan.Day asked) = IsSome staff
 IsPlannedFor staff (plan.Today date) = ⊤
 IsPlannedFor staff (plan.Again late) = IsSome staff
+IsPlannedFor staff plan.Slip = IsSome staff
 IsPlannedFor staff plan.Usage = ⊤
 
 -- a branch's commands and looks are for a branch's book, and head office's words for its own
@@ -121,7 +122,7 @@ IsFor staff (act.Last count) = ⊤
 IsFor staff (act.Day asked) = IsSome staff
 IsFor staff (act.Today date) = ⊤
 IsFor staff (act.Again late) = IsSome staff
-IsFor staff act.Slip = ⊤
+IsFor staff act.Slip = IsSome staff
 IsFor staff act.Help = ⊤
 IsFor staff (act.Zone name) = ⊤
 IsFor staff act.Prompt = ⊤

@@ -17,6 +17,10 @@ pub trait Shelf {
     /// whether they were added.
     fn add(&self, alloc: Global, name: &'static str, bytes: &[u8]) -> bool;
 
+    /// Adds the bytes after those that were added under that name. If that fails, a part of them may be there. Reports
+    /// whether all were added.
+    fn append(&self, alloc: Global, name: &'static str, bytes: &[u8]) -> bool;
+
     /// Drops what was put there under that name.
     fn forget(&self, name: &'static str);
 }

@@ -55,6 +55,15 @@ pub fn write_own(rt: &HostRuntime, path: &str, bytes: &[u8]) -> io::Result<()> {
     fs::write(rt, path, bytes)
 }
 
+/// Writes the bytes at the end of a file of the till's.
+fn append_own(rt: &HostRuntime, path: &str, bytes: &[u8]) -> io::Result<()> {
+    make_own(rt, path)?;
+    OpenOptions::new()
+        .append(true)
+        .open(rt, path)?
+        .write_all(bytes)
+}
+
 /// Writes a file of the till's beside the one that is there, and then puts it in that one's place: what is read there is
 /// the one or the other as a whole.
 pub(crate) fn replace_own(rt: &HostRuntime, path: &str, bytes: &[u8]) -> Result<(), TillFault> {
@@ -275,6 +284,13 @@ impl Shelf for FileShelf<'_> {
         };
         text.extend_from_slice(bytes).is_ok()
             && replace_own(self.rt, path.as_str(), text.as_slice()).is_ok()
+    }
+
+    fn append(&self, alloc: Global, name: &'static str, bytes: &[u8]) -> bool {
+        match self.path(alloc, name) {
+            Some(path) => append_own(self.rt, path.as_str(), bytes).is_ok(),
+            None => false,
+        }
     }
 
     fn forget(&self, name: &'static str) {

@@ -32,6 +32,7 @@ mod said;
 mod same_act;
 mod sendings;
 mod settling;
+mod slips;
 mod standard;
 mod sure;
 mod tcp;

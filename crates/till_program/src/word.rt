@@ -37,9 +37,10 @@ use crate::lists::List;
 use crate::lists_of_entries::{last_entries, waiting_entries};
 use crate::looks::look;
 use crate::office::{give_office, read_office};
-use crate::returns::{customer_of, owed, rental_at};
+use crate::returns::{balance_of, customer_of, owed_line, rental_at};
 use crate::said::Said;
 use crate::sendings::{send, waited};
+use crate::slips::{Slipped, debtor_of, say_slip, write_slip};
 use crate::sure::{is_answered, wants_yes};
 use crate::today::{dated_if, enters_acts, today};
 use shop_types::{Act, CopyNo, CustomerNo, Moment};
@@ -73,6 +74,8 @@ enum Plan {
     /// What was refused because the branch had a later moment is entered once more, rents and returns of another day too
     /// if that is said.
     Again(bool),
+    /// The last slip is shown.
+    Slip,
     /// The words that there are are said, as a usage.
     Usage,
 }
@@ -241,6 +244,17 @@ fn again_plan<K: WallClock, V: Server, L: Shelf>(
     Ok(Plan::Again(late))
 }
 
+/// Plans the showing of the last slip, which is a branch's.
+fn slip_plan<K: WallClock, V: Server, L: Shelf>(desk: &Desk<'_, K, V, L>) -> Result<Plan, TillFault>
+    ensures planned { IfOk result (IsPlannedFor desk.now.settings.now.staff) }
+    ensures acts { IfOk result (λ plan. plan ≡ Plan.Slip) }
+    ensures own { OnOk result (IsSome desk.now.settings.now.staff) }
+    ensures others { desk.now.settings.now.staff ≡ None → result ≡ Err (others_fault desk.now.settings.now.staff) }
+{
+    let _ = desk.giver()?;
+    Ok(Plan::Slip)
+}
+
 /// Plans a word. For a return the register is read: by copy it is of the rental that the register has of it. The book
 /// stays.
 fn plan_of<S: Alter, K: WallClock, V: Server, L: Shelf>(
@@ -275,8 +289,36 @@ fn plan_of<S: Alter, K: WallClock, V: Server, L: Shelf>(
         TillAct::Zone(_) | TillAct::Prompt => Ok(Plan::Usage),
         TillAct::Today(date) => Ok(Plan::Today(date)),
         TillAct::Again { late } => again_plan(desk, book, late),
-        TillAct::Slip => Ok(Plan::Usage),
+        TillAct::Slip => slip_plan(desk),
     }
+}
+
+/// Says what the customer of an accepted return owes, and writes the slip of an accepted command, if it has one. Returns
+/// false if the slip can't be written.
+fn follow_up<K: WallClock, V: Server, L: Shelf>(
+    desk: &Desk<'_, K, V, L>,
+    act: &Act,
+    customer: Option<CustomerNo>,
+    last: Option<Moment>,
+    told: &Told,
+    said: &mut Said,
+) -> Result<bool, TillFault> {
+    let balance = match debtor_of(act, customer) {
+        Some(debtor) => balance_of(desk, debtor, last).ok(),
+        None => None,
+    };
+    if let (Some(customer), Some(balance), false) = (customer, &balance, desk.is_json) {
+        if let Ok(line) = owed_line(desk, customer, balance) {
+            said.line(line.as_str())?;
+        }
+    }
+    let slipped = Slipped {
+        act,
+        answer: &told.answer,
+        at: last,
+        balance: balance.as_ref(),
+    };
+    Ok(write_slip(desk, slipped))
 }
 
 /// Says the outcome of a command, what its customer owes, and the outcomes of the entries that had waited before it.
@@ -289,19 +331,19 @@ fn told<K: WallClock, V: Server, L: Shelf>(
     waited: Option<Said>,
 ) -> Result<Said, TillFault> {
     let mut said = tell(desk, act, told)?;
+    let mut is_written = true;
     if told.is_accepted() {
         if matches!(act, Act::Customer(_) | Act::Active { .. }) {
             desk.shelf.forget(List::Customers.name());
         }
-        if let (Some(customer), false) = (customer, desk.is_json) {
-            if let Ok(line) = owed(desk, customer, last) {
-                said.line(line.as_str())?;
-            }
-        }
+        is_written = follow_up(desk, act, customer, last, told, &mut said)?;
     }
     if let Some(table) = &waited {
         said.line("What had waited was sent first:")?;
         said.text.push_str(table.text.as_str())?;
+    }
+    if !is_written && !desk.is_json {
+        said.line("The slip wasn't written.")?;
     }
     Ok(said)
 }
@@ -397,6 +439,7 @@ fn carry_out<S: Alter, K: WallClock, V: Server, L: Shelf, W: Watch>(
         Plan::Day(asked) => day(desk, conn, book, asked),
         Plan::Today(date) => today(desk, date.as_str()),
         Plan::Again(late) => again(desk, conn, book, late, watch),
+        Plan::Slip => say_slip(desk),
         Plan::Usage => usage(desk.alloc),
     }
 }
