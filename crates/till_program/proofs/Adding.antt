@@ -197,7 +197,7 @@ module _ (shows : ℕ → Type 0) (mark token : Text) (giver : Result ℕ TillFa
   word_enters (typed.Today date) it place after old read mid new is first second plans enters =
       stays_both old mid new (stays_both old read mid first second) (enters_as it (plan.Today date) place mid after new plans enters)
   word_enters typed.Slip it place after old read mid new is first second plans enters =
-      stays_both old mid new (stays_both old read mid first second) (enters_as it plan.Usage place mid after new plans enters)
+      stays_both old mid new (stays_both old read mid first second) (enters_as it plan.Slip place mid after new plans enters)
   word_enters typed.Help it place after old read mid new is first second plans enters =
       stays_both old mid new (stays_both old read mid first second) (enters_as it plan.Usage place mid after new plans enters)
   word_enters (typed.Zone name) it place after old read mid new is first second plans enters =

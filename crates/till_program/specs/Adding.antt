@@ -62,6 +62,7 @@ EntersPlan shows mark token giver (plan.Last count) before old after new = Stays
 EntersPlan shows mark token giver (plan.Day asked) before old after new = Stays old new
 EntersPlan shows mark token giver (plan.Today date) before old after new = Stays old new
 EntersPlan shows mark token giver (plan.Again late) before old after new = ⊤
+EntersPlan shows mark token giver plan.Slip before old after new = Stays old new
 EntersPlan shows mark token giver plan.Usage before old after new = Stays old new
 
 -- tries of the act were entered at a till's book, and nothing else
