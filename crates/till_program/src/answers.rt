@@ -131,26 +131,39 @@ pub(crate) fn says_holder(
     Ok(())
 }
 
-/// Says what customers paid for rentals, in all or by category.
-pub(crate) fn says_sales(
-    alloc: Global,
-    view: View,
-    body: &[u8],
-    said: &mut Said,
-) -> Result<(), TillFault> {
-    if matches!(view, View::SalesByStore) {
-        let table = sales_by_store(alloc, body)?;
-        if !table.is_empty() {
-            said.line("What was paid for rentals, of all time:")?;
-        }
-        return says_table(alloc, &table, "nothing was paid for a rental yet", said);
+/// Says what customers paid for rentals, in all.
+fn says_sales_in_all(alloc: Global, body: &[u8], said: &mut Said) -> Result<(), TillFault> {
+    let table = sales_by_store(alloc, body)?;
+    if !table.is_empty() {
+        said.line("What was paid for rentals, of all time:")?;
     }
+    says_table(alloc, &table, "nothing was paid for a rental yet", said)
+}
+
+/// Says what customers paid for rentals, by category.
+fn says_sales_by_category(alloc: Global, body: &[u8], said: &mut Said) -> Result<(), TillFault> {
     let table = sales_by_film_category(alloc, body)?;
     if table.is_empty() {
         return Ok(());
     }
     said.line("")?;
     says_table(alloc, &table, "", said)
+}
+
+/// Says what customers paid for rentals, in all or by category. Fails with `Foreign` for any other view.
+pub(crate) fn says_sales(
+    alloc: Global,
+    view: View,
+    body: &[u8],
+    said: &mut Said,
+) -> Result<(), TillFault> {
+    match view {
+        View::SalesByStore => says_sales_in_all(alloc, body, said),
+        View::SalesByFilmCategory => says_sales_by_category(alloc, body, said),
+        View::CustomerList | View::StaffList | View::FilmList | View::ActorInfo => {
+            Err(TillFault::Foreign)
+        }
+    }
 }
 
 /// Returns the end of an accepted command's line: to whom, or how much, with the customer's name.
