@@ -5,5 +5,6 @@ pub mod LastMoment
 pub mod StandardTime
 pub mod Wall
 pub mod Word
+pub mod Returns
 pub mod Doing
 pub mod Sure

@@ -81,6 +81,7 @@ fn accepted(
         shelf: &shelf,
         routes: &tools.routes,
         settings: &tools.settings,
+        sheet: &[],
         wall: wall_zone(&tools.rules, &tools.settings.zone),
         staff: None,
         is_json: false,

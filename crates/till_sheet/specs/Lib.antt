@@ -1,0 +1,3 @@
+pub mod Progress
+pub mod Rows
+pub mod Seen
