@@ -2,6 +2,7 @@
 
 use crate::fault::TillFault;
 use crate::said::Said;
+use crate::sheet::Rented;
 use shop_types::{Act, Ask, CopyNo, CustomerNo, Refusal, View};
 use std::alloc::Global;
 use till_client::Answer;
@@ -167,9 +168,17 @@ pub(crate) fn says_sales(
 }
 
 /// Returns the end of an accepted command's line: to whom, or how much, with the customer's name.
-pub(crate) fn besides(alloc: Global, act: &Act, name: &str) -> Result<String, TillFault> {
+pub(crate) fn besides(
+    alloc: Global,
+    act: &Act,
+    name: &str,
+    rented: &Rented,
+) -> Result<String, TillFault> {
     match act {
-        Act::Rent { copy, .. } => Ok(format!(in alloc; ": copy {} to {name}", copy.get())?),
+        Act::Rent { copy, .. } => {
+            let (title, due) = (rented.title_text(alloc)?, rented.due_text(alloc)?);
+            Ok(format!(in alloc; ": copy {}{title} to {name}{due}", copy.get())?)
+        }
         Act::Pay { amount, .. } => {
             let amount = money(alloc, i64::from(amount.get())).map_err(|_| TillFault::Memory)?;
             Ok(format!(in alloc; ": {amount} from {name}")?)

@@ -94,7 +94,7 @@ returns-clause-done g c clean =
     let planned = c.carry_out.ensures.clean clean in
     let read = c.plan_of.ensures.clean planned in
     ok_then _ (c.carry_out.ensures.done clean)
-    (word_done _ _ _ _ _ c.args.act c.in_ok-plan.plan c.in_ok-book.book.place c.carry_out.new.book.place
+    (word_done _ _ _ _ _ c.args.desk.now.sheet.now c.args.act c.in_ok-plan.plan c.in_ok-book.book.place c.carry_out.new.book.place
     (state g.S.Store c.args.conn.now) (state g.S.Store c.read.new.conn)
     (state g.S.Store c.plan_of.new.conn) (state g.S.Store c.carry_out.new.conn)
     (c.in_ok-book.ensures.place read) (c.read.ensures.stays read) (c.plan_of.ensures.stays planned)
