@@ -230,6 +230,8 @@ class RealTill:
         self.path, self.folder = os.path.join(folder, name), folder
         who = ["--staff", str(staff), "--zone", "UTC"] if staff else ["--office"]
         subprocess.run([TILL, "--book", self.path, "init", f"127.0.0.1:{served.port}", token(branch), *who], check=True, stdout=subprocess.DEVNULL)
+        if staff:
+            subprocess.run([TILL, "--book", self.path, "today", shop.today()], check=True, stdout=subprocess.DEVNULL)
         self.opens()
 
     def opens(self):

@@ -72,7 +72,7 @@ def messages():
 
 
 def replies(text):
-    """The replies of a text, each as its status and its body, and what is behind them that is none."""
+    """The replies of a text, each as its status and its body, and what comes after them that is no reply."""
     found, form = [], re.compile(rb"HTTP/1\.1 (\d{3}) ([A-Za-z ]+)\r\ncontent-type: application/json\r\ncontent-length: (\d+)\r\n\r\n")
     while it := form.match(text):
         status, end = int(it[1]), it.end() + int(it[3])

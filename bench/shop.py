@@ -25,6 +25,11 @@ WORDS = [
 ]
 
 
+def today():
+    """The date of this machine's clock by UTC, as a till in that zone wants it."""
+    return time.strftime("%Y-%m-%d", time.gmtime())
+
+
 def make(file):
     """Makes the chain, with one branch, one of its staff, one city and one film."""
     for it in WORDS:

@@ -17,7 +17,7 @@ COPY = re.compile(r"\d{8}T\d{6}Z")
 
 
 class Wrong(Exception):
-    """Something that ends the script: what is told, and the status."""
+    """Something that ends the script: its message, and the status."""
 
     def __init__(self, told, status):
         super().__init__(told)

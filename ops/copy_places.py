@@ -75,7 +75,7 @@ class Host:
         return ran.stdout.splitlines()
 
     def changes(self, copies, patterns, *more):
-        """Returns the names of those copies of which rsync would change anything at the host."""
+        """Returns the names of the copies at the host that rsync would change."""
         filters = [it for pattern in patterns for it in (f"--include={pattern}", f"--include={pattern}/**")]
         lines = self.rsync("--dry-run", *more, *filters, "--exclude=*", copies + "/")
         found = {it.split(" ", 1)[1].split("/")[0] for it in lines if " " in it}

@@ -1,4 +1,4 @@
-"""Copies of a chain for who reads them: which one, of which moment, and a copy of it to read, since SQLite leaves a file beside what it reads."""
+"""Copies of a chain for who reads them: which copy, its moment, and a copy of it to read, since SQLite leaves a file beside what it reads."""
 import contextlib
 import datetime
 import os

@@ -1,4 +1,4 @@
--- Who owes how much: each customer of a branch whose balance isn't 0, the greatest first, by the rule that the chain goes by, as `GET /balance`.
+-- Who owes how much: each customer of a branch whose balance isn't 0, the greatest first, by the chain's rule, as `GET /balance`.
 -- Asked: @branch, the branch's number; @at, a moment, or else now in the time of @zone; @zone, an offset as -07:00, or else UTC.
 -- Units: cents; below 0 is what the branch owes the customer. `rentals` and `payments` are what the customer's rentals cost and the payments brought.
 -- sqlite3 -readonly -bail -box -cmd ".parameter set @branch 1" -cmd ".parameter set @at 2026-03-31T18:00:00" COPY < reports/balances.sql
@@ -12,7 +12,7 @@ CREATE TEMP TABLE asked (branch, zone, at,
 INSERT INTO asked VALUES (@branch, @zone, @at);
 WITH
 fees AS (
-    -- what each rental that began by the moment costs, by the rule that the chain goes by
+    -- what each rental that began by the moment costs, by the chain's rule
     SELECT l.*, l.rate + 100 * l.late + CASE WHEN l.comment_rule = 1 AND l.late > 2 * l.period THEN l.replacement ELSE 0 END AS fee
     FROM (
         SELECT r.branch, r.number, r.customer, r.copy, r.moment, r.returned, t.rate, t.period, t.replacement, w.comment_rule,

@@ -1,5 +1,5 @@
--- One customer's account: rentals with what they cost and payments, one after another, by the rule that the chain goes by. The balance behind the
--- last row is that of `GET /balance`; behind an earlier one it has what rentals up to there cost as it is known at the moment.
+-- One customer's account: rentals with what they cost and payments, one after another, by the chain's rule. The balance after the
+-- last row is that of `GET /balance`. After an earlier row it has what the rentals up to that row cost, as known at the moment asked for.
 -- Asked: @branch, the branch's number; @customer, the customer's number there; @at, a moment, or else now in the time of @zone; @zone, an offset as -07:00, or else UTC.
 -- Units: cents, a payment's below 0; `late` is days.
 -- sqlite3 -readonly -bail -box -cmd ".parameter set @branch 1" -cmd ".parameter set @customer 1" -cmd ".parameter set @at 2026-03-31T18:00:00" COPY < reports/customer-account.sql
@@ -14,7 +14,7 @@ CREATE TEMP TABLE asked (branch, customer, zone, at,
 INSERT INTO asked VALUES (@branch, @customer, @zone, @at);
 WITH
 fees AS (
-    -- what each rental that began by the moment costs, by the rule that the chain goes by
+    -- what each rental that began by the moment costs, by the chain's rule
     SELECT l.*, l.rate + 100 * l.late + CASE WHEN l.comment_rule = 1 AND l.late > 2 * l.period THEN l.replacement ELSE 0 END AS fee
     FROM (
         SELECT r.branch, r.number, r.customer, r.copy, r.moment, r.returned, t.rate, t.period, t.replacement, w.comment_rule,

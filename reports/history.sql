@@ -14,7 +14,7 @@ WITH RECURSIVE
 -- where the eight hexadecimal digits of a number's four bytes are, the least byte first, and by how much each counts
 digit (at, shift) AS (VALUES (1, 4), (2, 0), (3, 12), (4, 8), (5, 20), (6, 16), (7, 28), (8, 24)),
 command AS (
-    -- the act's parts begin behind 24 bytes: `bytes` has them in hexadecimal, and `a` to `d` are the first four numbers there
+    -- the act's parts begin after 24 bytes: `bytes` has them in hexadecimal, and `a` to `d` are the first four numbers there
     SELECT k.key, k.reply, CAST(substr(k.command, 5, 19) AS TEXT) AS moment, hex(substr(k.command, 24, 1)) AS act, hex(substr(k.command, 25)) AS bytes,
         (SELECT sum(instr('123456789ABCDEF', substr(hex(substr(k.command, 1, 4)), at, 1)) << shift) FROM digit) AS staff,
         (SELECT sum(instr('123456789ABCDEF', substr(hex(substr(k.command, 25, 4)), at, 1)) << shift) FROM digit) AS a,
@@ -26,7 +26,7 @@ command AS (
     JOIN kept AS k ON k.caller = q.branch AND CAST(substr(k.command, 5, 19) AS TEXT) BETWEEN q.since AND q.until
 ),
 piece AS (
-    -- the texts of a customer (01) and an import (06), each behind its length, and behind a customer's five the city as the length of a sixth
+    -- the texts of a customer (01) and an import (06), each after its length; after a customer's five texts comes the city, read as a sixth length
     SELECT key, bytes, parts, 1 AS place, 0 AS begins, a AS length FROM command WHERE act IN ('01', '06')
     UNION ALL
     SELECT key, bytes, parts, place + 1, begins + 4 + length,
@@ -39,7 +39,7 @@ texts AS (
     FROM (SELECT key, place, length, CAST(substr(parts, begins + 5, length) AS TEXT) AS text FROM piece) GROUP BY key
 ),
 item AS (
-    -- the lists of a dispatch (07), behind its addressee, and of a receipt (08), behind a consignment's sender and number
+    -- the lists of a dispatch (07), after its addressee, and of a receipt (08), after the consignment's sender and number
     SELECT key, bytes, CASE act WHEN '07' THEN 8 ELSE 12 END AS begins, CASE act WHEN '07' THEN b ELSE c END AS count, 0 AS place, NULL AS number
     FROM command WHERE act IN ('07', '08')
     UNION ALL

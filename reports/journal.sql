@@ -1,4 +1,4 @@
--- A branch's books as a journal of hledger: what its rentals cost, by the rule that the chain goes by, and what was paid. `assets:drawer` is the takings, and
+-- A branch's books as a journal of hledger: what its rentals cost, by the chain's rule, and what was paid. `assets:drawer` is the takings, and
 -- `assets:customers:N` what customer N owes, as `GET /balance`. Days are of the branch's own moments.
 -- Asked: @branch, the branch's number; @at, a moment, or else now in the time of @zone; @zone, an offset as -07:00, or else UTC.
 -- Units: dollars. A late day and a replacement are of the day of the return, or of the moment's day where the copy is out.
@@ -13,7 +13,7 @@ CREATE TEMP TABLE asked (branch, zone, at,
 INSERT INTO asked VALUES (@branch, @zone, @at);
 WITH
 fees AS (
-    -- what each rental that began by the moment costs, by the rule that the chain goes by
+    -- what each rental that began by the moment costs, by the chain's rule
     SELECT l.*, CASE WHEN l.comment_rule = 1 AND l.late > 2 * l.period THEN l.replacement ELSE 0 END AS replaced
     FROM (
         SELECT e.*, max(0, CAST(coalesce(julianday(date(e.ended)) - julianday(date(e.moment)), 0) AS INTEGER) - e.period) AS late

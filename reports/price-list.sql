@@ -1,4 +1,4 @@
--- A branch's price list for the wall: each film of which it has a copy, in the shop or out, and which isn't withdrawn, by title.
+-- A branch's price list for the wall: each film that isn't withdrawn and has a copy at the branch, in the shop or out, by title.
 -- Asked: @branch, the branch's number.
 -- Units: dollars for `price`, days for `days`, minutes for `minutes`. A late day costs $1.00 more.
 -- sqlite3 -readonly -bail -box -cmd ".parameter set @branch 1" COPY < reports/price-list.sql

@@ -6,7 +6,7 @@ CREATE TEMP TABLE asked (branch,
     CONSTRAINT "@branch is a branch's number" CHECK (typeof(branch) = 'integer'));
 INSERT INTO asked VALUES (@branch);
 WITH sent AS (
-    -- when a consignment was sent stands in the command that is kept of it: behind four bytes the moment, then a 7
+    -- the moment of a dispatch is in its kept command: after four bytes the moment, then a 7
     SELECT k.caller AS source, json_extract(k.reply, '$.to') AS addressee, json_extract(k.reply, '$.consignment') AS number,
         CAST(substr(k.command, 5, 19) AS TEXT) AS moment
     FROM temp.asked AS a JOIN kept AS k ON k.caller = a.branch

@@ -10,7 +10,7 @@ CREATE TEMP TABLE asked (zone, at,
     CONSTRAINT "@at is a moment" CHECK (coalesce(at, '') GLOB '????-??-??T??:??:??'));
 INSERT INTO asked VALUES (@zone, @at);
 WITH sent AS (
-    -- when a consignment was sent stands in the command that is kept of it: behind four bytes the moment, then a 7
+    -- the moment of a dispatch is in its kept command: after four bytes the moment, then a 7
     SELECT k.caller AS source, json_extract(k.reply, '$.to') AS addressee, json_extract(k.reply, '$.consignment') AS number,
         CAST(substr(k.command, 5, 19) AS TEXT) AS moment
     FROM kept AS k

@@ -9,7 +9,7 @@ use shop_types::{
     Actor, ActorNo, Branch, BranchNo, City, CityNo, Film, FilmNo, Minutes, Staff, StaffNo,
 };
 
-/// The row of a new city.
+/// Returns the row of a new city.
 pub(crate) fn new_city(number: CityNo, city: &City) -> NewCity<'_>
     ensures row { seen_city_row result ≡ seen_city city.now }
     ensures number { result.number ≡ number }
@@ -21,7 +21,7 @@ pub(crate) fn new_city(number: CityNo, city: &City) -> NewCity<'_>
     }
 }
 
-/// The row of a new actor.
+/// Returns the row of a new actor.
 pub(crate) fn new_actor(number: ActorNo, actor: &Actor) -> NewActor<'_>
     ensures row { seen_actor_row result ≡ seen_actor actor.now }
     ensures number { result.number ≡ number }
@@ -42,7 +42,7 @@ fn minutes_of(minutes: Option<Minutes>) -> Option<u32>
     }
 }
 
-/// The row of a new film, which isn't withdrawn.
+/// Returns the row of a new film, which isn't withdrawn.
 pub(crate) fn new_film(number: FilmNo, film: &Film) -> NewFilm<'_>
     ensures row { seen_film_row result ≡ seen_film film.now }
     ensures number { result.number ≡ number }
@@ -63,7 +63,7 @@ pub(crate) fn new_film(number: FilmNo, film: &Film) -> NewFilm<'_>
     }
 }
 
-/// The row of a new branch, which has no manager.
+/// Returns the row of a new branch, which has no manager.
 pub(crate) fn new_branch(number: BranchNo, branch: &Branch) -> NewBranch<'_>
     ensures row { seen_branch_row result ≡ seen_branch branch.now }
     ensures number { result.number ≡ number }
@@ -79,7 +79,7 @@ pub(crate) fn new_branch(number: BranchNo, branch: &Branch) -> NewBranch<'_>
     }
 }
 
-/// The row of a new member of staff, who hasn't left.
+/// Returns the row of a new member of staff, who hasn't left.
 pub(crate) fn new_staff(number: StaffNo, staff: &Staff) -> NewStaff<'_>
     ensures row { seen_staff_row result ≡ seen_staff staff.now }
     ensures number { result.number ≡ number }

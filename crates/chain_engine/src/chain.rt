@@ -310,7 +310,7 @@ impl<S: Alter> Chain<S> {
     }
 }
 
-/// The limits are a million at most: a law, so that nothing is done.
+/// Shows that the limits are a million at most. This is a law: it does nothing.
 fn limits_fit(limits: Limits)
     ensures commands { limits.commands ≤ 1_000_000 }
     ensures copies { limits.copies ≤ 1_000_000 }

@@ -90,7 +90,8 @@ pub(crate) enum After {
     Fails,
 }
 
-/// What the reply to the request means for the connection, by whether the chain has failed then.
+/// Returns what the reply to the request means for the connection. `has_failed` says whether the chain has failed by
+/// then.
 fn after_reply(has_failed: bool, request: &Request<'_>) -> After
     ensures { (answer : Answer) → is_store_failure answer ≡ has_failed
         → IsAfter result (record { message = message_of request.now; answer = answer }) }
@@ -104,7 +105,7 @@ fn after_reply(has_failed: bool, request: &Request<'_>) -> After
     }
 }
 
-/// The reply to a text that is no message.
+/// Returns the reply to a text that is no message.
 fn fault_reply(fault: Fault) -> Reply
     ensures { text_of (seen_reply result) ≡ fault_text fault }
 {
@@ -171,7 +172,7 @@ impl Connection {
         self.inbox.bytes().is_empty()
     }
 
-    /// If something is left to write, returns how many requests have their whole reply.
+    /// Returns how many requests have their whole reply, if something is left to write.
     pub(crate) fn told(&self) -> u32
         ensures { result ≡ told_of self.now.ending self.now.replies }
     {

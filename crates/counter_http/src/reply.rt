@@ -7,7 +7,7 @@ use http_messages::reply_head;
 use shop_types::{NoMemory, Reply};
 use std::alloc::Global;
 
-/// The bytes that are sent for a reply: its head, with the body's length, and its body.
+/// Returns the bytes that are sent for a reply: its head, with the body's length, and its body.
 pub fn reply_bytes(alloc: Global, reply: &Reply) -> Result<Vec<u8>, NoMemory>
     ensures { IfOk result (λ bytes. bytes.items ≡ text_of (seen_reply reply.now)) }
 {

@@ -173,6 +173,11 @@ module _ (Tells : List ℕ → Answer → Type 0) where
         stays_both old mid new (stays_both old read mid first second) (as_planned it (plan.Last count) place mid after new plans done)
     word_done (typed.Day asked) it place after old read mid new is first second plans done =
         stays_both old mid new (stays_both old read mid first second) (as_planned it (plan.Day asked) place mid after new plans done)
+    word_done (typed.Today date) it place after old read mid new is first second plans done =
+        stays_both old mid new (stays_both old read mid first second) (as_planned it (plan.Today date) place mid after new plans done)
+    word_done (typed.Again late) it place after old read mid new is first second plans done = tt
+    word_done typed.Slip it place after old read mid new is first second plans done =
+        stays_both old mid new (stays_both old read mid first second) (as_planned it plan.Slip place mid after new plans done)
     word_done typed.Help it place after old read mid new is first second plans done =
         stays_both old mid new (stays_both old read mid first second) (as_planned it plan.Usage place mid after new plans done)
     word_done (typed.Zone name) it place after old read mid new is first second plans done =

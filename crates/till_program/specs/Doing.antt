@@ -19,7 +19,8 @@ use Rattle.till_program.specs.declared.fault.TillFault.{TillFault}
 use Rattle.till_program.specs.declared.word.Plan.{Plan}
 use Rattle.till_program.specs.declared.word.Plan.TheVariants as plan
 use Rattle.till_program.specs.Giving.{IsGivenAt, GivesAct}
-use Rattle.till_program.specs.Word.{IsHeldIn, IsDebtor, SendsAll}
+use Rattle.till_program.specs.Again.{GivesAll}
+use Rattle.till_program.specs.Word.{IsHeldIn, IsDebtor, IsPlaceOf, SendsAll}
 
 -- head office's words are read, or entered if they aren't a reading
 abbrev pub office_planned : List Text → Plan
@@ -37,6 +38,9 @@ IsPlanOf s (typed.Look look) it = it ≡ plan.Look look
 IsPlanOf s typed.Waiting it = it ≡ plan.Waiting
 IsPlanOf s (typed.Last count) it = it ≡ plan.Last count
 IsPlanOf s (typed.Day asked) it = it ≡ plan.Day asked
+IsPlanOf s (typed.Today date) it = it ≡ plan.Today date
+IsPlanOf s (typed.Again late) it = it ≡ plan.Again late
+IsPlanOf s typed.Slip it = it ≡ plan.Slip
 IsPlanOf s typed.Help it = it ≡ plan.Usage
 IsPlanOf s (typed.Zone name) it = it ≡ plan.Usage
 IsPlanOf s (typed.Init beginning) it = it ≡ plan.Usage
@@ -54,6 +58,9 @@ IsCarriedOut Tells shows mark token giver (plan.ReadOffice words) before old aft
 IsCarriedOut Tells shows mark token giver plan.Waiting before old after new = Stays old new
 IsCarriedOut Tells shows mark token giver (plan.Last count) before old after new = Stays old new
 IsCarriedOut Tells shows mark token giver (plan.Day asked) before old after new = Stays old new
+IsCarriedOut Tells shows mark token giver (plan.Today date) before old after new = Stays old new
+IsCarriedOut Tells shows mark token giver (plan.Again late) before old after new = ⊤
+IsCarriedOut Tells shows mark token giver plan.Slip before old after new = Stays old new
 IsCarriedOut Tells shows mark token giver plan.Usage before old after new = Stays old new
 
 -- the act was given at a till's book, and got some answer
@@ -70,9 +77,43 @@ SendsWord Tells old new =
     → (answers : List Answer) × Rests new (with_replies answers journal) × AreTold Tells journal.entries (length journal.replies) answers
     × (length journal.replies ≤ length journal.entries → length (journal.replies ++ answers) ≡ length journal.entries)
 
+-- Acts of the plan that gives acts once more were given, one after another. Of another plan nothing is said.
+abbrev pub RepeatsPlan : (List ℕ → Answer → Type 0) → (ℕ → Type 0) → Text → Text → Option ℕ → Plan → Place → State → Place → State → Type 0
+RepeatsPlan Tells shows mark token own (plan.Again late) before old after new = GivesAll Tells shows mark token own before old after new
+RepeatsPlan Tells shows mark token own (plan.Give what customer) before old after new = ⊤
+RepeatsPlan Tells shows mark token own (plan.Office words) before old after new = ⊤
+RepeatsPlan Tells shows mark token own plan.Send before old after new = ⊤
+RepeatsPlan Tells shows mark token own (plan.Look look) before old after new = ⊤
+RepeatsPlan Tells shows mark token own (plan.ReadOffice words) before old after new = ⊤
+RepeatsPlan Tells shows mark token own plan.Waiting before old after new = ⊤
+RepeatsPlan Tells shows mark token own (plan.Last count) before old after new = ⊤
+RepeatsPlan Tells shows mark token own (plan.Day asked) before old after new = ⊤
+RepeatsPlan Tells shows mark token own (plan.Today date) before old after new = ⊤
+RepeatsPlan Tells shows mark token own plan.Usage before old after new = ⊤
+
+-- Acts were given once more, one after another, at a book with so many entries and replies. Of another word nothing is said here.
+abbrev pub RepeatsWord : (List ℕ → Answer → Type 0) → (ℕ → Type 0) → Text → Text → Option ℕ → TillAct → State → State → Type 0
+RepeatsWord Tells shows mark token own (typed.Again late) old new =
+    (before after : Place) × IsPlaceOf before old × GivesAll Tells shows mark token own before old after new
+RepeatsWord Tells shows mark token own (typed.Do what) old new = ⊤
+RepeatsWord Tells shows mark token own (typed.ReturnCopy copy) old new = ⊤
+RepeatsWord Tells shows mark token own (typed.Office words) old new = ⊤
+RepeatsWord Tells shows mark token own typed.Send old new = ⊤
+RepeatsWord Tells shows mark token own (typed.Look look) old new = ⊤
+RepeatsWord Tells shows mark token own typed.Waiting old new = ⊤
+RepeatsWord Tells shows mark token own (typed.Last count) old new = ⊤
+RepeatsWord Tells shows mark token own (typed.Day asked) old new = ⊤
+RepeatsWord Tells shows mark token own (typed.Today date) old new = ⊤
+RepeatsWord Tells shows mark token own typed.Slip old new = ⊤
+RepeatsWord Tells shows mark token own typed.Help old new = ⊤
+RepeatsWord Tells shows mark token own (typed.Zone name) old new = ⊤
+RepeatsWord Tells shows mark token own (typed.Init beginning) old new = ⊤
+RepeatsWord Tells shows mark token own (typed.Import file lot) old new = ⊤
+RepeatsWord Tells shows mark token own typed.Prompt old new = ⊤
+
 -- An act that was typed was given. Of a copy that comes back the return of the register's rental was given. What waited was sent. Over a look, and over words
 -- of
--- head office that only read, the book stays. Of its other words nothing is said here.
+-- head office that only read, the book stays. Of its other words, and of acts that are given once more, nothing is said here.
 abbrev pub DoesWord : (List ℕ → Answer → Type 0) → (ℕ → Type 0) → Text → Text → Result ℕ TillFault → TillAct → State → State → Type 0
 DoesWord Tells shows mark token giver (typed.Do what) old new = GivesWord Tells shows mark token giver (seen_act what) old new
 DoesWord Tells shows mark token giver (typed.ReturnCopy copy) old new =
@@ -83,6 +124,9 @@ DoesWord Tells shows mark token giver (typed.Look look) old new = Stays old new
 DoesWord Tells shows mark token giver typed.Waiting old new = Stays old new
 DoesWord Tells shows mark token giver (typed.Last count) old new = Stays old new
 DoesWord Tells shows mark token giver (typed.Day asked) old new = Stays old new
+DoesWord Tells shows mark token giver (typed.Today date) old new = Stays old new
+DoesWord Tells shows mark token giver (typed.Again late) old new = ⊤
+DoesWord Tells shows mark token giver typed.Slip old new = Stays old new
 DoesWord Tells shows mark token giver typed.Help old new = Stays old new
 DoesWord Tells shows mark token giver (typed.Zone name) old new = Stays old new
 DoesWord Tells shows mark token giver (typed.Init beginning) old new = Stays old new

@@ -7,3 +7,5 @@ pub mod Wall
 pub mod Word
 pub mod Doing
 pub mod Sure
+pub mod Today
+pub mod Again

@@ -18,6 +18,9 @@ wants_yes (act.Last count) = false
 wants_yes act.Help = false
 wants_yes (act.Zone name) = false
 wants_yes (act.Day asked) = false
+wants_yes (act.Today date) = false
+wants_yes (act.Again late) = false
+wants_yes act.Slip = false
 wants_yes act.Prompt = false
 
 -- a word that wants an answer has one

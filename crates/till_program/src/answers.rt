@@ -61,7 +61,7 @@ pub(crate) fn says_table(
     Ok(())
 }
 
-/// The table of a body that lists what was asked for.
+/// Returns the table of a body that lists what was asked for.
 fn table_in(alloc: Global, ask: &Ask, body: &[u8]) -> Result<Table, NotShown> {
     match ask {
         Ask::Overdue(_) => overdue(alloc, body),
@@ -87,7 +87,7 @@ pub(crate) fn says_list(
     says_table(alloc, &table, none, said)
 }
 
-/// The lines of a body that tells one thing, of the customer of that name where it is one's balance.
+/// Returns the lines of a body that reports one thing. `name` is the customer's, if a balance was asked for.
 fn lines_in(alloc: Global, ask: &Ask, name: &str, body: &[u8]) -> Result<String, NotShown> {
     match ask {
         Ask::Film(_) => film_sheet(alloc, body),
@@ -186,7 +186,7 @@ pub(crate) fn command_said(
     Ok(said)
 }
 
-/// An answer to head office: its body, or what a refusal means.
+/// Returns an answer to head office: its body, or what a refusal means.
 pub(crate) fn office_said(
     alloc: Global,
     is_json: bool,

@@ -4,7 +4,7 @@ use std::alloc::Global;
 
 /// A shelf for lists and texts. Nothing is promised of it: what is put there may be gone.
 pub trait Shelf {
-    /// What was put there under that name, and in which second since 1970.
+    /// Returns what was put there under that name, and in which second since 1970.
     fn take(&self, alloc: Global, name: &'static str) -> Option<(u64, Vec<u8>)>;
 
     /// Puts it there, in the place of what was there under that name.
@@ -17,6 +17,10 @@ pub trait Shelf {
     /// whether they were added.
     fn add(&self, alloc: Global, name: &'static str, bytes: &[u8]) -> bool;
 
-    /// What stands there under that name goes.
+    /// Adds the bytes after those that were added under that name. If that fails, a part of them may be there. Reports
+    /// whether all were added.
+    fn append(&self, alloc: Global, name: &'static str, bytes: &[u8]) -> bool;
+
+    /// Drops what was put there under that name.
     fn forget(&self, name: &'static str);
 }

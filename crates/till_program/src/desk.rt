@@ -1,9 +1,11 @@
 //! What a till has beside its book.
 
-ghost use Rattle.std.specs.Prelude.{◌≡◌, IfOk, IsSome, OnOk};
+ghost use Rattle.std.specs.Prelude.{◌≡◌, IfOk, IsSome, OnOk, Some};
 ghost use Rattle.shop_model.specs.Calendar.{seconds_of};
 ghost use Rattle.till_program.specs.Clock.{local_clock};
+ghost use Rattle.till_requests.specs.Zones.{offset_of};
 ghost use Rattle.till_program.specs.Faults.{giver_of};
+ghost use Rattle.till_program.specs.Today.{IsOnWall};
 
 use crate::caches::Shelf;
 use crate::clock::WallClock;
@@ -42,10 +44,12 @@ pub struct Desk<'d, K: WallClock, V: Server, L: Shelf> {
     pub is_json: bool,
     /// Whether what can't be undone is done without a question.
     pub is_sure: bool,
+    /// The day of the date that was said last beside the book, if one was.
+    pub said_day: Option<i32>,
 }
 
 impl<K: WallClock, V: Server, L: Shelf> Desk<'_, K, V, L> {
-    /// Who the till is, by its settings.
+    /// Returns who the till is, by its settings.
     pub(crate) fn identity(&self) -> Identity<'_>
         ensures mark { result.mark.now ≡ self.now.settings.now.mark }
         ensures token { result.token.now ≡ self.now.settings.now.token }
@@ -83,7 +87,7 @@ impl<K: WallClock, V: Server, L: Shelf> Desk<'_, K, V, L> {
         }
     }
 
-    /// The moment by the clock, or the last entry's where that is later: what was entered counts in it.
+    /// Returns the clock's moment, or the last entry's if that is later, so that what was entered counts.
     pub(crate) fn now_behind(&self, last: Option<Moment>) -> Result<Moment, TillFault> {
         let now = self.now()?;
         match last {
@@ -93,11 +97,13 @@ impl<K: WallClock, V: Server, L: Shelf> Desk<'_, K, V, L> {
     }
 
     /// Returns what the clock on the wall showed at an entry's moment.
-    pub(crate) fn on_wall(&self, at: Moment) -> Moment {
+    pub(crate) fn on_wall(&self, at: Moment) -> Moment
+        ensures { IsOnWall self.now.wall.entry (offset_of self.now.settings.now.zone) at result }
+    {
         on_wall(self.wall, zone_offset(&self.settings.zone), at)
     }
 
-    /// Who gives a branch's word: at head office's book nobody does, also where somebody is named.
+    /// Returns who gives a branch's word. Fails with `IsOffice` at head office's book, also if somebody is named.
     pub(crate) fn giver(&self) -> Result<StaffNo, TillFault>
         ensures given { result ≡ giver_of self.now.settings.now.staff self.now.staff }
         ensures branch { OnOk result (IsSome self.now.settings.now.staff) }
@@ -105,6 +111,28 @@ impl<K: WallClock, V: Server, L: Shelf> Desk<'_, K, V, L> {
         match self.settings.staff {
             Some(own) => Ok(self.staff.unwrap_or(own)),
             None => Err(TillFault::IsOffice),
+        }
+    }
+
+    /// Returns the desk with that member of staff as who gives the word.
+    pub(crate) fn by(&self, staff: StaffNo) -> Desk<'_, K, V, L>
+        ensures clock { result.clock.now ≡ self.now.clock.now }
+        ensures server { result.server.now ≡ self.now.server.now }
+        ensures settings { result.settings.now ≡ self.now.settings.now }
+        ensures staff { result.staff ≡ Some staff }
+    {
+        Desk {
+            alloc: self.alloc,
+            clock: self.clock,
+            server: self.server,
+            shelf: self.shelf,
+            routes: self.routes,
+            settings: self.settings,
+            wall: self.wall,
+            staff: Some(staff),
+            is_json: self.is_json,
+            is_sure: self.is_sure,
+            said_day: self.said_day,
         }
     }
 

@@ -6,7 +6,7 @@ ghost use Rattle.till_program.specs.Faults.{told_fault};
 use std::alloc::{AllocError, AllocFailed};
 use std::{fmt, io};
 use till_files::BookFault;
-use till_requests::{NoSettings, NotBuilt};
+use till_requests::{NoSettings, NotBuilt, moment_at};
 use till_shows::NotShown;
 use till_work::DeskFault;
 
@@ -75,11 +75,17 @@ pub enum TillFault {
     ZoneBehind,
     /// The word can't be undone, and nobody said yes to it.
     Unsure,
+    /// The book has no entry, or its last one is long ago, and nobody said today's date.
+    Undated,
+    /// The date that was said isn't the clock's. Each is the number of its day.
+    OtherDay { clock: i32, said: i32 },
+    /// What was said is no date.
+    NoDate,
 }
 
 impl TillFault {
-    /// The program's status for it: 1 where a word can't be done as it was said, 3 for a fault of the till's own, 4
-    /// where it isn't answered yet.
+    /// Returns the program's status for it: 1 if a word can't be done as it was said, 4 if it isn't answered yet, and 3
+    /// for the till's own faults.
     pub fn status(self) -> u8
         ensures { 0 < result }
     {
@@ -94,6 +100,9 @@ impl TillFault {
             | TillFault::NoZone
             | TillFault::ZoneBehind
             | TillFault::Unsure
+            | TillFault::Undated
+            | TillFault::OtherDay { .. }
+            | TillFault::NoDate
             | TillFault::Already
             | TillFault::NotKept => 1,
             TillFault::Waits | TillFault::Down => 4,
@@ -124,7 +133,7 @@ impl TillFault {
         )
     }
 
-    /// What it is, and what to do.
+    /// Returns what it is, and what to do.
     fn sentences(self) -> &'static str {
         match self {
             TillFault::Book =>
@@ -179,6 +188,10 @@ impl TillFault {
                 "The last entry is ahead of that zone's clock, so the zone stays. Say the word again when that clock is past it: see last.",
             TillFault::Unsure =>
                 "That can't be undone, and nothing was entered. If it is to be done, say --yes before the word.",
+            TillFault::Undated =>
+                "There is no entry yet, or the last one is more than 36 hours ago. Look at a calendar, and say today's date first: today YYYY-MM-DD.",
+            TillFault::OtherDay { .. } => "That isn't the date of the till's clock.",
+            TillFault::NoDate => "That is no date. Say today's date as today YYYY-MM-DD.",
         }
     }
 }
@@ -189,8 +202,35 @@ impl fmt::Display for TillFault {
         if let TillFault::Ahead(seconds) = self {
             return write!(f, " Wait {seconds} seconds, and say the word again.");
         }
+        if let TillFault::OtherDay { clock, said } = self {
+            return write_days(f, *clock, *said);
+        }
         Ok(())
     }
+}
+
+/// Writes a day as `2026-03-09`, by its number.
+fn write_day<W: fmt::Write>(f: &mut fmt::Formatter<W>, day: i32) -> fmt::Result {
+    let Some(at) = moment_at(u64::from(day.unsigned_abs()) * 86_400) else {
+        return Ok(());
+    };
+    let text = at.text();
+    let Some(date) = text.as_slice().get(..10) else {
+        return Ok(());
+    };
+    match std::str::from_utf8(date) {
+        Ok(date) => f.write_str(date),
+        Err(_) => Ok(()),
+    }
+}
+
+/// Writes what to do if the date that was said isn't the clock's.
+fn write_days<W: fmt::Write>(f: &mut fmt::Formatter<W>, clock: i32, said: i32) -> fmt::Result {
+    f.write_str(" It says ")?;
+    write_day(f, clock)?;
+    f.write_str(", not ")?;
+    write_day(f, said)?;
+    f.write_str(". Mend the clock, or the zone, or say the date again.")
 }
 
 impl From<AllocError> for TillFault {

@@ -27,7 +27,7 @@ const DATABASE: &[u8] = b"SQLite format 3\0";
 /// Who may read and write the till's files: their owner.
 const OWNER: u32 = 0o600;
 
-/// Whether there is such a file.
+/// Returns whether there is such a file.
 pub(crate) fn is_there(rt: &HostRuntime, path: &str) -> bool {
     fs::metadata(rt, path).is_ok()
 }
@@ -55,6 +55,15 @@ pub fn write_own(rt: &HostRuntime, path: &str, bytes: &[u8]) -> io::Result<()> {
     fs::write(rt, path, bytes)
 }
 
+/// Writes the bytes at the end of a file of the till's.
+fn append_own(rt: &HostRuntime, path: &str, bytes: &[u8]) -> io::Result<()> {
+    make_own(rt, path)?;
+    OpenOptions::new()
+        .append(true)
+        .open(rt, path)?
+        .write_all(bytes)
+}
+
 /// Writes a file of the till's beside the one that is there, and then puts it in that one's place: what is read there is
 /// the one or the other as a whole.
 pub(crate) fn replace_own(rt: &HostRuntime, path: &str, bytes: &[u8]) -> Result<(), TillFault> {
@@ -66,7 +75,7 @@ pub(crate) fn replace_own(rt: &HostRuntime, path: &str, bytes: &[u8]) -> Result<
     Ok(())
 }
 
-/// Whether the file holds nothing, or begins as a database does.
+/// Returns whether the file holds nothing, or begins as a database does.
 pub(crate) fn may_be_book(rt: &HostRuntime, path: &str) -> bool {
     match fs::read(rt, path) {
         Ok(bytes) => bytes.is_empty() || bytes.as_slice().starts_with(DATABASE),
@@ -74,7 +83,7 @@ pub(crate) fn may_be_book(rt: &HostRuntime, path: &str) -> bool {
     }
 }
 
-/// The fault of a book in a file. A file that is read and is no database is no till's book.
+/// Returns the fault of a book in a file. If the file can be read and is no database, it is no till's book.
 fn fault_at(rt: &HostRuntime, path: &str, fault: BookFault) -> TillFault {
     let is_other = matches!(fault, BookFault::Store) && is_there(rt, path);
     if is_other && !may_be_book(rt, path) {
@@ -275,6 +284,13 @@ impl Shelf for FileShelf<'_> {
         };
         text.extend_from_slice(bytes).is_ok()
             && replace_own(self.rt, path.as_str(), text.as_slice()).is_ok()
+    }
+
+    fn append(&self, alloc: Global, name: &'static str, bytes: &[u8]) -> bool {
+        match self.path(alloc, name) {
+            Some(path) => append_own(self.rt, path.as_str(), bytes).is_ok(),
+            None => false,
+        }
     }
 
     fn forget(&self, name: &'static str) {

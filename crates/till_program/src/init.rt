@@ -1,4 +1,4 @@
-//! A book is made.
+//! Makes a book and its settings.
 
 use crate::fault::TillFault;
 use crate::files::{begin_at, is_there, may_be_book, write_own};
@@ -9,13 +9,13 @@ use till_files::close_book;
 use till_requests::{NoSettings, Settings, Zone, new_mark, read_settings, settings_text};
 use till_words::{Beginning, ZoneText};
 
-/// Returns the name of the file of a book's settings.
+/// Returns the path of a book's settings.
 pub fn settings_path(rt: &HostRuntime, book: &str) -> Result<String, TillFault> {
     let alloc = rt.alloc();
     Ok(format!(in alloc; "{book}.conf")?)
 }
 
-/// The settings beside a book.
+/// Reads the settings beside a book.
 pub(crate) fn settings_of(rt: &HostRuntime, book: &str) -> Result<Settings, TillFault> {
     let path = settings_path(rt, book)?;
     let Ok(text) = fs::read(rt, path.as_str()) else {
@@ -24,8 +24,8 @@ pub(crate) fn settings_of(rt: &HostRuntime, book: &str) -> Result<Settings, Till
     Ok(read_settings(rt.alloc(), text.as_slice())?)
 }
 
-/// Tests whether a book may be made there. Its settings are written last: as long as they aren't there or hold nothing, an
-/// `init` that was cut off may have left a book without an entry.
+/// Returns whether a book may be made there. `init` writes the settings last. So if the settings are missing or empty,
+/// an `init` that was cut off may have left a book without an entry.
 pub fn is_free(rt: &HostRuntime, book: &str) -> Result<bool, TillFault> {
     let alloc = rt.alloc();
     let settings = settings_path(rt, book)?;
@@ -43,7 +43,7 @@ pub fn is_free(rt: &HostRuntime, book: &str) -> Result<bool, TillFault> {
     Ok(!is_there(rt, log.as_str()))
 }
 
-/// The text of the settings, which `read_settings` reads.
+/// Returns the text of the settings, which `read_settings` reads.
 pub(crate) fn text_of(rt: &HostRuntime, settings: &Settings) -> Result<Vec<u8>, TillFault> {
     let text = settings_text(rt.alloc(), settings)?;
     match read_settings(rt.alloc(), text.as_slice()) {
@@ -61,8 +61,8 @@ fn zone_typed(rt: &HostRuntime, zone: Option<ZoneText>) -> Result<Option<Zone>, 
     }
 }
 
-/// Makes a book, with a mark that no other book has, and its settings beside it. Where its settings or a book with
-/// entries are there, or a file that is no book, nothing is made, and that stays.
+/// Makes a book, with a mark that no other book has, and its settings beside it. Fails with `Already` if settings, a
+/// book with entries, or a file that is no book is there. That file stays.
 pub(crate) fn begin(rt: &HostRuntime, book: &str, beginning: Beginning) -> Result<Said, TillFault> {
     if !is_free(rt, book)? {
         return Err(TillFault::Already);

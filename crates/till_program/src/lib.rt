@@ -2,7 +2,9 @@
 //! words.
 #![tactic(auto)]
 
+mod again;
 mod answers;
+mod asked;
 mod book;
 mod caches;
 mod clock;
@@ -24,13 +26,17 @@ mod office;
 mod opening;
 mod program;
 mod prompt;
+mod refused;
 mod returns;
 mod said;
+mod same_act;
 mod sendings;
 mod settling;
+mod slips;
 mod standard;
 mod sure;
 mod tcp;
+mod today;
 mod wall;
 mod watch;
 mod word;
@@ -52,6 +58,7 @@ pub use program::{
 pub use prompt::change_staff;
 pub use said::Said;
 pub use settling::make_sure;
+pub use today::said_day;
 pub use wall::on_wall;
 pub use watch::Quiet;
 pub use word::do_word;

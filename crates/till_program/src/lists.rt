@@ -26,7 +26,7 @@ pub(crate) enum List {
 }
 
 impl List {
-    /// Its name on the shelf.
+    /// Returns the list's name on the shelf.
     pub(crate) fn name(self) -> &'static str {
         match self {
             List::Customers => "customers",
@@ -34,7 +34,7 @@ impl List {
         }
     }
 
-    /// What is said where nothing has what is looked for.
+    /// Returns what is said if nothing has what is looked for.
     pub(crate) fn none(self) -> &'static str {
         match self {
             List::Customers => "no customer has that in name or phone",
@@ -49,7 +49,7 @@ impl List {
         }
     }
 
-    /// Those in the list's body in which the part stands.
+    /// Returns the rows of the list's body that have the part in them.
     fn with(self, alloc: Global, body: &[u8], part: &str) -> Result<Table, NotShown> {
         match self {
             List::Customers => customers_with(alloc, body, part),
@@ -58,15 +58,19 @@ impl List {
     }
 }
 
-/// The list, where the shelf has one that isn't old.
-fn kept<K: WallClock, V: Server, L: Shelf>(
-    desk: &Desk<'_, K, V, L>,
-    list: List,
-) -> Option<Vec<u8>> {
-    let (second, bytes) = desk.shelf.take(desk.alloc, list.name())?;
-    let now = desk.seconds().ok()?;
-    if second <= now && now - second < KEPT {
-        Some(bytes)
+/// A list from the shelf, and for how many seconds it has been there.
+#[derive(Drop)]
+struct Kept {
+    body: Vec<u8>,
+    seconds: u64,
+}
+
+/// Returns the list, if the shelf has one that isn't old.
+fn kept<K: WallClock, V: Server, L: Shelf>(desk: &Desk<'_, K, V, L>, list: List) -> Option<Kept> {
+    let (second, body) = desk.shelf.take(desk.alloc, list.name())?;
+    let seconds = desk.seconds().ok()?.checked_sub(second)?;
+    if seconds < KEPT {
+        Some(Kept { body, seconds })
     } else {
         None
     }
@@ -88,11 +92,13 @@ fn fetched<K: WallClock, V: Server, L: Shelf>(
     Ok(answer)
 }
 
-/// A list, and those in it that were looked for. If the list was refused, the table has no row.
+/// A list, its rows that were looked for, and how many whole minutes ago the server gave it. If the list was refused,
+/// the table has no row.
 #[derive(Drop)]
 pub(crate) struct Picked {
     pub(crate) answer: Answer,
     pub(crate) table: Table,
+    pub(crate) minutes: u64,
 }
 
 /// Picks the rows of the list in which the part is found.
@@ -102,7 +108,11 @@ fn pick(alloc: Global, list: List, answer: Answer, part: &str) -> Result<Picked,
         Some(_) => Table::new(alloc, &[])?,
         None => list.with(alloc, body, part)?,
     };
-    Ok(Picked { answer, table })
+    Ok(Picked {
+        answer,
+        table,
+        minutes: 0,
+    })
 }
 
 /// Returns the rows of a list that have the part in them. If the kept list has none, a new one is asked for.
@@ -111,11 +121,15 @@ pub(crate) fn found<K: WallClock, V: Server, L: Shelf>(
     list: List,
     part: &str,
 ) -> Result<Picked, TillFault> {
-    if let Some(body) = kept(desk, list) {
+    if let Some(Kept { body, seconds }) = kept(desk, list) {
         if let Ok(table) = list.with(desk.alloc, body.as_slice(), part) {
             if !table.is_empty() {
                 let answer = Answer { status: 200, body };
-                return Ok(Picked { answer, table });
+                return Ok(Picked {
+                    answer,
+                    table,
+                    minutes: seconds / 60,
+                });
             }
         }
     }
@@ -129,10 +143,11 @@ pub(crate) fn name_if_known<K: WallClock, V: Server, L: Shelf>(
     customer: CustomerNo,
 ) -> Option<String> {
     let list = kept(desk, List::Customers)?;
-    customer_named(desk.alloc, list.as_slice(), customer).ok()?
+    customer_named(desk.alloc, list.body.as_slice(), customer).ok()?
 }
 
-/// The customer's name; where the kept list lacks it, a new one is asked for. It is none where the list is refused.
+/// Returns the customer's name. If the kept list lacks it, a new list is asked for. Returns none if the list is
+/// refused.
 pub(crate) fn name_of<K: WallClock, V: Server, L: Shelf>(
     desk: &Desk<'_, K, V, L>,
     customer: CustomerNo,
@@ -147,13 +162,13 @@ pub(crate) fn name_of<K: WallClock, V: Server, L: Shelf>(
     Ok(customer_named(desk.alloc, list.body.as_slice(), customer)?)
 }
 
-/// The film's title; where the kept list lacks it, a new one is asked for. It is none where the list is refused.
+/// Returns the film's title. If the kept list lacks it, a new list is asked for. Returns none if the list is refused.
 pub(crate) fn title_of<K: WallClock, V: Server, L: Shelf>(
     desk: &Desk<'_, K, V, L>,
     film: FilmNo,
 ) -> Result<Option<String>, TillFault> {
     if let Some(list) = kept(desk, List::Films) {
-        if let Ok(Some(title)) = film_named(desk.alloc, list.as_slice(), film) {
+        if let Ok(Some(title)) = film_named(desk.alloc, list.body.as_slice(), film) {
             return Ok(Some(title));
         }
     }

@@ -39,7 +39,7 @@ fn outcome(alloc: Global, is_office: bool, reply: Option<&BookReply>) -> Result<
 /// What is shown of a token.
 const DOTS: &str = "....";
 
-/// The list in the body of a request.
+/// Returns the list in the body of a request.
 fn list_in(alloc: Global, request: &[u8]) -> Option<Value> {
     let text = std::str::from_utf8(request).ok()?;
     let (_, body) = text.split_once("\r\n\r\n")?;
@@ -99,7 +99,7 @@ fn words_line(alloc: Global, request: Option<&[u8]>) -> Result<String, TillFault
 }
 
 /// Returns what the entry at that place asks for. Its moment is shown by the clock on the wall.
-fn asked_at<K: WallClock, V: Server, L: Shelf>(
+pub(crate) fn asked_at<K: WallClock, V: Server, L: Shelf>(
     desk: &Desk<'_, K, V, L>,
     entries: &EntriesAfter,
     at: usize,

@@ -9,6 +9,7 @@ use crate::fault::TillFault;
 use crate::lists::{List, found, name_of, title_of};
 use crate::said::Said;
 use shop_types::{Ask, CopyNo, CustomerNo, FilmNo, Moment, Refusal, View};
+use std::alloc::Global;
 use till_client::Answer;
 use till_requests::{look_request, view_request};
 use till_shows::{Table, customer_sheet, holder, refusal_in};
@@ -18,7 +19,7 @@ use till_work::Server;
 /// Below this a number is too short to be looked for in telephone numbers.
 const SHORT: u32 = 100;
 
-/// The answer to a look.
+/// Returns the answer to a look.
 fn looked<K: WallClock, V: Server, L: Shelf>(
     desk: &Desk<'_, K, V, L>,
     ask: &Ask,
@@ -49,7 +50,7 @@ fn table_look<K: WallClock, V: Server, L: Shelf>(
     says_list(desk.alloc, ask, answer.body.as_slice(), none, said)
 }
 
-/// The name of the customer whose balance is asked for; nobody's for anything else.
+/// Returns the name of the customer whose balance is asked for, or an empty name for another look.
 fn name_in<K: WallClock, V: Server, L: Shelf>(
     desk: &Desk<'_, K, V, L>,
     ask: &Ask,
@@ -74,7 +75,7 @@ fn line_look<K: WallClock, V: Server, L: Shelf>(
     says_lines(desk.alloc, ask, name.as_str(), answer.body.as_slice(), said)
 }
 
-/// The holder's name, where there is one.
+/// Returns the holder's name, if there is one.
 fn holder_name<K: WallClock, V: Server, L: Shelf>(
     desk: &Desk<'_, K, V, L>,
     who: &Option<CustomerNo>,
@@ -85,7 +86,7 @@ fn holder_name<K: WallClock, V: Server, L: Shelf>(
     }
 }
 
-/// Who has the copy, by number and name.
+/// Says who has the copy, by number and name.
 fn held_by<K: WallClock, V: Server, L: Shelf>(
     desk: &Desk<'_, K, V, L>,
     copy: CopyNo,
@@ -121,7 +122,7 @@ fn in_stock<K: WallClock, V: Server, L: Shelf>(
     says_holder(desk.alloc, copy, who, &name, said)
 }
 
-/// The film's title, and its copies in stock and out.
+/// Says the film's title, and its copies in stock and out.
 fn copies<K: WallClock, V: Server, L: Shelf>(
     desk: &Desk<'_, K, V, L>,
     film: FilmNo,
@@ -139,7 +140,7 @@ fn copies<K: WallClock, V: Server, L: Shelf>(
     Ok(())
 }
 
-/// What customers paid for rentals, in all or by category.
+/// Says what customers paid for rentals, in all or by category.
 fn sales_by<K: WallClock, V: Server, L: Shelf>(
     desk: &Desk<'_, K, V, L>,
     view: View,
@@ -152,7 +153,7 @@ fn sales_by<K: WallClock, V: Server, L: Shelf>(
     says_sales(desk.alloc, view, answer.body.as_slice(), said)
 }
 
-/// Customers or films that are looked for by a part of their texts; for a program the whole list.
+/// Says which customers or films have a part in their texts. With `--json` it says the whole list.
 fn search<K: WallClock, V: Server, L: Shelf>(
     desk: &Desk<'_, K, V, L>,
     list: List,
@@ -163,11 +164,23 @@ fn search<K: WallClock, V: Server, L: Shelf>(
     if says_all(desk.alloc, desk.is_json, &it.answer, said)? {
         return Ok(());
     }
-    says_table(desk.alloc, &it.table, list.none(), said)
+    says_table(desk.alloc, &it.table, list.none(), said)?;
+    says_age(desk.alloc, it.minutes, said)
 }
 
-/// Those who have a customer's number in their telephone number, where that is no short one: a number that no
-/// customer of the branch has may be meant so.
+/// Says how old a kept list is, if that is a minute or more.
+fn says_age(alloc: Global, minutes: u64, said: &mut Said) -> Result<(), TillFault> {
+    if minutes == 1 {
+        said.line("This list is 1 minute old.")?;
+    } else if minutes > 1 {
+        let line = format!(in alloc; "This list is {minutes} minutes old.")?;
+        said.line(line.as_str())?;
+    }
+    Ok(())
+}
+
+/// Returns the customers with the number in their telephone number, if no customer of the branch has the number and it
+/// isn't short.
 fn with_phone<K: WallClock, V: Server, L: Shelf>(
     desk: &Desk<'_, K, V, L>,
     customer: CustomerNo,
@@ -183,7 +196,7 @@ fn with_phone<K: WallClock, V: Server, L: Shelf>(
     Ok(Some(it.table))
 }
 
-/// The customer of a number, or those who have it in their telephone number.
+/// Says the customer of a number, or those with the number in their telephone number.
 fn customer_look<K: WallClock, V: Server, L: Shelf>(
     desk: &Desk<'_, K, V, L>,
     customer: CustomerNo,
@@ -202,7 +215,7 @@ fn customer_look<K: WallClock, V: Server, L: Shelf>(
     Ok(())
 }
 
-/// What customers paid for rentals, in all and then by category.
+/// Says what customers paid for rentals, in all and then by category.
 fn sales<K: WallClock, V: Server, L: Shelf>(
     desk: &Desk<'_, K, V, L>,
     said: &mut Said,
@@ -211,7 +224,7 @@ fn sales<K: WallClock, V: Server, L: Shelf>(
     sales_by(desk, View::SalesByFilmCategory, said)
 }
 
-/// What a customer owes now, or at the last entry's moment where that is later.
+/// Says what a customer owes now, or at the last entry's moment if that is later.
 fn balance<K: WallClock, V: Server, L: Shelf>(
     desk: &Desk<'_, K, V, L>,
     customer: CustomerNo,

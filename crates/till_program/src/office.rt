@@ -19,7 +19,7 @@ use sqlite::{Alter, Connection};
 use till_requests::{NotSaid, office_look_request, office_request};
 use till_work::{Place, Server, Watch, enter_request};
 
-/// Words that are none, or can't be sent.
+/// Returns the answer to words that are none, or can't be sent.
 fn unsaid(fault: NotSaid) -> Result<Said, TillFault> {
     match fault {
         NotSaid::Usage(text) => Ok(Said { text, status: 2 }),
@@ -28,7 +28,7 @@ fn unsaid(fault: NotSaid) -> Result<Said, TillFault> {
     }
 }
 
-/// What a reading of head office shows.
+/// Says what a reading of head office shows.
 pub(crate) fn read_office<K: WallClock, V: Server, L: Shelf>(
     desk: &Desk<'_, K, V, L>,
     words: &[String],
@@ -42,7 +42,7 @@ pub(crate) fn read_office<K: WallClock, V: Server, L: Shelf>(
     }
 }
 
-/// The bytes of a command of head office, with the key of the entry of that number.
+/// Returns the bytes of a command of head office, with the key of the entry of that number.
 fn office_bytes<K: WallClock, V: Server, L: Shelf>(
     desk: &Desk<'_, K, V, L>,
     number: u32,

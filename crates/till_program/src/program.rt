@@ -7,6 +7,7 @@ ghost use Rattle.till_work.specs.Told.{IsTold};
 ghost use Rattle.till_program.specs.Faults.{IsBookKept};
 ghost use Rattle.till_program.specs.Word.{EntersNothing};
 
+use crate::asked::ask_before;
 use crate::caches::Shelf;
 use crate::clock::WallClock;
 use crate::desk::Desk;
@@ -21,10 +22,11 @@ use crate::said::Said;
 use crate::settling::make_sure;
 use crate::sure::question;
 use crate::tcp::Tcp;
+use crate::today::said_day;
 use crate::word::do_word;
 use crate::zone_word::set_zone;
 use crate::zones::wall_zone;
-use shop_types::{Act, StaffNo, StockFile, Usage};
+use shop_types::{Act, Moment, StaffNo, StockFile, Usage};
 use sqlite::{Alter, Connection, FileStore};
 use sqlite_std_file::File;
 use std::fs;
@@ -250,9 +252,10 @@ fn consent<K: WallClock, V: Server, L: Shelf, W: Write>(
     desk: &Desk<'_, K, V, L>,
     act: &TillAct,
     asks: Asks,
+    last: Option<Moment>,
     out: &mut W,
 ) -> Consent {
-    match question(desk, act) {
+    match question(desk, act, last) {
         Ok(None) => Consent::Given,
         Ok(Some(question)) => match asks {
             Asks::Window => Consent::Asked(question),
@@ -269,6 +272,15 @@ fn question_outcome<W: Write>(question: &str, line: Line, out: &mut W) -> Outcom
     Outcome {
         status: ASKED,
         is_failed: false,
+        line,
+    }
+}
+
+/// Prints the fault of a word that wasn't begun.
+fn not_done<W: Write, E: Write>(fault: TillFault, line: Line, out: &mut W, err: &mut E) -> Outcome {
+    Outcome {
+        status: print(Err(fault), out, err),
+        is_failed: matches!(fault, TillFault::Book),
         line,
     }
 }
@@ -314,9 +326,15 @@ fn with_tools<'x, W: Write, E: Write>(
         staff,
         is_json,
         is_sure,
+        said_day: said_day(rt.alloc(), &shelf),
     };
+    let asked = match ask_before(rt, &desk, conn, &act, asks == Asks::Prompt, out) {
+        Ok(asked) => asked,
+        Err(fault) => return not_done(fault, way.line, out, err),
+    };
+    desk.said_day = asked.said_day;
     if !is_sure {
-        match consent(rt, &desk, &act, asks, out) {
+        match consent(rt, &desk, &act, asks, asked.last, out) {
             Consent::Given => desk.is_sure = true,
             Consent::Missing => {}
             Consent::Asked(question) => return question_outcome(question.as_str(), way.line, out),

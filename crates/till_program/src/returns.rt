@@ -16,6 +16,7 @@ use crate::fault::TillFault;
 use shop_types::{Act, Ask, CopyNo, CustomerNo, Moment, RentalNo};
 use sqlite::{Alter, Connection};
 use till_book::{HeldRental, held_of, renter_of};
+use till_client::Answer;
 use till_requests::look_request;
 use till_shows::balance_line;
 use till_work::Server;
@@ -73,20 +74,28 @@ fn held_at<S: Alter>(conn: &mut Connection<S>, copy: CopyNo) -> Result<HeldRenta
     }
 }
 
-/// Returns what the customer owes now, as a line; `last` is the last entry's moment.
-pub(crate) fn owed<K: WallClock, V: Server, L: Shelf>(
+/// Asks what the customer owes now; `last` is the last entry's moment.
+pub(crate) fn balance_of<K: WallClock, V: Server, L: Shelf>(
     desk: &Desk<'_, K, V, L>,
     customer: CustomerNo,
     last: Option<Moment>,
-) -> Result<String, TillFault> {
+) -> Result<Answer, TillFault> {
     let ask = Ask::Balance {
         customer,
         at: desk.now_behind(last)?,
     };
     let request = look_request(desk.alloc, desk.routes, &desk.settings.token, &ask)?;
-    let answer = desk.ask(request.as_slice())?;
+    desk.ask(request.as_slice())
+}
+
+/// Returns what the customer owes as a line, by the reply to that question.
+pub(crate) fn owed_line<K: WallClock, V: Server, L: Shelf>(
+    desk: &Desk<'_, K, V, L>,
+    customer: CustomerNo,
+    balance: &Answer,
+) -> Result<String, TillFault> {
     let name = called(desk, customer)?;
-    Ok(balance_line(desk.alloc, name.as_str(), answer.body.as_slice())?)
+    Ok(balance_line(desk.alloc, name.as_str(), balance.body.as_slice())?)
 }
 
 /// Returns the customer whose rental it is, if the register knows. The book stays.

@@ -1,4 +1,4 @@
-//! What a word came to.
+//! The outcome of a word.
 
 use std::alloc::{AllocError, Global};
 
@@ -11,7 +11,7 @@ pub struct Said {
 }
 
 impl Said {
-    /// Done, and nothing to say yet.
+    /// Returns that the word is done, with nothing to say yet.
     pub(crate) fn done(alloc: Global) -> Said {
         Said {
             text: String::new(alloc),
@@ -19,7 +19,7 @@ impl Said {
         }
     }
 
-    /// One more line, or more of them, whose last one is ended where it isn't.
+    /// Adds one line or more. If the last one doesn't end with a line feed, it gets one.
     pub(crate) fn line(&mut self, line: &str) -> Result<(), AllocError> {
         self.text.push_str(line)?;
         if line.ends_with('\n') {

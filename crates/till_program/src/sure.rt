@@ -8,7 +8,7 @@ use crate::clock::WallClock;
 use crate::commands::called;
 use crate::desk::Desk;
 use crate::fault::TillFault;
-use shop_types::{Act, Amount, Ask, CustomerNo};
+use shop_types::{Act, Amount, Ask, CustomerNo, Moment};
 use till_requests::look_request;
 use till_shows::{balance_line, is_covered, is_grave, owed_cents, question_on};
 use till_words::TillAct;
@@ -23,6 +23,8 @@ pub(crate) fn wants_yes(act: &TillAct) -> bool
         TillAct::ReturnCopy(_) | TillAct::Office(_) | TillAct::Send | TillAct::Look(_) => false,
         TillAct::Waiting | TillAct::Last(_) | TillAct::Help | TillAct::Init(_) => false,
         TillAct::Import { .. } | TillAct::Prompt | TillAct::Zone(_) | TillAct::Day(_) => false,
+        TillAct::Today(_) | TillAct::Again { .. } => false,
+        TillAct::Slip => false,
     }
 }
 
@@ -45,12 +47,13 @@ struct Owed {
     line: String,
 }
 
-/// Asks the server what the customer owes.
+/// Asks the server what the customer owes at the clock's moment, or at the last entry's if that is later.
 fn owed_by<K: WallClock, V: Server, L: Shelf>(
     desk: &Desk<'_, K, V, L>,
     customer: CustomerNo,
+    last: Option<Moment>,
 ) -> Result<Owed, TillFault> {
-    let at = desk.now()?;
+    let at = desk.now_behind(last)?;
     let ask = Ask::Balance { customer, at };
     let request = look_request(desk.alloc, desk.routes, &desk.settings.token, &ask)?;
     let answer = desk.ask(request.as_slice())?;
@@ -66,9 +69,10 @@ fn on_payment<K: WallClock, V: Server, L: Shelf>(
     act: &Act,
     customer: CustomerNo,
     amount: Amount,
+    last: Option<Moment>,
 ) -> Result<Option<String>, TillFault> {
     let alloc = desk.alloc;
-    match owed_by(desk, customer) {
+    match owed_by(desk, customer, last) {
         Ok(owed) if is_covered(amount, owed.cents) => Ok(None),
         Ok(owed) => {
             let line = format!(in alloc; "{}. ", owed.line)?;
@@ -79,10 +83,11 @@ fn on_payment<K: WallClock, V: Server, L: Shelf>(
 }
 
 /// Returns the question before a word, or none if the word may be entered without one. At head office's book none is
-/// asked, since a branch's word is refused there.
+/// asked, since a branch's word is refused there. `last` is the last entry's moment.
 pub(crate) fn question<K: WallClock, V: Server, L: Shelf>(
     desk: &Desk<'_, K, V, L>,
     act: &TillAct,
+    last: Option<Moment>,
 ) -> Result<Option<String>, TillFault> {
     if desk.settings.staff.is_none() || !wants_yes(act) {
         return Ok(None);
@@ -93,7 +98,7 @@ pub(crate) fn question<K: WallClock, V: Server, L: Shelf>(
                 customer,
                 amount,
                 ..
-            } => on_payment(desk, act, *customer, *amount),
+            } => on_payment(desk, act, *customer, *amount, last),
             Act::Scrap(_) | Act::Dispatch { .. } | Act::Receive { .. } => {
                 Ok(Some(question_on(desk.alloc, act, "")?))
             }
@@ -103,5 +108,7 @@ pub(crate) fn question<K: WallClock, V: Server, L: Shelf>(
         TillAct::ReturnCopy(_) | TillAct::Office(_) | TillAct::Send | TillAct::Look(_) => Ok(None),
         TillAct::Waiting | TillAct::Last(_) | TillAct::Help | TillAct::Init(_) => Ok(None),
         TillAct::Import { .. } | TillAct::Prompt | TillAct::Zone(_) | TillAct::Day(_) => Ok(None),
+        TillAct::Today(_) | TillAct::Again { .. } => Ok(None),
+        TillAct::Slip => Ok(None),
     }
 }

@@ -32,7 +32,7 @@ fn replies(patience: Patience) -> Duration {
     }
 }
 
-/// A connection to the first address of that name that answers.
+/// Opens a connection to the first address of that name that answers.
 fn connected(rt: &HostRuntime, address: &str, patience: Patience) -> io::Result<TcpStream> {
     let mut last = io::Error::from(ErrorKind::InvalidInput);
     for to in address.to_socket_addrs(rt)? {

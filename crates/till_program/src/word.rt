@@ -1,12 +1,13 @@
 //! One word at an open book.
 
-ghost use Rattle.std.specs.Prelude.{◌≡◌, ◌⊎◌, true, false, None, Err, is_ok, IfOk, IfErr, OnOk, IsSome};
+ghost use Rattle.std.specs.Prelude.{◌≡◌, ◌<◌, ◌⊎◌, true, false, None, Err, is_ok, IfOk, IfErr, OnOk, IsSome};
 ghost use Rattle.sqlite.specs.Held.{state};
 ghost use Rattle.sqlite.specs.State.{HasCleanDisk};
 ghost use Rattle.shop_types.specs.Seen.{seen_act};
 ghost use Rattle.till_book.specs.Steps.{Stays};
 ghost use Rattle.till_work.specs.Told.{IsTold};
 ghost use Rattle.till_work.specs.Desk.{GoesOn, Grows};
+ghost use Rattle.till_requests.specs.Zones.{offset_of};
 ghost use Rattle.till_program.specs.Clock.{local_clock};
 ghost use Rattle.till_program.specs.Faults.{IsBookKept, IsReading, giver_of, others_fault};
 ghost use Rattle.till_program.specs.Giving.{GivesAct};
@@ -19,9 +20,11 @@ ghost use Rattle.till_program.specs.Word.{
   IsOwnBook,
   IsPlannedFor,
 };
-ghost use Rattle.till_program.specs.Doing.{IsPlanOf, IsCarriedOut, DoesWord, office_planned};
+ghost use Rattle.till_program.specs.Doing.{IsPlanOf, IsCarriedOut, DoesWord, RepeatsPlan, RepeatsWord, office_planned};
 ghost use Rattle.till_program.specs.Sure as sure;
+ghost use Rattle.till_program.specs.Today as dates;
 
+use crate::again::again;
 use crate::book::Book;
 use crate::caches::Shelf;
 use crate::clock::WallClock;
@@ -33,15 +36,17 @@ use crate::lists::List;
 use crate::lists_of_entries::{last_entries, waiting_entries};
 use crate::looks::look;
 use crate::office::{give_office, read_office};
-use crate::returns::{customer_of, owed, rental_at};
+use crate::returns::{balance_of, customer_of, owed_line, rental_at};
 use crate::said::Said;
 use crate::sendings::{send, waited};
+use crate::slips::{Slipped, debtor_of, say_slip, write_slip};
 use crate::sure::{is_answered, wants_yes};
+use crate::today::{dated_if, enters_acts, today};
 use shop_types::{Act, CopyNo, CustomerNo, Moment};
 use sqlite::{Alter, Connection};
 use std::alloc::Global;
 use till_requests::is_office_look;
-use till_words::{Drawer, TillAct, TillLook, WordList, help_text};
+use till_words::{DayText, Drawer, TillAct, TillLook, WordList, help_text};
 use till_work::{Server, Watch};
 
 /// What is to be done for a word, once the book was looked at.
@@ -63,6 +68,13 @@ enum Plan {
     Last(u32),
     /// What is in the drawer is shown, or it is closed.
     Day(Drawer),
+    /// The date is put beside the book, if it is today's.
+    Today(DayText),
+    /// What was refused because the branch had a later moment is entered once more, rents and returns of another day too
+    /// if that is said.
+    Again(bool),
+    /// The last slip is shown.
+    Slip,
     /// The words that there are are said, as a usage.
     Usage,
 }
@@ -212,6 +224,36 @@ fn day_plan<K: WallClock, V: Server, L: Shelf>(
     Ok(Plan::Day(asked))
 }
 
+/// Plans to give once more what was refused because the branch had a later moment.
+fn again_plan<K: WallClock, V: Server, L: Shelf>(
+    desk: &Desk<'_, K, V, L>,
+    book: &Book,
+    late: bool,
+) -> Result<Plan, TillFault>
+    ensures planned { IfOk result (IsPlannedFor desk.now.settings.now.staff) }
+    ensures acts { IfOk result (λ plan. plan ≡ Plan.Again late) }
+    ensures own { OnOk result (IsSome desk.now.settings.now.staff) }
+    ensures others { desk.now.settings.now.staff ≡ None → result ≡ Err (others_fault desk.now.settings.now.staff) }
+    ensures marked { OnOk result (book.now.is_own ≡ true) }
+    ensures foreign { IsSome desk.now.settings.now.staff → book.now.is_own ≡ false
+        → result ≡ Err TillFault.OtherBook }
+{
+    let _ = desk.giver()?;
+    is_own(book)?;
+    Ok(Plan::Again(late))
+}
+
+/// Plans the showing of the last slip, which is a branch's.
+fn slip_plan<K: WallClock, V: Server, L: Shelf>(desk: &Desk<'_, K, V, L>) -> Result<Plan, TillFault>
+    ensures planned { IfOk result (IsPlannedFor desk.now.settings.now.staff) }
+    ensures acts { IfOk result (λ plan. plan ≡ Plan.Slip) }
+    ensures own { OnOk result (IsSome desk.now.settings.now.staff) }
+    ensures others { desk.now.settings.now.staff ≡ None → result ≡ Err (others_fault desk.now.settings.now.staff) }
+{
+    let _ = desk.giver()?;
+    Ok(Plan::Slip)
+}
+
 /// Plans a word. For a return the register is read: by copy it is of the rental that the register has of it. The book
 /// stays.
 fn plan_of<S: Alter, K: WallClock, V: Server, L: Shelf>(
@@ -244,7 +286,38 @@ fn plan_of<S: Alter, K: WallClock, V: Server, L: Shelf>(
         TillAct::Day(asked) => day_plan(desk, asked),
         TillAct::Help | TillAct::Init(_) | TillAct::Import { .. } => Ok(Plan::Usage),
         TillAct::Zone(_) | TillAct::Prompt => Ok(Plan::Usage),
+        TillAct::Today(date) => Ok(Plan::Today(date)),
+        TillAct::Again { late } => again_plan(desk, book, late),
+        TillAct::Slip => slip_plan(desk),
     }
+}
+
+/// Says what the customer of an accepted return owes, and writes the slip of an accepted command, if it has one. Returns
+/// false if the slip can't be written.
+fn follow_up<K: WallClock, V: Server, L: Shelf>(
+    desk: &Desk<'_, K, V, L>,
+    act: &Act,
+    customer: Option<CustomerNo>,
+    last: Option<Moment>,
+    told: &Told,
+    said: &mut Said,
+) -> Result<bool, TillFault> {
+    let balance = match debtor_of(act, customer) {
+        Some(debtor) => balance_of(desk, debtor, last).ok(),
+        None => None,
+    };
+    if let (Some(customer), Some(balance), false) = (customer, &balance, desk.is_json) {
+        if let Ok(line) = owed_line(desk, customer, balance) {
+            said.line(line.as_str())?;
+        }
+    }
+    let slipped = Slipped {
+        act,
+        answer: &told.answer,
+        at: last,
+        balance: balance.as_ref(),
+    };
+    Ok(write_slip(desk, slipped))
 }
 
 /// Says the outcome of a command, what its customer owes, and the outcomes of the entries that had waited before it.
@@ -257,19 +330,19 @@ fn told<K: WallClock, V: Server, L: Shelf>(
     waited: Option<Said>,
 ) -> Result<Said, TillFault> {
     let mut said = tell(desk, act, told)?;
+    let mut is_written = true;
     if told.is_accepted() {
-        if matches!(act, Act::Customer(_)) {
+        if matches!(act, Act::Customer(_) | Act::Active { .. }) {
             desk.shelf.forget(List::Customers.name());
         }
-        if let (Some(customer), false) = (customer, desk.is_json) {
-            if let Ok(line) = owed(desk, customer, last) {
-                said.line(line.as_str())?;
-            }
-        }
+        is_written = follow_up(desk, act, customer, last, told, &mut said)?;
     }
     if let Some(table) = &waited {
         said.line("What had waited was sent first:")?;
         said.text.push_str(table.text.as_str())?;
+    }
+    if !is_written && !desk.is_json {
+        said.line("The slip wasn't written.")?;
     }
     Ok(said)
 }
@@ -338,6 +411,11 @@ fn carry_out<S: Alter, K: WallClock, V: Server, L: Shelf, W: Watch>(
         → IsPlannedFor desk.now.settings.now.staff plan
         → Grows (IsTold (V.opens desk.now.server.now) V.Reader.remaining V.Writer.contents) book.old.place (state
         S.Store conn.old) book.new.place (state S.Store conn.new) }
+    ensures again { HasCleanDisk (state S.Store conn.new) → IfOk result (λ said. said.status < 3
+        → RepeatsPlan (IsTold (V.opens desk.now.server.now) V.Reader.remaining V.Writer.contents)
+        (local_clock (K.shows desk.now.clock.now) desk.now.settings.now.zone) desk.now.settings.now.mark desk.now.settings.now.token
+        desk.now.settings.now.staff plan book.old.place (state S.Store conn.old) book.new.place
+        (state S.Store conn.new)) }
 {
     match plan {
         Plan::Give(act, customer) => give_and_tell(desk, conn, book, &act, customer, watch),
@@ -348,6 +426,9 @@ fn carry_out<S: Alter, K: WallClock, V: Server, L: Shelf, W: Watch>(
         Plan::Waiting => waiting_entries(desk, conn, book),
         Plan::Last(count) => last_entries(desk, conn, book, count),
         Plan::Day(asked) => day(desk, conn, book, asked),
+        Plan::Today(date) => today(desk, date.as_str()),
+        Plan::Again(late) => again(desk, conn, book, late, watch),
+        Plan::Slip => say_slip(desk),
         Plan::Usage => usage(desk.alloc),
     }
 }
@@ -361,6 +442,9 @@ fn carry_out<S: Alter, K: WallClock, V: Server, L: Shelf, W: Watch>(
 /// is refused, and the book stays: `OtherBook`. A word that wants an answer and has none is refused, and the book stays:
 /// `Unsure`, unless another refusal comes first. A word that makes a book, a prompt, or a stock file that is still to be
 /// read is answered as a usage. So is a word that sets the book's zone.
+///
+/// A word that enters commands wants today's date first if the book is empty, or its last entry is more than 36 hours
+/// ago. If the date of the clock on the wall wasn't said, the word is refused, and the book stays: `Undated`.
 pub fn do_word<S: Alter, K: WallClock, V: Server, L: Shelf, W: Watch>(
     desk: &Desk<'_, K, V, L>,
     conn: &mut Connection<S>,
@@ -397,10 +481,23 @@ pub fn do_word<S: Alter, K: WallClock, V: Server, L: Shelf, W: Watch>(
     ensures unanswered { HasCleanDisk (state S.Store conn.new)
         → sure.is_answered (sure.wants_yes act) desk.now.is_sure ≡ false
         → Stays (state S.Store conn.old) (state S.Store conn.new) }
+    ensures dated { HasCleanDisk (state S.Store conn.new) → dates.enters_acts act ≡ true
+        → OnOk result (dates.IsDatedBook (local_clock (K.shows desk.now.clock.now) desk.now.settings.now.zone)
+        desk.now.wall.entry (offset_of desk.now.settings.now.zone) desk.now.said_day (state S.Store conn.old)) }
+    ensures undated { HasCleanDisk (state S.Store conn.new) → dates.enters_acts act ≡ true
+        → ¬ dates.IsDatedBook (local_clock (K.shows desk.now.clock.now) desk.now.settings.now.zone)
+        desk.now.wall.entry (offset_of desk.now.settings.now.zone) desk.now.said_day (state S.Store conn.old)
+        → Stays (state S.Store conn.old) (state S.Store conn.new) }
+    ensures again { HasCleanDisk (state S.Store conn.new) → IfOk result (λ said. said.status < 3
+        → RepeatsWord (IsTold (V.opens desk.now.server.now) V.Reader.remaining V.Writer.contents)
+        (local_clock (K.shows desk.now.clock.now) desk.now.settings.now.zone) desk.now.settings.now.mark desk.now.settings.now.token
+        desk.now.settings.now.staff act (state S.Store conn.old) (state S.Store conn.new)) }
 {
     let wants = wants_yes(&act);
+    let enters = enters_acts(&act);
     let mut book = Book::read(desk.alloc, desk.routes, &desk.settings.mark, conn)?;
     let plan = plan_of(desk, conn, &book, act)?;
+    dated_if(desk, &book, enters)?;
     is_answered(wants, desk.is_sure)?;
     carry_out(desk, conn, &mut book, plan, watch)
 }

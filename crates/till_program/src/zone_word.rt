@@ -89,6 +89,7 @@ fn accepted(
         staff: None,
         is_json: false,
         is_sure: false,
+        said_day: None,
     };
     accept_zone(&desk, conn)?;
     let path = settings_path(rt, name)?;

@@ -161,6 +161,10 @@ impl Shelf for Board {
         lists.push(list).is_ok()
     }
 
+    fn append(&self, alloc: Global, name: &'static str, bytes: &[u8]) -> bool {
+        self.add(alloc, name, bytes)
+    }
+
     fn forget(&self, name: &'static str) {
         let Ok(mut lists) = self.lists.try_borrow_mut() else {
             return;

@@ -12,7 +12,7 @@ use jiff_tz::TimeZone;
 use shop_types::{Act, LotName, StaffNo, StockFile};
 use sqlite::{Alter, Connection};
 use std::alloc::Global;
-use till_program::{Desk, Quiet, Said, TillFault, do_word, make_sure};
+use till_program::{Desk, Quiet, Said, TillFault, do_word, make_sure, said_day};
 use till_words::{TillAct, TillLine, read_till_words, split_line};
 
 /// Returns the import of the stock file as a lot of that name.
@@ -149,6 +149,7 @@ fn at_desk<'d, 'x, S: Alter, C: Counter>(
         staff,
         is_json: false,
         is_sure,
+        said_day: said_day(alloc, kit.shelf()),
     };
     tell(alloc, done(&desk, conn, act), told)
 }

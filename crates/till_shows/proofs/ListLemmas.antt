@@ -6,7 +6,7 @@ use Rattle.serde_json.specs.Data.{Data}
 use Rattle.till_shows.specs.Bodies.{body_of, rows_in, each, text_at, has_number}
 use Rattle.till_shows.specs.Fields.{Field, row_of}
 use Rattle.till_shows.specs.Lines.{Table}
-use Rattle.till_shows.specs.Lists.{begins_with, stands_in, has_field, is_found, is_sought, more_rows, headed, found_rows}
+use Rattle.till_shows.specs.Lists.{begins_with, stands_in, searched_texts, is_found, is_sought, has_words, more_rows, headed, found_rows}
 use Rattle.till_shows.specs.Lists.{table_in, whole_table, first_named, named_in}
 
 -- ---- a list from its i-th on, as it is seen
@@ -47,7 +47,7 @@ without_row table new rest h =
 pub found_more : (fields : List Field) (part : Text) (table new : Table) (d : Data) (ds : List Data)
     → option_map (more_rows table) (found_rows fields part (d ∷ [])) ≡ Some new
     → option_map (more_rows table) (found_rows fields part (d ∷ ds)) ≡ option_map (more_rows new) (found_rows fields part ds)
-found_more fields part table new d ds h = elim (cases_Bool (is_sought part fields d)) [
+found_more fields part table new d ds h = elim (cases_Bool (has_words part fields d)) [
   | inl e ↦ let one = rw e at h in rw e (with_row table new (row_of fields d) (found_rows fields part ds) one)
   | inr e ↦ let one = rw e at h in rw e (without_row table new (found_rows fields part ds) one)
 ]
@@ -60,7 +60,7 @@ none_at {A} (Some a) rest h = let no : ◌≡◌ {A = Option (List A)} (Some (a 
 -- an object that has no row
 pub found_none : (fields : List Field) (part : Text) (d : Data) (ds : List Data)
     → found_rows fields part (d ∷ []) ≡ None → found_rows fields part (d ∷ ds) ≡ None
-found_none fields part d ds h = elim (cases_Bool (is_sought part fields d)) [
+found_none fields part d ds h = elim (cases_Bool (has_words part fields d)) [
   | inl e ↦ let one = rw e at h in rw e (none_at (row_of fields d) (found_rows fields part ds) one)
   | inr e ↦ let no : ◌≡◌ {A = Option (List (List Text))} (Some []) None = rw e at h in cc
 ]
@@ -71,16 +71,16 @@ or_true : (b : Bool) → (b || true) ≡ true
 or_true true = refl
 or_true false = refl
 
-always_found : (fields : List Field) (d : Data) → is_found [] fields d ≡ true
-always_found [] d = refl
-always_found (field ∷ fields) d = rw (always_found fields d) (or_true _)
+always_found : (texts : List Text) → is_found texts [] ≡ true
+always_found [] = refl
+always_found (text ∷ texts) = rw (always_found texts) (or_true _)
 
-always_sought : (fields : List Field) (d : Data) → is_sought [] fields d ≡ true
-always_sought fields d = rw (always_found fields d) refl
+always_sought : (texts : List Text) → is_sought texts [] ≡ true
+always_sought texts = rw (always_found texts) refl
 
-all_found : (fields : List Field) (ds : List Data) → filter (is_sought [] fields) ds ≡ ds
+all_found : (fields : List Field) (ds : List Data) → filter (has_words [] fields) ds ≡ ds
 all_found fields [] = refl
-all_found fields (d ∷ ds) = rw (always_sought fields d, all_found fields ds) refl
+all_found fields (d ∷ ds) = rw (always_sought (searched_texts fields d), all_found fields ds) refl
 
 rows_all : (fields : List Field) (o : Option (List Data)) → option_and_then (found_rows fields []) o ≡ option_and_then (each (row_of fields)) o
 rows_all fields None = refl
@@ -101,10 +101,10 @@ named_later by n name d ds e = rw e refl
 
 -- ---- an object, by whether the part is found in it
 
-pub is_row : (fields : List Field) (part : Text) (d : Data) → is_sought part fields d ≡ true → found_rows fields part (d ∷ []) ≡ each (row_of fields) (d ∷ [])
+pub is_row : (fields : List Field) (part : Text) (d : Data) → has_words part fields d ≡ true → found_rows fields part (d ∷ []) ≡ each (row_of fields) (d ∷ [])
 is_row fields part d e = rw e refl
 
-pub no_row : (fields : List Field) (part : Text) (table : Table) (d : Data) → is_sought part fields d ≡ false
+pub no_row : (fields : List Field) (part : Text) (table : Table) (d : Data) → has_words part fields d ≡ false
     → option_map (more_rows table) (found_rows fields part (d ∷ [])) ≡ Some table
 no_row fields part table d e = rw e (ap (λ (t : Table). Some t) (nothing_more table))
 
@@ -163,19 +163,12 @@ stands_later part text i h is =
 pub nothing_stands : (part text : Text) (i : ℕ) → length text ≤ i → stands_in part (drop i text) ≡ (length part == 0)
 nothing_stands part text i h = ap (stands_in part) (drop_all i text h)
 
-pub found_here : (part : Text) (fields : List Field) (d : Data) (i : ℕ) (field : Field)
-    → i < length fields → field ≡ get_or fields i field → has_field part d field ≡ true
-    → is_found part (drop i fields) d ≡ true
-found_here part fields d i field h is has =
-    let front : drop i fields ≡ field ∷ drop (i + 1) fields = drop_more fields i field h ∙ ap (λ (f : Field). f ∷ drop (i + 1) fields) (sym is) in
-    ap (λ (fs : List Field). is_found part fs d) front ∙ or_here (has_field part d field) (is_found part (drop (i + 1) fields) d) has
+pub found_here : (part text : Text) (texts : List Text) (front : List Text) → front ≡ text ∷ texts → stands_in part text ≡ true → is_found front part ≡ true
+found_here part text texts front is stands = ap (λ (ts : List Text). is_found ts part) is ∙ or_here (stands_in part text) (is_found texts part) stands
 
-pub found_later : (part : Text) (fields : List Field) (d : Data) (i : ℕ) (field : Field)
-    → i < length fields → field ≡ get_or fields i field → has_field part d field ≡ false
-    → is_found part (drop i fields) d ≡ is_found part (drop (i + 1) fields) d
-found_later part fields d i field h is has =
-    let front : drop i fields ≡ field ∷ drop (i + 1) fields = drop_more fields i field h ∙ ap (λ (f : Field). f ∷ drop (i + 1) fields) (sym is) in
-    ap (λ (fs : List Field). is_found part fs d) front ∙ or_later (has_field part d field) (is_found part (drop (i + 1) fields) d) has
+pub found_later : (part text : Text) (texts : List Text) (front : List Text) → front ≡ text ∷ texts → stands_in part text ≡ false
+    → is_found front part ≡ is_found texts part
+found_later part text texts front is stands = ap (λ (ts : List Text). is_found ts part) is ∙ or_later (stands_in part text) (is_found texts part) stands
 
-pub nothing_found : (part : Text) (fields : List Field) (d : Data) (i : ℕ) → length fields ≤ i → is_found part (drop i fields) d ≡ (length part == 0)
-nothing_found part fields d i h = ap (λ (fs : List Field). is_found part fs d) (drop_all i fields h)
+pub nothing_found : (part : Text) (front : List Text) → front ≡ [] → is_found front part ≡ (length part == 0)
+nothing_found part front is = ap (λ (ts : List Text). is_found ts part) is

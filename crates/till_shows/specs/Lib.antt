@@ -13,3 +13,5 @@ pub mod Looks
 pub mod Questions
 pub mod Sheets
 pub mod Drawers
+pub mod Slips
+pub mod Seen

@@ -1,8 +1,10 @@
 -- The tables of the lists in bodies, and the look-up of one number in a list.
 use Rattle.std.specs.Prelude.{ℕ, ◌==◌, ◌&&◌, ◌||◌, Bool, true, false, not, List, [], ◌∷◌, ◌++◌, map, filter, length, Option, Some, None, option_map}
-use Rattle.std.specs.Prelude.{option_and_then, unwrap_or, codes, if◌then◌else◌}
-use Rattle.std.specs.Char.{eq_ignore_ascii_case}
+use Rattle.std.specs.Prelude.{option_and_then, codes, if◌then◌else◌}
+use Rattle.std.specs.Prelude.{chars, encode_utf8_all}
 use Rattle.std.specs.List.{list_all, slice_split}
+use Rattle.std.specs.Option.{option_to_list}
+use Rattle.caseless.specs.Caseless.{default_case_fold}
 use Rattle.serde_json.specs.Data.{Data}
 use Rattle.shop_model.specs.Values.{Text}
 use Rattle.till_shows.specs.Bodies.{body_of, each, rows_in, text_at, has_number}
@@ -15,37 +17,46 @@ use Rattle.till_shows.specs.Lines.{Table}
 abbrev pub is_left_out : ℕ → ℕ → Bool
 is_left_out p t = t == 45 && not (p == 45)
 
--- The text begins with the part, in any case of ASCII letters. The part may leave out hyphens: `55512` begins `555-12`.
+-- The text begins with the part. The part may leave out hyphens: `55512` begins `555-12`.
 abbrev pub begins_with : Text → Text → Bool
 begins_with [] text = true
 begins_with (p ∷ part) [] = false
 begins_with (p ∷ part) (t ∷ text) = if is_left_out p t then begins_with (p ∷ part) text
-    else (eq_ignore_ascii_case p t && begins_with part text)
+    else (p == t && begins_with part text)
 
 -- the text contains the part; each text contains an empty part
 abbrev pub stands_in : Text → Text → Bool
 stands_in part [] = length part == 0
 stands_in part (x ∷ text) = begins_with part (x ∷ text) || stands_in part text
 
-abbrev pub stands_at : Text → Text → Data → Bool
-stands_at name part d = unwrap_or (option_map (stands_in part) (text_at name d)) false
+-- the text without upper and lower case, of any script (Unicode's default case folding)
+abbrev pub folded : Text → Text
+folded text = encode_utf8_all (default_case_fold (chars text))
 
--- the field is searched, and the object's text of this field contains the part
-abbrev pub has_field : Text → Data → Field → Bool
-has_field part d field = field.is_searched && stands_at field.name part d
+-- the object's text of this field, if the field is searched and the object has it
+abbrev pub searched_text : Data → Field → Option Text
+searched_text d field = if field.is_searched then option_map folded (text_at field.name d) else None
 
--- one of the object's searched texts contains the part
-abbrev pub is_found : Text → List Field → Data → Bool
-is_found part [] d = length part == 0
-is_found part (field ∷ fields) d = has_field part d field || is_found part fields d
+abbrev pub searched_texts : List Field → Data → List Text
+searched_texts [] d = []
+searched_texts (field ∷ fields) d = option_to_list (searched_text d field) ++ searched_texts fields d
+
+-- one of the texts contains the part
+abbrev pub is_found : List Text → Text → Bool
+is_found [] part = length part == 0
+is_found (text ∷ texts) part = stands_in part text || is_found texts part
 
 -- each word of the text is found; commas (44) separate the words
-abbrev pub are_found : Text → List Field → Data → Bool
-are_found text fields d = list_all (λ word. is_found word fields d) (slice_split (λ b. b == 44) text)
+abbrev pub are_found : List Text → Text → Bool
+are_found texts text = list_all (is_found texts) (slice_split (λ b. b == 44) text)
 
--- Each word of the text is found, in any order; blanks (32) and commas separate the words. An empty word is found in each object.
-abbrev pub is_sought : Text → List Field → Data → Bool
-is_sought text fields d = list_all (λ piece. are_found piece fields d) (slice_split (λ b. b == 32) text)
+-- Each word of the text is found, in any order; blanks (32) and commas separate the words. An empty word is found in any texts.
+abbrev pub is_sought : List Text → Text → Bool
+is_sought texts text = list_all (are_found texts) (slice_split (λ b. b == 32) text)
+
+-- the words are found in the object
+abbrev pub has_words : Text → List Field → Data → Bool
+has_words text fields d = is_sought (searched_texts fields d) text
 
 -- ---- tables
 
@@ -58,9 +69,9 @@ more_rows table rows = record { sides = table.sides; rows = table.rows ++ rows }
 
 -- a row for each object in which the text's words are found, in their order, and no other row
 abbrev pub found_rows : List Field → Text → List Data → Option (List (List Text))
-found_rows fields part ds = each (row_of fields) (filter (is_sought part fields) ds)
+found_rows fields part ds = each (row_of fields) (filter (has_words part fields) ds)
 
--- the rows of the body's objects in which the part is found, below their headings
+-- the rows of the body's objects in which the part's words are found, below their headings
 abbrev pub table_in : List Field → Text → Text → Option Table
 table_in fields part body = option_map (more_rows (headed fields)) (option_and_then (found_rows fields part) (option_and_then rows_in (body_of body)))
 

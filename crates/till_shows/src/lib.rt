@@ -15,6 +15,7 @@ mod questions;
 mod refusals;
 mod replies;
 mod sheets;
+mod slips;
 mod tables;
 mod told;
 
@@ -35,5 +36,6 @@ pub use questions::{is_covered, is_grave, owed_cents, question_on};
 pub use refusals::{Sentences, sentences_on, told_refusal};
 pub use replies::reply_line;
 pub use sheets::{customer_sheet, film_sheet};
+pub use slips::{Slip, SlipKind, last_slip, rental_in, slip_text};
 pub use tables::{Column, Row, Side, Table};
 pub use told::refusal_in;

@@ -4,8 +4,8 @@ ghost use Rattle.std.specs.Prelude.{◌≡◌, [], ◌∷◌, Some, None, IfOk, 
 ghost use Rattle.serde_json.specs.View.{view};
 ghost use Rattle.till_shows.specs.Bodies.{each};
 ghost use Rattle.till_shows.specs.Fields.{row_of};
-ghost use Rattle.till_shows.specs.Lists.{is_left_out, begins_with, stands_in, stands_at, has_field};
-ghost use Rattle.till_shows.specs.Lists.{is_found, are_found, is_sought, headed, more_rows};
+ghost use Rattle.till_shows.specs.Lists.{is_left_out, begins_with, stands_in, folded, searched_text, searched_texts};
+ghost use Rattle.till_shows.specs.Lists.{is_found, are_found, is_sought, has_words, headed, more_rows};
 ghost use Rattle.till_shows.specs.Lists.{found_rows, table_in, whole_table, customer_fields, film_fields};
 ghost use Rattle.till_shows.specs.Lists.{overdue_fields, arrival_fields, sent_fields, store_fields, category_fields};
 ghost use Rattle.till_shows.specs.Lists.{first_named, named_in};
@@ -14,6 +14,7 @@ ghost use Rattle.till_shows.specs.declared.bodies.NotShown.TheVariants.{OtherFor
 use crate::bodies::{NotShown, has_number, owned_text, rows_of, text_at, value_of};
 use crate::parts::{Part, columns_of, money_part, number, plain, row_text, searched};
 use crate::tables::Table;
+use caseless::default_case_fold_str;
 use serde_json::Value;
 use shop_types::{CustomerNo, FilmNo};
 use std::alloc::{AllocError, Global};
@@ -25,7 +26,7 @@ fn is_left_out(p: u8, t: u8) -> bool
     t == b'-' && p != b'-'
 }
 
-/// Reports whether the text begins with the part, in any case of ASCII letters. The part may leave out hyphens.
+/// Reports whether the text begins with the part. The part may leave out hyphens.
 fn begins_with(text: &[u8], part: &[u8]) -> bool
     ensures { result ≡ begins_with part.now text.now }
 {
@@ -35,7 +36,7 @@ fn begins_with(text: &[u8], part: &[u8]) -> bool
             return true;
         };
         if !is_left_out(*p, *t) {
-            if !p.eq_ignore_ascii_case(t) {
+            if *p != *t {
                 return false;
             }
             left = rest;
@@ -44,7 +45,7 @@ fn begins_with(text: &[u8], part: &[u8]) -> bool
     left.is_empty()
 }
 
-/// Reports whether the text contains the part, in any case of ASCII letters.
+/// Reports whether the text contains the part.
 #[tactic(auto, using(crate::proofs::ListLemmas::stands_here, crate::proofs::ListLemmas::nothing_stands))]
 fn stands_in(text: &[u8], part: &[u8]) -> bool
     ensures { result ≡ stands_in part.now text.now }
@@ -57,47 +58,71 @@ fn stands_in(text: &[u8], part: &[u8]) -> bool
     part.is_empty()
 }
 
-/// Reports whether the object's text of this name contains the part.
-fn stands_at(value: &Value, name: &str, part: &str) -> bool
-    ensures { result ≡ stands_at name.now part.now (view value.now) }
+/// Returns the text without upper and lower case.
+fn folded(alloc: Global, text: &str) -> Result<String, AllocError>
+    ensures { IfOk result (λ s. string_bytes s ≡ folded text.now) }
 {
-    match text_at(value, name) {
-        Some(text) => stands_in(text.as_bytes(), part.as_bytes()),
-        None => false,
+    default_case_fold_str(alloc, text)
+}
+
+/// Returns the object's text of the field without upper and lower case, if the field is searched and the object has it.
+fn searched_text(alloc: Global, value: &Value, field: &Part) -> Result<Option<String>, AllocError>
+    ensures { IfOk result (λ text. option_map string_bytes text ≡ searched_text (view value.now) field.now) }
+{
+    if !field.is_searched {
+        return Ok(None);
+    }
+    match text_at(value, field.name) {
+        Some(text) => Ok(Some(folded(alloc, text)?)),
+        None => Ok(None),
     }
 }
 
-/// Reports whether the field's text is searched, and contains the part.
-fn has_field(value: &Value, field: &Part, part: &str) -> bool
-    ensures { result ≡ has_field part.now (view value.now) field.now }
+/// Returns the object's searched texts without upper and lower case.
+fn searched_texts(alloc: Global, value: &Value, parts: &[Part]) -> Result<Vec<String>, AllocError>
+    ensures { IfOk result (λ texts. map string_bytes texts.items ≡ searched_texts parts.now (view value.now)) }
 {
-    field.is_searched && stands_at(value, field.name, part)
+    let mut texts = Vec::new(alloc);
+    for part in parts {
+        if let Some(text) = searched_text(alloc, value, part)? {
+            texts.push(text)?;
+        }
+    }
+    Ok(texts)
 }
 
-/// Reports whether one of the object's searched texts contains the part.
-fn is_found(value: &Value, parts: &[Part], part: &str) -> bool
-    ensures { result ≡ is_found part.now parts.now (view value.now) }
+/// Reports whether one of the texts contains the part.
+fn is_found(texts: &[String], part: &str) -> bool
+    ensures { result ≡ is_found (map string_bytes texts.now) part.now }
 {
-    for it in parts {
-        if has_field(value, it, part) {
+    for text in texts {
+        if stands_in(text.as_bytes(), part.as_bytes()) {
             return true;
         }
     }
     part.is_empty()
 }
 
-/// Reports whether each word of the text is found in the object. Commas separate the words.
-fn are_found(value: &Value, parts: &[Part], text: &str) -> bool
-    ensures { result ≡ are_found text.now parts.now (view value.now) }
+/// Reports whether each word is found in the texts. Commas separate the words.
+fn are_found(texts: &[String], words: &str) -> bool
+    ensures { result ≡ are_found (map string_bytes texts.now) words.now }
 {
-    text.split(',').all(|word| is_found(value, parts, word))
+    words.split(',').all(|word| is_found(texts, word))
 }
 
-/// Reports whether each word of the text is found in the object. Blanks and commas separate the words.
-fn is_sought(value: &Value, parts: &[Part], text: &str) -> bool
-    ensures { result ≡ is_sought text.now parts.now (view value.now) }
+/// Reports whether each word is found in the texts. Blanks and commas separate the words.
+fn is_sought(texts: &[String], words: &str) -> bool
+    ensures { result ≡ is_sought (map string_bytes texts.now) words.now }
 {
-    text.split(' ').all(|piece| are_found(value, parts, piece))
+    words.split(' ').all(|piece| are_found(texts, piece))
+}
+
+/// Reports whether each word is found in the object.
+fn has_words(alloc: Global, value: &Value, parts: &[Part], words: &str) -> Result<bool, AllocError>
+    ensures { IfOk result (λ has. has ≡ has_words words.now parts.now (view value.now)) }
+{
+    let texts = searched_texts(alloc, value, parts)?;
+    Ok(is_sought(texts.as_slice(), words))
 }
 
 /// Adds the object's row to the table.
@@ -125,7 +150,8 @@ fn add_found(
     ensures other { IfErr result (λ fault. fault ≡ OtherForm
         → found_rows parts.now part.now (view value.now ∷ []) ≡ None) }
 {
-    if is_sought(value, parts, part) {
+    let is_sought = has_words(alloc, value, parts, part)?;
+    if is_sought {
         return add_row(alloc, value, parts, table);
     }
     Ok(())
@@ -209,13 +235,15 @@ fn customer_parts() -> [Part; 6]
 }
 
 /// Returns the table of the customers whose name or telephone number contains each word of the part, from the body of
-/// `GET /views/customer_list`. Blanks and commas separate the words, which may be in any order. Ignores the case of
-/// ASCII letters, and hyphens that a word leaves out. Keeps the order of the list. Each text contains an empty word.
+/// `GET /views/customer_list`. Blanks and commas separate the words, which may be in any order. Ignores upper and lower
+/// case of any script, and hyphens that a word leaves out. Keeps the order of the list. Each text contains an empty word.
 pub fn customers_with(alloc: Global, body: &[u8], part: &str) -> Result<Table, NotShown>
-    ensures shown { IfOk result (λ table. table_in customer_fields part.now body.now ≡ Some table) }
-    ensures other { IfErr result (λ fault. fault ≡ OtherForm → table_in customer_fields part.now body.now ≡ None) }
+    ensures shown { IfOk result (λ table. table_in customer_fields (folded part.now) body.now ≡ Some table) }
+    ensures other { IfErr result (λ fault. fault ≡ OtherForm
+        → table_in customer_fields (folded part.now) body.now ≡ None) }
 {
-    table_of(alloc, body, customer_parts().as_slice(), part)
+    let part = folded(alloc, part)?;
+    table_of(alloc, body, customer_parts().as_slice(), part.as_str())
 }
 
 fn film_parts() -> [Part; 5]
@@ -231,13 +259,14 @@ fn film_parts() -> [Part; 5]
 }
 
 /// Returns the table of the films whose title contains each word of the part, from the body of `GET /views/film_list`.
-/// Blanks and commas separate the words, which may be in any order. Ignores the case of ASCII letters, and hyphens that
-/// a word leaves out. Keeps the order of the list. Each text contains an empty word.
+/// Blanks and commas separate the words, which may be in any order. Ignores upper and lower case of any script, and
+/// hyphens that a word leaves out. Keeps the order of the list. Each text contains an empty word.
 pub fn films_with(alloc: Global, body: &[u8], part: &str) -> Result<Table, NotShown>
-    ensures shown { IfOk result (λ table. table_in film_fields part.now body.now ≡ Some table) }
-    ensures other { IfErr result (λ fault. fault ≡ OtherForm → table_in film_fields part.now body.now ≡ None) }
+    ensures shown { IfOk result (λ table. table_in film_fields (folded part.now) body.now ≡ Some table) }
+    ensures other { IfErr result (λ fault. fault ≡ OtherForm → table_in film_fields (folded part.now) body.now ≡ None) }
 {
-    table_of(alloc, body, film_parts().as_slice(), part)
+    let part = folded(alloc, part)?;
+    table_of(alloc, body, film_parts().as_slice(), part.as_str())
 }
 
 fn overdue_parts() -> [Part; 3]

@@ -158,6 +158,28 @@ pub day_of_both : till_line_of (codes "day" ∷ codes "2026-03-09" ∷ codes "--
 unfolding clap_on_literals read_of till_line_of
 day_of_both = refl
 
+-- ---- the day, what is entered once more, and the slip
+
+pub today_is_said : till_line_of (codes "today" ∷ codes "2026-03-09" ∷ []) ≡ Some (line (till.Today (codes "2026-03-09")))
+unfolding clap_on_literals read_of till_line_of
+today_is_said = refl
+
+pub today_of_no_day : till_line_of (codes "today" ∷ []) ≡ None
+unfolding clap_on_literals read_of till_line_of
+today_of_no_day = refl
+
+pub again_alone : till_line_of (codes "again" ∷ []) ≡ Some (line (till.Again false))
+unfolding clap_on_literals read_of till_line_of
+again_alone = refl
+
+pub again_of_another_day : till_line_of (codes "again" ∷ codes "--late" ∷ []) ≡ Some (line (till.Again true))
+unfolding clap_on_literals read_of till_line_of
+again_of_another_day = refl
+
+pub last_slip : till_line_of (codes "slip" ∷ []) ≡ Some (line till.Slip)
+unfolding clap_on_literals read_of till_line_of
+last_slip = refl
+
 -- ---- lines of a prompt
 
 pub quoted_blanks : words_of (codes "join IDA \"10 High St\"") ≡ Some (codes "join" ∷ codes "IDA" ∷ codes "10 High St" ∷ [])

@@ -189,8 +189,11 @@ act_of office name rows = if bytes_eq name (codes "waiting") then Some till.Wait
     else (if bytes_eq name (codes "send") then Some till.Send
     else (if bytes_eq name (codes "last") then option_map till.Last (row_given (codes "count") rows)
     else (if bytes_eq name (codes "day") then option_map till.Day (drawer_of rows)
+    else (if bytes_eq name (codes "today") then option_map till.Today (text_given 10 10 (codes "date") rows)
+    else (if bytes_eq name (codes "again") then Some (till.Again (flag_given (codes "late") rows))
+    else (if bytes_eq name (codes "slip") then Some till.Slip
     else (if bytes_eq name (codes "help") then Some till.Help
     else (if bytes_eq name (codes "init") then option_map till.Init (beginning_of rows)
     else (if bytes_eq name (codes "zone") then option_map till.Zone (text_given 1 60 (codes "name") rows)
     else (if bytes_eq name (codes "office") then Some (till.Office office)
-    else counter_act_of name rows)))))))
+    else counter_act_of name rows))))))))))

@@ -83,6 +83,12 @@ last_shape = word_shape (codes "last") (default_row_rule (codes "count") (codes 
 abbrev pub day_shape : Shape
 day_shape = word_shape (codes "day") (optional_rule (codes "date") ∷ optional_rule (codes "count") ∷ [])
 
+abbrev pub today_shape : Shape
+today_shape = word_shape (codes "today") (text_rule (codes "date") ∷ [])
+
+abbrev pub again_shape : Shape
+again_shape = word_shape (codes "again") (flag_rule (codes "late") ∷ [])
+
 abbrev pub init_shape : Shape
 init_shape = word_shape (codes "init")
     (text_rule (codes "address") ∷ text_rule (codes "token") ∷ optional_row_rule (codes "staff") ∷ flag_rule (codes "office")
@@ -110,8 +116,8 @@ listed_shapes = word_shape (codes "overdue") [] ∷ word_shape (codes "arrivals"
     ∷ rewards_shape ∷ word_shape (codes "sales") [] ∷ []
 
 abbrev pub till_shapes : List Shape
-till_shapes = word_shape (codes "waiting") [] ∷ word_shape (codes "send") [] ∷ last_shape ∷ day_shape ∷ word_shape (codes "help") []
-    ∷ init_shape ∷ zone_shape ∷ word_shape (codes "office") [] ∷ []
+till_shapes = word_shape (codes "waiting") [] ∷ word_shape (codes "send") [] ∷ last_shape ∷ day_shape ∷ today_shape ∷ again_shape
+    ∷ word_shape (codes "slip") [] ∷ word_shape (codes "help") [] ∷ init_shape ∷ zone_shape ∷ word_shape (codes "office") [] ∷ []
 
 -- the command line before its words
 abbrev pub top_app : App

@@ -1,4 +1,4 @@
--- Values in their places: the name of its option is put before each value.
+-- Values that are given by their places: each gets the name of its option before it.
 use Rattle.std.specs.Prelude.{ℕ, suc, ◌==◌, ◌&&◌, ◌||◌, Bool, false, not, List, [], ◌∷◌, ◌++◌, length, take, drop, filter, codes, if◌then◌else◌}
 use Rattle.std.specs.List.{list_any, starts_with, before_first}
 use Rattle.std.specs.Str.{bytes_eq}
@@ -17,7 +17,7 @@ option_name word = before_first (λ b. b == 61) word
 
 -- the options without a value
 abbrev pub is_flag : Text → Bool
-is_flag word = bytes_eq word (codes "--json") || (bytes_eq word (codes "--office") || bytes_eq word (codes "--yes"))
+is_flag word = bytes_eq word (codes "--json") || (bytes_eq word (codes "--office") || (bytes_eq word (codes "--yes") || bytes_eq word (codes "--late")))
 
 -- an option whose value is the next word
 abbrev pub awaits_value : Text → Bool
@@ -40,7 +40,8 @@ till_places word = if bytes_eq word (codes "rewards") then codes "--purchases" �
     else (if bytes_eq word (codes "day") then codes "--date" ∷ []
     else (if bytes_eq word (codes "init") then codes "--address" ∷ codes "--token" ∷ []
     else (if bytes_eq word (codes "zone") then codes "--name" ∷ []
-    else []))))
+    else (if bytes_eq word (codes "today") then codes "--date" ∷ []
+    else [])))))
 
 abbrev pub found_places : Text → List Text
 found_places word = if bytes_eq word (codes "customer") then find_place

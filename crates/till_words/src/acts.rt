@@ -345,6 +345,11 @@ pub(crate) fn act(
         "send" => Ok(TillAct::Send),
         "last" => Ok(TillAct::Last(given::of_kind(alloc, count(given, "count"), NUMBER)?)),
         "day" => Ok(TillAct::Day(days::drawer(alloc, given)?)),
+        "today" => Ok(TillAct::Today(given::text(alloc, given, "date")?)),
+        "again" => Ok(TillAct::Again {
+            late: given::flag(given, "late"),
+        }),
+        "slip" => Ok(TillAct::Slip),
         "help" => Ok(TillAct::Help),
         "init" => Ok(TillAct::Init(beginning(alloc, given)?)),
         "zone" => Ok(TillAct::Zone(given::text(alloc, given, "name")?)),

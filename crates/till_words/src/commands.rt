@@ -42,7 +42,7 @@ pub(crate) fn top_word() -> Subcommand
 }
 
 /// The words, in the order in which help lists them.
-pub(crate) static SUBCOMMANDS: [Subcommand; 29] = [
+pub(crate) static SUBCOMMANDS: [Subcommand; 32] = [
     // ---- at the counter
     Subcommand {
         name: "rent",
@@ -236,6 +236,27 @@ pub(crate) static SUBCOMMANDS: [Subcommand; 29] = [
         usage: "day, or day --count AMOUNT, or day DATE",
         example: "day --count 412.50",
         options: &[("date", Kind::OptionalText), ("count", Kind::OptionalText)],
+    },
+    Subcommand {
+        name: "today",
+        about: "Say which day it is, before a day's first word: today 2026-03-09",
+        usage: "today DATE",
+        example: "today 2026-03-09",
+        options: &[("date", Kind::Text)],
+    },
+    Subcommand {
+        name: "again",
+        about: "Enter once more what came with an earlier moment than another's: again, or again --late",
+        usage: "again, or again --late",
+        example: "again",
+        options: &[("late", Kind::Flag)],
+    },
+    Subcommand {
+        name: "slip",
+        about: "Show the last slip once more",
+        usage: "slip",
+        example: "slip",
+        options: &[],
     },
     Subcommand {
         name: "help",

@@ -29,7 +29,7 @@ pub(crate) fn option_name(word: &str) -> &str
 fn is_flag(word: &str) -> bool
     ensures { result ≡ spec.is_flag word.now }
 {
-    word == "--json" || word == "--office" || word == "--yes"
+    word == "--json" || word == "--office" || word == "--yes" || word == "--late"
 }
 
 /// Reports whether the word is an option whose value is the next word.

@@ -12,6 +12,7 @@ fn till_places(word: &str) -> &'static [&'static str]
         "day" => &["--date"],
         "init" => &["--address", "--token"],
         "zone" => &["--name"],
+        "today" => &["--date"],
         _ => &[],
     }
 }

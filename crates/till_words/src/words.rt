@@ -112,6 +112,13 @@ pub enum TillAct {
     Last(u32),
     /// To show what is in the drawer, or to close it.
     Day(Drawer),
+    /// To say that this is today's date.
+    Today(DayText),
+    /// To enter once more what was refused since another moment was later. Rents and returns of another day only if
+    /// `late`.
+    Again { late: bool },
+    /// To show the last slip once more.
+    Slip,
     Help,
     /// To set the book's zone.
     Zone(ZoneText),

@@ -177,3 +177,61 @@ returns-in_err-is_answered-clause-unanswered g c clean lacking =
     stays_both (state g.S.Store c.args.conn.now) (state g.S.Store c.read.new.conn)
     (state g.S.Store c.plan_of.new.conn) (c.read.ensures.stays (c.plan_of.ensures.clean clean))
     (c.plan_of.ensures.stays clean)
+
+-- ---- today's date
+
+pub returns-in_err-dated_if-clause-keeps : goal.returns-in_err-dated_if-clause-keeps
+returns-in_err-dated_if-clause-keeps g c clean kept branch =
+    stays_keeps _ c.args.desk.now.settings.now.mark (state g.S.Store c.args.conn.now) (state g.S.Store c.plan_of.new.conn)
+    (stays_both (state g.S.Store c.args.conn.now) (state g.S.Store c.read.new.conn)
+    (state g.S.Store c.plan_of.new.conn) (c.read.ensures.stays (c.plan_of.ensures.clean clean))
+    (c.plan_of.ensures.stays clean))
+
+pub returns-in_err-dated_if-clause-office : goal.returns-in_err-dated_if-clause-office
+returns-in_err-dated_if-clause-office g c clean kept office =
+    stays_grows _ (state g.S.Store c.args.conn.now) (state g.S.Store c.plan_of.new.conn)
+    (stays_both (state g.S.Store c.args.conn.now) (state g.S.Store c.read.new.conn)
+    (state g.S.Store c.plan_of.new.conn) (c.read.ensures.stays (c.plan_of.ensures.clean clean))
+    (c.plan_of.ensures.stays clean))
+
+pub returns-in_err-dated_if-clause-others : goal.returns-in_err-dated_if-clause-others
+returns-in_err-dated_if-clause-others g c other = absurd (other c.in_ok-plan.ensures.own)
+
+pub returns-in_err-dated_if-clause-stays : goal.returns-in_err-dated_if-clause-stays
+returns-in_err-dated_if-clause-stays g c clean other = absurd (other c.in_ok-plan.ensures.own)
+
+pub returns-in_err-dated_if-clause-foreign : goal.returns-in_err-dated_if-clause-foreign
+returns-in_err-dated_if-clause-foreign g c clean enters for other =
+    let read = c.plan_of.ensures.clean clean in
+    absurd (other (own_book c.args.desk.now.settings.now.mark c.in_ok-book.book.is_own
+    (state g.S.Store c.args.conn.now) (c.in_ok-book.ensures.marked read) (c.in_ok-plan.ensures.marked enters)))
+
+pub returns-in_err-dated_if-clause-untouched : goal.returns-in_err-dated_if-clause-untouched
+returns-in_err-dated_if-clause-untouched g c clean enters other =
+    stays_both (state g.S.Store c.args.conn.now) (state g.S.Store c.read.new.conn)
+    (state g.S.Store c.plan_of.new.conn) (c.read.ensures.stays (c.plan_of.ensures.clean clean))
+    (c.plan_of.ensures.stays clean)
+
+pub returns-in_err-dated_if-clause-unanswered : goal.returns-in_err-dated_if-clause-unanswered
+returns-in_err-dated_if-clause-unanswered g c clean lacking =
+    stays_both (state g.S.Store c.args.conn.now) (state g.S.Store c.read.new.conn)
+    (state g.S.Store c.plan_of.new.conn) (c.read.ensures.stays (c.plan_of.ensures.clean clean))
+    (c.plan_of.ensures.stays clean)
+
+pub returns-in_err-plan-clause-undated : goal.returns-in_err-plan-clause-undated
+returns-in_err-plan-clause-undated g c clean enters lacking =
+    stays_both (state g.S.Store c.args.conn.now) (state g.S.Store c.read.new.conn)
+    (state g.S.Store c.plan_of.new.conn) (c.read.ensures.stays (c.plan_of.ensures.clean clean))
+    (c.plan_of.ensures.stays clean)
+
+pub returns-in_err-dated_if-clause-undated : goal.returns-in_err-dated_if-clause-undated
+returns-in_err-dated_if-clause-undated g c clean enters lacking =
+    stays_both (state g.S.Store c.args.conn.now) (state g.S.Store c.read.new.conn)
+    (state g.S.Store c.plan_of.new.conn) (c.read.ensures.stays (c.plan_of.ensures.clean clean))
+    (c.plan_of.ensures.stays clean)
+
+pub returns-in_err-is_answered-clause-undated : goal.returns-in_err-is_answered-clause-undated
+returns-in_err-is_answered-clause-undated g c clean enters lacking =
+    stays_both (state g.S.Store c.args.conn.now) (state g.S.Store c.read.new.conn)
+    (state g.S.Store c.plan_of.new.conn) (c.read.ensures.stays (c.plan_of.ensures.clean clean))
+    (c.plan_of.ensures.stays clean)

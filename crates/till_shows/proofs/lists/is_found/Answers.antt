@@ -1,21 +1,11 @@
-use Rattle.std.proofs.Common.{◌∙◌, sym}
-use Rattle.serde_json.specs.View.{view}
-use Rattle.till_shows.proofs.ListLemmas.{found_here, found_later, nothing_found}
+use Rattle.std.proofs.Common.{◌≡◌, ◌∙◌, false, sym, string_bytes}
+use Rattle.till_shows.specs.Lists.{stands_in}
+use Rattle.till_shows.proofs.ListLemmas.{front_of, found_later}
 use Rattle.till_shows.proofs.lists.is_found.Goals as goal
 
-pub loop-it-preserved : goal.loop-it-preserved
-loop-it-preserved c =
-    sym (found_later c.args.part.now c.args.parts.now (view c.args.value.now) c.loop-it.it-index
-    c.it-item.result c.loop-it-test.true c.it-item.is (sym c.has_field.ensures ∙ c.if-has_field.false))
-    ∙ c.loop-it.invariant
-
-pub returns-then-has_field : goal.returns-then-has_field
-returns-then-has_field c =
-    sym (sym c.loop-it.invariant
-    ∙ found_here c.args.part.now c.args.parts.now (view c.args.value.now) c.loop-it.it-index
-    c.it-item.result c.loop-it-test.true c.it-item.is (sym c.has_field.ensures ∙ c.if-has_field.true))
-
-pub returns : goal.returns
-returns c =
-    c.is_empty.ensures ∙ sym (nothing_found c.args.part.now c.args.parts.now (view c.args.value.now) c.loop-it.it-index c.loop-it-test.false)
-    ∙ c.loop-it.invariant
+pub loop-text-preserved : goal.loop-text-preserved
+loop-text-preserved c =
+    let no : stands_in c.args.part.now (string_bytes c.text-item.result) ≡ false = cc in
+    sym (found_later c.args.part.now _ _ _
+    (front_of string_bytes c.args.texts.now c.loop-text.text-index c.text-item.result c.loop-text-test.true c.text-item.is) no)
+    ∙ c.loop-text.invariant

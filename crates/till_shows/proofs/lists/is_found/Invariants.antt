@@ -1,8 +1,7 @@
-use Rattle.std.proofs.Common.{◌≡◌, drop}
-use Rattle.serde_json.specs.View.{view}
+use Rattle.std.proofs.Common.{◌≡◌, drop, map, string_bytes}
 use Rattle.till_shows.specs.Lists.{is_found}
 use Rattle.till_shows.proofs.lists.is_found.Given as goal
 
--- no field before this one contains the part
-abbrev pub invariant-loop-it : goal.invariant-loop-it
-invariant-loop-it l = is_found l.part (drop l.it-index l.parts) (view l.value) ≡ is_found l.part l.parts (view l.value)
+-- no text before this one contains the part
+abbrev pub invariant-loop-text : goal.invariant-loop-text
+invariant-loop-text l = is_found (map string_bytes (drop l.text-index l.texts)) l.part ≡ is_found (map string_bytes l.texts) l.part

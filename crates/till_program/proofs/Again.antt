@@ -1,0 +1,89 @@
+-- Acts that are given once more.
+use Rattle.std.proofs.Common.{◌≡◌, ◌∷◌, [], ℕ, zero, suc, List, map, Option, None, Some, Result, Ok, Err, IfOk, subst, ap}
+use Rattle.std.specs.Prelude.{slice_get}
+use Rattle.std.proofs.lemmas.List.Elements.{All-weaker}
+use Rattle.sqlite.specs.State.{State}
+use Rattle.shop_model.specs.Values.{Text}
+use Rattle.shop_model.specs.Answers.{Answer}
+use Rattle.std.specs.List.{All}
+use Rattle.till_book.specs.Journal.{Journal}
+use Rattle.till_book.specs.Ends.{IsReadAfter}
+use Rattle.till_book.specs.declared.lists.BookRows.{BookRows}
+use Rattle.till_book.specs.Steps as book
+use Rattle.till_work.specs.declared.place.Place.{Place}
+use Rattle.till_words.specs.declared.words.TillAct.{TillAct}
+use Rattle.till_words.specs.declared.words.TillAct.TheVariants as typed
+use Rattle.till_program.specs.declared.word.Plan.{Plan}
+use Rattle.till_program.specs.Doing.{IsPlanOf, RepeatsPlan, RepeatsWord}
+use Rattle.till_program.specs.Word.{IsPlaceOf}
+use Rattle.till_program.specs.Again.{IsRefused, IsRefusedIn}
+use Rattle.till_program.specs.declared.refused.Repeat.{Repeat}
+use Rattle.till_program.proofs.GoingOn.{stays_both}
+
+some_same : {A : Type 0} (x y : A) → ◌≡◌ {A = Option A} (Some x) (Some y) → x ≡ y
+some_same x y e = cc
+
+none_some : {A : Type 0} (x : A) → ◌≡◌ {A = Option A} None (Some x) → ⊥
+none_some x e = cc
+
+pub mapped_at : {A B : Type 0} (f : A → B) (xs : List A) (i : ℕ) (x : A) → slice_get xs i ≡ Some x → slice_get (map f xs) i ≡ Some (f x)
+mapped_at f [] i x e = absurd (none_some x e)
+mapped_at {A} {B} f (y ∷ ys) zero x e = ap (λ (it : A). Some (f it)) (some_same y x e)
+mapped_at f (y ∷ ys) (suc i) x e = mapped_at f ys i x e
+
+-- of a result that is no fault, what follows
+pub if_ok_then : {A E : Type 0} (r : Result A E) {P : A → Type 0} {Q R : Type 0} → IfOk r (λ (a : A). P a → Q) → (Q → R) → IfOk r (λ (a : A). P a → R)
+if_ok_then (Ok a) holds follows = λ p. follows (holds p)
+if_ok_then (Err e) holds follows = tt
+
+-- an entry that was refused in front of a look was refused
+each_before : (acts : List Repeat) (old mid : State) → book.Stays old mid → All (IsRefusedIn mid) acts → All (IsRefusedIn old) acts
+each_before acts old mid stays each =
+    All-weaker (IsRefusedIn mid) (IsRefusedIn old) (λ it is journal rests. is journal (stays journal rests)) acts each
+
+-- what was read of the whole book
+pub each_in_book : (acts : List Repeat) (rows : BookRows) (old new : State) → book.Tells (IsReadAfter 0 rows) old new
+    → All (IsRefused rows.entries rows.replies) acts → All (IsRefusedIn old) acts
+each_in_book acts rows old new tells each =
+    All-weaker (IsRefused rows.entries rows.replies) (IsRefusedIn old) (λ it is journal rests. in_journal it is journal (tells journal rests).1) acts each
+  where
+    in_journal : (it : Repeat) → IsRefused rows.entries rows.replies it → (journal : Journal) → IsReadAfter 0 rows journal
+        → IsRefused journal.entries journal.replies it
+    in_journal it is journal read =
+        subst (λ (entries : List (List ℕ)). IsRefused entries journal.replies it) read.entries
+        (subst (λ (replies : List Answer). IsRefused rows.entries replies it) read.replies is)
+
+-- What was repeated of the word's plan was repeated of the word. The plan was made of the book as it was read.
+pub word_repeated :
+    (Tells : List ℕ → Answer → Type 0) (shows : ℕ → Type 0) (mark token : Text) (own : Option ℕ)
+    (word : TillAct) (it : Plan) (place after : Place) (old read mid new : State)
+    → IsPlaceOf place old → book.Stays old read → book.Stays read mid → IsPlanOf read word it
+    → RepeatsPlan Tells shows mark token own it place mid after new → RepeatsWord Tells shows mark token own word old new
+word_repeated Tells shows mark token own (typed.Again late) it place after old read mid new is first second plans repeats =
+    let all = subst (λ (p : Plan). RepeatsPlan Tells shows mark token own p place mid after new) plans repeats in (
+      place,
+      after,
+      is,
+      all.0,
+      each_before all.0 old mid (stays_both old read mid first second) all.1,
+      all.2,
+      all.3,
+      stays_both old mid all.2 (stays_both old read mid first second) all.4,
+      all.5,
+      all.6,
+    )
+word_repeated Tells shows mark token own (typed.Do what) it place after old read mid new is first second plans repeats = tt
+word_repeated Tells shows mark token own (typed.ReturnCopy copy) it place after old read mid new is first second plans repeats = tt
+word_repeated Tells shows mark token own (typed.Office words) it place after old read mid new is first second plans repeats = tt
+word_repeated Tells shows mark token own typed.Send it place after old read mid new is first second plans repeats = tt
+word_repeated Tells shows mark token own (typed.Look look) it place after old read mid new is first second plans repeats = tt
+word_repeated Tells shows mark token own typed.Waiting it place after old read mid new is first second plans repeats = tt
+word_repeated Tells shows mark token own (typed.Last count) it place after old read mid new is first second plans repeats = tt
+word_repeated Tells shows mark token own (typed.Day asked) it place after old read mid new is first second plans repeats = tt
+word_repeated Tells shows mark token own (typed.Today date) it place after old read mid new is first second plans repeats = tt
+word_repeated Tells shows mark token own typed.Slip it place after old read mid new is first second plans repeats = tt
+word_repeated Tells shows mark token own typed.Help it place after old read mid new is first second plans repeats = tt
+word_repeated Tells shows mark token own (typed.Zone name) it place after old read mid new is first second plans repeats = tt
+word_repeated Tells shows mark token own (typed.Init beginning) it place after old read mid new is first second plans repeats = tt
+word_repeated Tells shows mark token own (typed.Import file lot) it place after old read mid new is first second plans repeats = tt
+word_repeated Tells shows mark token own typed.Prompt it place after old read mid new is first second plans repeats = tt
