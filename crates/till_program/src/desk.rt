@@ -131,6 +131,8 @@ impl<K: WallClock, V: Server, L: Shelf> Desk<'_, K, V, L> {
             routes: self.routes,
             settings: self.settings,
             wall: self.wall,
+            sheet: self.sheet,
+            line: self.line,
             staff: Some(staff),
             is_json: self.is_json,
             is_sure: self.is_sure,
