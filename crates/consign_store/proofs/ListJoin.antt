@@ -182,7 +182,7 @@ module _ (tests : List Term) (order : List (Term × Key)) (params : sql.Row) (p 
           (compares (it, Some x) (it, Some y) ∙ (λ i. ordering_then (tied_itself total it i) (ordering_then ((number_cmp x.0 y.0 ∙ less x.0 y.0 h) i) Equal))),
       ap is_lt
           (compares (it, Some y) (it, Some x)
-              ∙ (λ i. ordering_then (tied_itself total it i) (ordering_then ((number_cmp y.0 x.0 ∙ greater x.0 y.0 h) i) Equal))),
+          ∙ (λ i. ordering_then (tied_itself total it i) (ordering_then ((number_cmp y.0 x.0 ∙ greater x.0 y.0 h) i) Equal))),
     )
 
     later_climbs : (a b : ListLine) → Before a.0 b.0 → Up a b
@@ -190,7 +190,7 @@ module _ (tests : List Term) (order : List (Term × Key)) (params : sql.Row) (p 
       ap is_eq (compares a b ∙ ap (λ o. ordering_then o (ordering_then (value_cmp (line_key a) (line_key b)) Equal)) h),
       ap is_lt
           (compares b a
-              ∙ ap (λ o. ordering_then o (ordering_then (value_cmp (line_key b) (line_key a)) Equal)) (total.antisymm b.0 a.0 ∙ ap ordering_reverse h)),
+          ∙ ap (λ o. ordering_then o (ordering_then (value_cmp (line_key b) (line_key a)) Equal)) (total.antisymm b.0 a.0 ∙ ap ordering_reverse h)),
     )
 
     lines_up : (it : Consignment) (ls : List (ℕ × Line)) → IsAscending (λ (x y : ℕ × Line). x.0 < y.0) ls → IsAscending Up (lines_of it ls)

@@ -3,3 +3,4 @@ pub mod WordLaws
 pub mod WordLoop
 pub mod Differences
 pub mod FrameLaws
+pub mod WindowLaws

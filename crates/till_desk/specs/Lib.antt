@@ -1,3 +1,4 @@
 pub mod Frames
 pub mod Reading
 pub mod Settings
+pub mod Windows

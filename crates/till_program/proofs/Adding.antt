@@ -18,7 +18,7 @@ use Rattle.till_program.specs.Word.{IsPlaceOf}
 use Rattle.till_program.specs.declared.word.Plan.{Plan}
 use Rattle.till_program.specs.declared.word.Plan.TheVariants as plan
 use Rattle.till_program.proofs.GoingOn.{stays_both}
-use Rattle.till_program.proofs.Doing.{held_before}
+use Rattle.till_program.proofs.Doing.{returned_before}
 use Rattle.till_requests.specs.Requests.{is_reading}
 use Rattle.till_words.specs.declared.words.TillAct.{TillAct}
 use Rattle.till_words.specs.declared.words.TillAct.TheVariants as typed
@@ -131,26 +131,26 @@ module _ (shows : ℕ → Type 0) (mark token : Text) (giver : Result ℕ TillFa
       (place, adds_nothing shows mark token giver act place place old new (rests_stays place old new stays) journal commands at)
 
   -- of a word at which the book stays
-  pub stays_word : (word : TillAct) (old new : State) → book.Stays old new → EntersWord shows mark token giver word old new
-  stays_word (typed.Do what) old new stays = nothing_word (seen_act what) old new stays
-  stays_word (typed.ReturnCopy copy) old new stays = inl stays
-  stays_word (typed.Office words) old new stays = λ reads. stays
-  stays_word typed.Send old new stays =
+  pub stays_word : (sheet : Text) (word : TillAct) (old new : State) → book.Stays old new → EntersWord shows mark token giver sheet word old new
+  stays_word sheet (typed.Do what) old new stays = nothing_word (seen_act what) old new stays
+  stays_word sheet (typed.ReturnCopy copy) old new stays = inl stays
+  stays_word sheet (typed.Office words) old new stays = λ reads. stays
+  stays_word sheet typed.Send old new stays =
       λ journal commands rests tills.
       let place : Place = record { entries = length journal.entries; replies = length journal.replies } in
       (place, journal, refl, record { rests = stays journal rests; book = tills; entries = refl; replies = refl })
-  stays_word (typed.Again late) old new stays = tt
-  stays_word (typed.Look look) old new stays = stays
-  stays_word typed.Waiting old new stays = stays
-  stays_word (typed.Last count) old new stays = stays
-  stays_word (typed.Day asked) old new stays = stays
-  stays_word (typed.Today date) old new stays = stays
-  stays_word typed.Slip old new stays = stays
-  stays_word typed.Help old new stays = stays
-  stays_word (typed.Zone name) old new stays = stays
-  stays_word (typed.Init beginning) old new stays = stays
-  stays_word (typed.Import file lot) old new stays = stays
-  stays_word typed.Prompt old new stays = stays
+  stays_word sheet (typed.Again late) old new stays = tt
+  stays_word sheet (typed.Look look) old new stays = stays
+  stays_word sheet typed.Waiting old new stays = stays
+  stays_word sheet (typed.Last count) old new stays = stays
+  stays_word sheet (typed.Day asked) old new stays = stays
+  stays_word sheet (typed.Today date) old new stays = stays
+  stays_word sheet typed.Slip old new stays = stays
+  stays_word sheet typed.Help old new stays = stays
+  stays_word sheet (typed.Zone name) old new stays = stays
+  stays_word sheet (typed.Init beginning) old new stays = stays
+  stays_word sheet (typed.Import file lot) old new stays = stays
+  stays_word sheet typed.Prompt old new stays = stays
 
   added_word : (act : Act) (place after : Place) (old mid new : State) → IsPlaceOf place old → book.Stays old mid
       → AddsTries shows mark token giver act place mid after new → AddsWord shows mark token giver act old new
@@ -165,46 +165,46 @@ module _ (shows : ℕ → Type 0) (mark token : Text) (giver : Result ℕ TillFa
   office_stays false words it before old after new same enters is = absurd (false≢true is)
 
   -- What a word's plan enters is what the word enters. The plan was made of the book as it was read.
-  pub word_enters : (word : TillAct) (it : Plan) (place after : Place) (old read mid new : State)
-      → IsPlaceOf place old → book.Stays old read → book.Stays read mid → IsPlanOf read word it
-      → EntersPlan shows mark token giver it place mid after new → EntersWord shows mark token giver word old new
-  word_enters (typed.Do what) it place after old read mid new is first second plans enters =
+  pub word_enters : (sheet : Text) (word : TillAct) (it : Plan) (place after : Place) (old read mid new : State)
+      → IsPlaceOf place old → book.Stays old read → book.Stays read mid → IsPlanOf sheet read word it
+      → EntersPlan shows mark token giver it place mid after new → EntersWord shows mark token giver sheet word old new
+  word_enters sheet (typed.Do what) it place after old read mid new is first second plans enters =
       added_word (seen_act what) place after old mid new is (stays_both old read mid first second)
       (enters_as it (plan.Give what plans.0) place mid after new plans.2 enters)
-  word_enters (typed.ReturnCopy copy) it place after old read mid new is first second plans enters = inr (
+  word_enters sheet (typed.ReturnCopy copy) it place after old read mid new is first second plans enters = inr (
     plans.0,
-    held_before copy plans.0 old read first plans.1,
+    returned_before sheet copy plans.0 old read first plans.1,
     added_word (seen_act (asked.TakeBack plans.0.rental)) place after old mid new is (stays_both old read mid first second)
         (enters_as it (plan.Give (asked.TakeBack plans.0.rental) (Some plans.0.customer)) place mid after new plans.2 enters),
   )
-  word_enters (typed.Office words) it place after old read mid new is first second plans enters =
+  word_enters sheet (typed.Office words) it place after old read mid new is first second plans enters =
       λ reads. stays_both old mid new (stays_both old read mid first second) (office_stays (is_reading words) words it place mid after new plans enters reads)
-  word_enters typed.Send it place after old read mid new is first second plans enters =
+  word_enters sheet typed.Send it place after old read mid new is first second plans enters =
       λ journal commands rests tills.
       let counted = is journal rests in
       let stays = stays_both old read mid first second in
       (after, enters_as it plan.Send place mid after new plans enters journal commands
           (record { rests = stays journal rests; book = tills; entries = counted.0; replies = counted.1 }))
-  word_enters (typed.Again late) it place after old read mid new is first second plans enters = tt
-  word_enters (typed.Look look) it place after old read mid new is first second plans enters =
+  word_enters sheet (typed.Again late) it place after old read mid new is first second plans enters = tt
+  word_enters sheet (typed.Look look) it place after old read mid new is first second plans enters =
       stays_both old mid new (stays_both old read mid first second) (enters_as it (plan.Look look) place mid after new plans enters)
-  word_enters typed.Waiting it place after old read mid new is first second plans enters =
+  word_enters sheet typed.Waiting it place after old read mid new is first second plans enters =
       stays_both old mid new (stays_both old read mid first second) (enters_as it plan.Waiting place mid after new plans enters)
-  word_enters (typed.Last count) it place after old read mid new is first second plans enters =
+  word_enters sheet (typed.Last count) it place after old read mid new is first second plans enters =
       stays_both old mid new (stays_both old read mid first second) (enters_as it (plan.Last count) place mid after new plans enters)
-  word_enters (typed.Day asked) it place after old read mid new is first second plans enters =
+  word_enters sheet (typed.Day asked) it place after old read mid new is first second plans enters =
       stays_both old mid new (stays_both old read mid first second) (enters_as it (plan.Day asked) place mid after new plans enters)
-  word_enters (typed.Today date) it place after old read mid new is first second plans enters =
+  word_enters sheet (typed.Today date) it place after old read mid new is first second plans enters =
       stays_both old mid new (stays_both old read mid first second) (enters_as it (plan.Today date) place mid after new plans enters)
-  word_enters typed.Slip it place after old read mid new is first second plans enters =
+  word_enters sheet typed.Slip it place after old read mid new is first second plans enters =
       stays_both old mid new (stays_both old read mid first second) (enters_as it plan.Slip place mid after new plans enters)
-  word_enters typed.Help it place after old read mid new is first second plans enters =
+  word_enters sheet typed.Help it place after old read mid new is first second plans enters =
       stays_both old mid new (stays_both old read mid first second) (enters_as it plan.Usage place mid after new plans enters)
-  word_enters (typed.Zone name) it place after old read mid new is first second plans enters =
+  word_enters sheet (typed.Zone name) it place after old read mid new is first second plans enters =
       stays_both old mid new (stays_both old read mid first second) (enters_as it plan.Usage place mid after new plans enters)
-  word_enters (typed.Init beginning) it place after old read mid new is first second plans enters =
+  word_enters sheet (typed.Init beginning) it place after old read mid new is first second plans enters =
       stays_both old mid new (stays_both old read mid first second) (enters_as it plan.Usage place mid after new plans enters)
-  word_enters (typed.Import file lot) it place after old read mid new is first second plans enters =
+  word_enters sheet (typed.Import file lot) it place after old read mid new is first second plans enters =
       stays_both old mid new (stays_both old read mid first second) (enters_as it plan.Usage place mid after new plans enters)
-  word_enters typed.Prompt it place after old read mid new is first second plans enters =
+  word_enters sheet typed.Prompt it place after old read mid new is first second plans enters =
       stays_both old mid new (stays_both old read mid first second) (enters_as it plan.Usage place mid after new plans enters)

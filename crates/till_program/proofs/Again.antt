@@ -56,10 +56,10 @@ each_in_book acts rows old new tells each =
 -- What was repeated of the word's plan was repeated of the word. The plan was made of the book as it was read.
 pub word_repeated :
     (Tells : List ℕ → Answer → Type 0) (shows : ℕ → Type 0) (mark token : Text) (own : Option ℕ)
-    (word : TillAct) (it : Plan) (place after : Place) (old read mid new : State)
-    → IsPlaceOf place old → book.Stays old read → book.Stays read mid → IsPlanOf read word it
+    (sheet : Text) (word : TillAct) (it : Plan) (place after : Place) (old read mid new : State)
+    → IsPlaceOf place old → book.Stays old read → book.Stays read mid → IsPlanOf sheet read word it
     → RepeatsPlan Tells shows mark token own it place mid after new → RepeatsWord Tells shows mark token own word old new
-word_repeated Tells shows mark token own (typed.Again late) it place after old read mid new is first second plans repeats =
+word_repeated Tells shows mark token own sheet (typed.Again late) it place after old read mid new is first second plans repeats =
     let all = subst (λ (p : Plan). RepeatsPlan Tells shows mark token own p place mid after new) plans repeats in (
       place,
       after,
@@ -72,18 +72,18 @@ word_repeated Tells shows mark token own (typed.Again late) it place after old r
       all.5,
       all.6,
     )
-word_repeated Tells shows mark token own (typed.Do what) it place after old read mid new is first second plans repeats = tt
-word_repeated Tells shows mark token own (typed.ReturnCopy copy) it place after old read mid new is first second plans repeats = tt
-word_repeated Tells shows mark token own (typed.Office words) it place after old read mid new is first second plans repeats = tt
-word_repeated Tells shows mark token own typed.Send it place after old read mid new is first second plans repeats = tt
-word_repeated Tells shows mark token own (typed.Look look) it place after old read mid new is first second plans repeats = tt
-word_repeated Tells shows mark token own typed.Waiting it place after old read mid new is first second plans repeats = tt
-word_repeated Tells shows mark token own (typed.Last count) it place after old read mid new is first second plans repeats = tt
-word_repeated Tells shows mark token own (typed.Day asked) it place after old read mid new is first second plans repeats = tt
-word_repeated Tells shows mark token own (typed.Today date) it place after old read mid new is first second plans repeats = tt
-word_repeated Tells shows mark token own typed.Slip it place after old read mid new is first second plans repeats = tt
-word_repeated Tells shows mark token own typed.Help it place after old read mid new is first second plans repeats = tt
-word_repeated Tells shows mark token own (typed.Zone name) it place after old read mid new is first second plans repeats = tt
-word_repeated Tells shows mark token own (typed.Init beginning) it place after old read mid new is first second plans repeats = tt
-word_repeated Tells shows mark token own (typed.Import file lot) it place after old read mid new is first second plans repeats = tt
-word_repeated Tells shows mark token own typed.Prompt it place after old read mid new is first second plans repeats = tt
+word_repeated Tells shows mark token own sheet (typed.Do what) it place after old read mid new is first second plans repeats = tt
+word_repeated Tells shows mark token own sheet (typed.ReturnCopy copy) it place after old read mid new is first second plans repeats = tt
+word_repeated Tells shows mark token own sheet (typed.Office words) it place after old read mid new is first second plans repeats = tt
+word_repeated Tells shows mark token own sheet typed.Send it place after old read mid new is first second plans repeats = tt
+word_repeated Tells shows mark token own sheet (typed.Look look) it place after old read mid new is first second plans repeats = tt
+word_repeated Tells shows mark token own sheet typed.Waiting it place after old read mid new is first second plans repeats = tt
+word_repeated Tells shows mark token own sheet (typed.Last count) it place after old read mid new is first second plans repeats = tt
+word_repeated Tells shows mark token own sheet (typed.Day asked) it place after old read mid new is first second plans repeats = tt
+word_repeated Tells shows mark token own sheet (typed.Today date) it place after old read mid new is first second plans repeats = tt
+word_repeated Tells shows mark token own sheet typed.Slip it place after old read mid new is first second plans repeats = tt
+word_repeated Tells shows mark token own sheet typed.Help it place after old read mid new is first second plans repeats = tt
+word_repeated Tells shows mark token own sheet (typed.Zone name) it place after old read mid new is first second plans repeats = tt
+word_repeated Tells shows mark token own sheet (typed.Init beginning) it place after old read mid new is first second plans repeats = tt
+word_repeated Tells shows mark token own sheet (typed.Import file lot) it place after old read mid new is first second plans repeats = tt
+word_repeated Tells shows mark token own sheet typed.Prompt it place after old read mid new is first second plans repeats = tt

@@ -1,5 +1,6 @@
 -- What a word did.
 use Rattle.std.proofs.Common.{◌≡◌, ◌∙◌, ◌≤◌, ◌++◌, ℕ, Bool, true, false, List, Option, None, Some, Result, Ok, Err, OnOk, IfErr, length, sym, subst, refl}
+use Rattle.std.proofs.Common.{inl, inr}
 use Rattle.std.specs.Prelude.{if◌then◌else◌, IsTrue}
 use Rattle.std.proofs.lemmas.Bool.{false≢true}
 use Rattle.sqlite.specs.State.{State}
@@ -20,7 +21,8 @@ use Rattle.till_requests.specs.Requests.{is_reading}
 use Rattle.till_program.specs.declared.fault.TillFault.{TillFault}
 use Rattle.till_program.specs.declared.word.Plan.{Plan}
 use Rattle.till_program.specs.declared.word.Plan.TheVariants as plan
-use Rattle.till_program.specs.Word.{IsPlaceOf, IsHeldIn, SendsAll}
+use Rattle.till_program.specs.Word.{IsPlaceOf, SendsAll}
+use Rattle.till_program.specs.Returns.{IsReturned}
 use Rattle.till_program.specs.Giving.{Gives, GivesAct}
 use Rattle.till_program.specs.Doing.{IsPlanOf, IsCarriedOut, GivesWord, SendsWord, DoesWord}
 use Rattle.till_program.proofs.GoingOn.{stays_both}
@@ -47,8 +49,10 @@ carried_out r Tells shows mark token giver it other before old after new same do
     subst (λ (p : Plan). OnOk r (IsCarriedOut Tells shows mark token giver p before old after new)) (sym same) done
 
 -- what the book is read for stays so in front of a look
-pub held_before : (copy : ℕ) (held : HeldRental) (old new : State) → book.Stays old new → IsHeldIn copy held new → IsHeldIn copy held old
-held_before copy held old new stays is journal rests = is journal (stays journal rests)
+pub returned_before : (sheet : Text) (copy : ℕ) (held : HeldRental) (old new : State) → book.Stays old new
+    → IsReturned sheet copy held new → IsReturned sheet copy held old
+returned_before sheet copy held old new stays (inl is) = inl (λ journal rests. is journal (stays journal rests))
+returned_before sheet copy held old new stays (inr is) = inr ((λ journal rests. is.0 journal (stays journal rests)), is.1)
 
 module _ (Tells : List ℕ → Answer → Type 0) where
   -- ---- what waited was sent
@@ -149,42 +153,42 @@ module _ (Tells : List ℕ → Answer → Type 0) where
     reading_stays false words it before old after new same done is = absurd (false≢true is)
 
     -- What was carried out of the word's plan is the word. The plan was made of the book as it was read.
-    pub word_done : (word : TillAct) (it : Plan) (place after : Place) (old read mid new : State)
-        → IsPlaceOf place old → book.Stays old read → book.Stays read mid → IsPlanOf read word it
-        → IsCarriedOut Tells shows mark token giver it place mid after new → DoesWord Tells shows mark token giver word old new
-    word_done (typed.Do what) it place after old read mid new is first second plans done =
+    pub word_done : (sheet : Text) (word : TillAct) (it : Plan) (place after : Place) (old read mid new : State)
+        → IsPlaceOf place old → book.Stays old read → book.Stays read mid → IsPlanOf sheet read word it
+        → IsCarriedOut Tells shows mark token giver it place mid after new → DoesWord Tells shows mark token giver sheet word old new
+    word_done sheet (typed.Do what) it place after old read mid new is first second plans done =
         given_word (seen_act what) place after old mid new is (stays_both old read mid first second)
         (as_planned it (plan.Give what plans.0) place mid after new plans.2 done)
-    word_done (typed.ReturnCopy copy) it place after old read mid new is first second plans done = (
+    word_done sheet (typed.ReturnCopy copy) it place after old read mid new is first second plans done = (
       plans.0,
-      held_before copy plans.0 old read first plans.1,
+      returned_before sheet copy plans.0 old read first plans.1,
       given_word (seen_act (asked.TakeBack plans.0.rental)) place after old mid new is (stays_both old read mid first second)
           (as_planned it (plan.Give (asked.TakeBack plans.0.rental) (Some plans.0.customer)) place mid after new plans.2 done),
     )
-    word_done (typed.Office words) it place after old read mid new is first second plans done =
+    word_done sheet (typed.Office words) it place after old read mid new is first second plans done =
         λ reads. stays_both old mid new (stays_both old read mid first second) (reading_stays (is_reading words) words it place mid after new plans done reads)
-    word_done typed.Send it place after old read mid new is first second plans done =
+    word_done sheet typed.Send it place after old read mid new is first second plans done =
         sent_word place after old mid new is (stays_both old read mid first second) (as_planned it plan.Send place mid after new plans done)
-    word_done (typed.Look look) it place after old read mid new is first second plans done =
+    word_done sheet (typed.Look look) it place after old read mid new is first second plans done =
         stays_both old mid new (stays_both old read mid first second) (as_planned it (plan.Look look) place mid after new plans done)
-    word_done typed.Waiting it place after old read mid new is first second plans done =
+    word_done sheet typed.Waiting it place after old read mid new is first second plans done =
         stays_both old mid new (stays_both old read mid first second) (as_planned it plan.Waiting place mid after new plans done)
-    word_done (typed.Last count) it place after old read mid new is first second plans done =
+    word_done sheet (typed.Last count) it place after old read mid new is first second plans done =
         stays_both old mid new (stays_both old read mid first second) (as_planned it (plan.Last count) place mid after new plans done)
-    word_done (typed.Day asked) it place after old read mid new is first second plans done =
+    word_done sheet (typed.Day asked) it place after old read mid new is first second plans done =
         stays_both old mid new (stays_both old read mid first second) (as_planned it (plan.Day asked) place mid after new plans done)
-    word_done (typed.Today date) it place after old read mid new is first second plans done =
+    word_done sheet (typed.Today date) it place after old read mid new is first second plans done =
         stays_both old mid new (stays_both old read mid first second) (as_planned it (plan.Today date) place mid after new plans done)
-    word_done (typed.Again late) it place after old read mid new is first second plans done = tt
-    word_done typed.Slip it place after old read mid new is first second plans done =
+    word_done sheet (typed.Again late) it place after old read mid new is first second plans done = tt
+    word_done sheet typed.Slip it place after old read mid new is first second plans done =
         stays_both old mid new (stays_both old read mid first second) (as_planned it plan.Slip place mid after new plans done)
-    word_done typed.Help it place after old read mid new is first second plans done =
+    word_done sheet typed.Help it place after old read mid new is first second plans done =
         stays_both old mid new (stays_both old read mid first second) (as_planned it plan.Usage place mid after new plans done)
-    word_done (typed.Zone name) it place after old read mid new is first second plans done =
+    word_done sheet (typed.Zone name) it place after old read mid new is first second plans done =
         stays_both old mid new (stays_both old read mid first second) (as_planned it plan.Usage place mid after new plans done)
-    word_done (typed.Init beginning) it place after old read mid new is first second plans done =
+    word_done sheet (typed.Init beginning) it place after old read mid new is first second plans done =
         stays_both old mid new (stays_both old read mid first second) (as_planned it plan.Usage place mid after new plans done)
-    word_done (typed.Import file lot) it place after old read mid new is first second plans done =
+    word_done sheet (typed.Import file lot) it place after old read mid new is first second plans done =
         stays_both old mid new (stays_both old read mid first second) (as_planned it plan.Usage place mid after new plans done)
-    word_done typed.Prompt it place after old read mid new is first second plans done =
+    word_done sheet typed.Prompt it place after old read mid new is first second plans done =
         stays_both old mid new (stays_both old read mid first second) (as_planned it plan.Usage place mid after new plans done)

@@ -17,7 +17,7 @@ use Rattle.till_words.specs.declared.words.TillAct.TheVariants as typed
 use Rattle.till_program.specs.declared.word.Plan.{Plan}
 use Rattle.till_program.specs.declared.word.Plan.TheVariants as plan
 use Rattle.till_program.specs.Giving.{IsTry}
-use Rattle.till_program.specs.Word.{IsHeldIn}
+use Rattle.till_program.specs.Returns.{IsReturned}
 
 -- each request is a try of the act by its giver, and says the command of its place
 abbrev pub AreTriesBy : (ℕ → Type 0) → Text → Result ℕ TillFault → Act → List (List ℕ) → List Command → Type 0
@@ -78,22 +78,22 @@ KeepsEntries mark old new =
     → (place : Place) × (next : Journal) × (next.entries ≡ journal.entries) × IsAt mark place new next commands
 
 -- What a word enters, whatever becomes of it: tries of the act that was typed, and nothing else. For a copy that comes back they are tries of the return of the
--- register's rental, or there are none. No other word of a branch enters anything, except `again`. Of `again`, and of head office's commands, nothing is said here.
-abbrev pub EntersWord : (ℕ → Type 0) → Text → Text → Result ℕ TillFault → TillAct → State → State → Type 0
-EntersWord shows mark token giver (typed.Do what) old new = AddsWord shows mark token giver (seen_act what) old new
-EntersWord shows mark token giver (typed.ReturnCopy copy) old new =
-    Stays old new ⊎ ((held : HeldRental) × IsHeldIn copy held old × AddsWord shows mark token giver (seen_act (TakeBack held.rental)) old new)
-EntersWord shows mark token giver (typed.Office words) old new = IsTrue (is_reading words) → Stays old new
-EntersWord shows mark token giver typed.Send old new = KeepsEntries mark old new
-EntersWord shows mark token giver (typed.Look look) old new = Stays old new
-EntersWord shows mark token giver typed.Waiting old new = Stays old new
-EntersWord shows mark token giver (typed.Last count) old new = Stays old new
-EntersWord shows mark token giver (typed.Day asked) old new = Stays old new
-EntersWord shows mark token giver (typed.Today date) old new = Stays old new
-EntersWord shows mark token giver (typed.Again late) old new = ⊤
-EntersWord shows mark token giver typed.Slip old new = Stays old new
-EntersWord shows mark token giver typed.Help old new = Stays old new
-EntersWord shows mark token giver (typed.Zone name) old new = Stays old new
-EntersWord shows mark token giver (typed.Init beginning) old new = Stays old new
-EntersWord shows mark token giver (typed.Import file lot) old new = Stays old new
-EntersWord shows mark token giver typed.Prompt old new = Stays old new
+-- register's rental, or of the sheet's, or there are none. No other word of a branch enters anything, except `again`. Of `again`, and of head office's commands, nothing is said here.
+abbrev pub EntersWord : (ℕ → Type 0) → Text → Text → Result ℕ TillFault → Text → TillAct → State → State → Type 0
+EntersWord shows mark token giver sheet (typed.Do what) old new = AddsWord shows mark token giver (seen_act what) old new
+EntersWord shows mark token giver sheet (typed.ReturnCopy copy) old new =
+    Stays old new ⊎ ((held : HeldRental) × IsReturned sheet copy held old × AddsWord shows mark token giver (seen_act (TakeBack held.rental)) old new)
+EntersWord shows mark token giver sheet (typed.Office words) old new = IsTrue (is_reading words) → Stays old new
+EntersWord shows mark token giver sheet typed.Send old new = KeepsEntries mark old new
+EntersWord shows mark token giver sheet (typed.Look look) old new = Stays old new
+EntersWord shows mark token giver sheet typed.Waiting old new = Stays old new
+EntersWord shows mark token giver sheet (typed.Last count) old new = Stays old new
+EntersWord shows mark token giver sheet (typed.Day asked) old new = Stays old new
+EntersWord shows mark token giver sheet (typed.Today date) old new = Stays old new
+EntersWord shows mark token giver sheet (typed.Again late) old new = ⊤
+EntersWord shows mark token giver sheet typed.Slip old new = Stays old new
+EntersWord shows mark token giver sheet typed.Help old new = Stays old new
+EntersWord shows mark token giver sheet (typed.Zone name) old new = Stays old new
+EntersWord shows mark token giver sheet (typed.Init beginning) old new = Stays old new
+EntersWord shows mark token giver sheet (typed.Import file lot) old new = Stays old new
+EntersWord shows mark token giver sheet typed.Prompt old new = Stays old new

@@ -20,32 +20,32 @@ use Rattle.till_program.specs.declared.word.Plan.{Plan}
 use Rattle.till_program.specs.declared.word.Plan.TheVariants as plan
 use Rattle.till_program.specs.Giving.{IsGivenAt, GivesAct}
 use Rattle.till_program.specs.Again.{GivesAll}
-use Rattle.till_program.specs.Word.{IsHeldIn, IsDebtor, IsPlaceOf, SendsAll}
+use Rattle.till_program.specs.Word.{IsDebtor, IsPlaceOf, SendsAll}
+use Rattle.till_program.specs.Returns.{IsReturned}
 
 -- head office's words are read, or entered if they aren't a reading
 abbrev pub office_planned : List Text → Plan
 office_planned words = if is_reading words then plan.ReadOffice words else plan.Office words
 
--- A word has the plan that it asks for. An act is planned as it was typed, and for a return its rental's customer owes. For a copy that comes back, the plan is
--- the
--- return of the register's rental, and then what that rental's customer owes. Head office's words are read or entered, as the first of them asks.
-abbrev pub IsPlanOf : State → TillAct → Plan → Type 0
-IsPlanOf s (typed.Do what) it = (customer : Option ℕ) × IsDebtor what customer s × (it ≡ plan.Give what customer)
-IsPlanOf s (typed.ReturnCopy copy) it = (held : HeldRental) × IsHeldIn copy held s × (it ≡ plan.Give (TakeBack held.rental) (Some held.customer))
-IsPlanOf s (typed.Office words) it = it ≡ office_planned words
-IsPlanOf s typed.Send it = it ≡ plan.Send
-IsPlanOf s (typed.Look look) it = it ≡ plan.Look look
-IsPlanOf s typed.Waiting it = it ≡ plan.Waiting
-IsPlanOf s (typed.Last count) it = it ≡ plan.Last count
-IsPlanOf s (typed.Day asked) it = it ≡ plan.Day asked
-IsPlanOf s (typed.Today date) it = it ≡ plan.Today date
-IsPlanOf s (typed.Again late) it = it ≡ plan.Again late
-IsPlanOf s typed.Slip it = it ≡ plan.Slip
-IsPlanOf s typed.Help it = it ≡ plan.Usage
-IsPlanOf s (typed.Zone name) it = it ≡ plan.Usage
-IsPlanOf s (typed.Init beginning) it = it ≡ plan.Usage
-IsPlanOf s (typed.Import file lot) it = it ≡ plan.Usage
-IsPlanOf s typed.Prompt it = it ≡ plan.Usage
+-- A word has the plan that it asks for. An act is planned as it was typed, and for a return its rental's customer owes. A copy's return is of the register's
+-- rental, or of the sheet's if the register has none. Then that rental's customer owes. Head office's words are read or entered, as the first of them asks.
+abbrev pub IsPlanOf : Text → State → TillAct → Plan → Type 0
+IsPlanOf sheet s (typed.Do what) it = (customer : Option ℕ) × IsDebtor what customer s × (it ≡ plan.Give what customer)
+IsPlanOf sheet s (typed.ReturnCopy copy) it = (held : HeldRental) × IsReturned sheet copy held s × (it ≡ plan.Give (TakeBack held.rental) (Some held.customer))
+IsPlanOf sheet s (typed.Office words) it = it ≡ office_planned words
+IsPlanOf sheet s typed.Send it = it ≡ plan.Send
+IsPlanOf sheet s (typed.Look look) it = it ≡ plan.Look look
+IsPlanOf sheet s typed.Waiting it = it ≡ plan.Waiting
+IsPlanOf sheet s (typed.Last count) it = it ≡ plan.Last count
+IsPlanOf sheet s (typed.Day asked) it = it ≡ plan.Day asked
+IsPlanOf sheet s (typed.Today date) it = it ≡ plan.Today date
+IsPlanOf sheet s (typed.Again late) it = it ≡ plan.Again late
+IsPlanOf sheet s typed.Slip it = it ≡ plan.Slip
+IsPlanOf sheet s typed.Help it = it ≡ plan.Usage
+IsPlanOf sheet s (typed.Zone name) it = it ≡ plan.Usage
+IsPlanOf sheet s (typed.Init beginning) it = it ≡ plan.Usage
+IsPlanOf sheet s (typed.Import file lot) it = it ≡ plan.Usage
+IsPlanOf sheet s typed.Prompt it = it ≡ plan.Usage
 
 -- An act that was planned was given, and got some answer. What waited was sent. Of a look the book stays.
 abbrev pub IsCarriedOut : (List ℕ → Answer → Type 0) → (ℕ → Type 0) → Text → Text → Result ℕ TillFault → Plan → Place → State → Place → State → Type 0
@@ -89,6 +89,7 @@ RepeatsPlan Tells shows mark token own plan.Waiting before old after new = ⊤
 RepeatsPlan Tells shows mark token own (plan.Last count) before old after new = ⊤
 RepeatsPlan Tells shows mark token own (plan.Day asked) before old after new = ⊤
 RepeatsPlan Tells shows mark token own (plan.Today date) before old after new = ⊤
+RepeatsPlan Tells shows mark token own plan.Slip before old after new = ⊤
 RepeatsPlan Tells shows mark token own plan.Usage before old after new = ⊤
 
 -- Acts were given once more, one after another, at a book with so many entries and replies. Of another word nothing is said here.
@@ -111,24 +112,24 @@ RepeatsWord Tells shows mark token own (typed.Init beginning) old new = ⊤
 RepeatsWord Tells shows mark token own (typed.Import file lot) old new = ⊤
 RepeatsWord Tells shows mark token own typed.Prompt old new = ⊤
 
--- An act that was typed was given. Of a copy that comes back the return of the register's rental was given. What waited was sent. Over a look, and over words
--- of
--- head office that only read, the book stays. Of its other words, and of acts that are given once more, nothing is said here.
-abbrev pub DoesWord : (List ℕ → Answer → Type 0) → (ℕ → Type 0) → Text → Text → Result ℕ TillFault → TillAct → State → State → Type 0
-DoesWord Tells shows mark token giver (typed.Do what) old new = GivesWord Tells shows mark token giver (seen_act what) old new
-DoesWord Tells shows mark token giver (typed.ReturnCopy copy) old new =
-    (held : HeldRental) × IsHeldIn copy held old × GivesWord Tells shows mark token giver (seen_act (TakeBack held.rental)) old new
-DoesWord Tells shows mark token giver (typed.Office words) old new = IsTrue (is_reading words) → Stays old new
-DoesWord Tells shows mark token giver typed.Send old new = SendsWord Tells old new
-DoesWord Tells shows mark token giver (typed.Look look) old new = Stays old new
-DoesWord Tells shows mark token giver typed.Waiting old new = Stays old new
-DoesWord Tells shows mark token giver (typed.Last count) old new = Stays old new
-DoesWord Tells shows mark token giver (typed.Day asked) old new = Stays old new
-DoesWord Tells shows mark token giver (typed.Today date) old new = Stays old new
-DoesWord Tells shows mark token giver (typed.Again late) old new = ⊤
-DoesWord Tells shows mark token giver typed.Slip old new = Stays old new
-DoesWord Tells shows mark token giver typed.Help old new = Stays old new
-DoesWord Tells shows mark token giver (typed.Zone name) old new = Stays old new
-DoesWord Tells shows mark token giver (typed.Init beginning) old new = Stays old new
-DoesWord Tells shows mark token giver (typed.Import file lot) old new = Stays old new
-DoesWord Tells shows mark token giver typed.Prompt old new = Stays old new
+-- An act that was typed was given. Of a copy that comes back the return of the register's rental was given, or of the sheet's. What waited was sent. Over a
+-- look, and over words of head office that only read, the book stays. Of its other words, and of acts
+-- that are given once more, nothing is said here.
+abbrev pub DoesWord : (List ℕ → Answer → Type 0) → (ℕ → Type 0) → Text → Text → Result ℕ TillFault → Text → TillAct → State → State → Type 0
+DoesWord Tells shows mark token giver sheet (typed.Do what) old new = GivesWord Tells shows mark token giver (seen_act what) old new
+DoesWord Tells shows mark token giver sheet (typed.ReturnCopy copy) old new =
+    (held : HeldRental) × IsReturned sheet copy held old × GivesWord Tells shows mark token giver (seen_act (TakeBack held.rental)) old new
+DoesWord Tells shows mark token giver sheet (typed.Office words) old new = IsTrue (is_reading words) → Stays old new
+DoesWord Tells shows mark token giver sheet typed.Send old new = SendsWord Tells old new
+DoesWord Tells shows mark token giver sheet (typed.Look look) old new = Stays old new
+DoesWord Tells shows mark token giver sheet typed.Waiting old new = Stays old new
+DoesWord Tells shows mark token giver sheet (typed.Last count) old new = Stays old new
+DoesWord Tells shows mark token giver sheet (typed.Day asked) old new = Stays old new
+DoesWord Tells shows mark token giver sheet (typed.Today date) old new = Stays old new
+DoesWord Tells shows mark token giver sheet (typed.Again late) old new = ⊤
+DoesWord Tells shows mark token giver sheet typed.Slip old new = Stays old new
+DoesWord Tells shows mark token giver sheet typed.Help old new = Stays old new
+DoesWord Tells shows mark token giver sheet (typed.Zone name) old new = Stays old new
+DoesWord Tells shows mark token giver sheet (typed.Init beginning) old new = Stays old new
+DoesWord Tells shows mark token giver sheet (typed.Import file lot) old new = Stays old new
+DoesWord Tells shows mark token giver sheet typed.Prompt old new = Stays old new

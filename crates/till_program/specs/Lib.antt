@@ -5,6 +5,7 @@ pub mod LastMoment
 pub mod StandardTime
 pub mod Wall
 pub mod Word
+pub mod Returns
 pub mod Doing
 pub mod Adding
 pub mod Sure

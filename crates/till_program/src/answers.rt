@@ -2,6 +2,7 @@
 
 use crate::fault::TillFault;
 use crate::said::Said;
+use crate::sheet::Rented;
 use shop_types::{Act, Ask, CopyNo, CustomerNo, Refusal, View};
 use std::alloc::Global;
 use till_client::Answer;
@@ -131,20 +132,17 @@ pub(crate) fn says_holder(
     Ok(())
 }
 
-/// Says what customers paid for rentals, in all or by category.
-pub(crate) fn says_sales(
-    alloc: Global,
-    view: View,
-    body: &[u8],
-    said: &mut Said,
-) -> Result<(), TillFault> {
-    if matches!(view, View::SalesByStore) {
-        let table = sales_by_store(alloc, body)?;
-        if !table.is_empty() {
-            said.line("What was paid for rentals, of all time:")?;
-        }
-        return says_table(alloc, &table, "nothing was paid for a rental yet", said);
+/// Says what customers paid for rentals, in all.
+fn says_sales_in_all(alloc: Global, body: &[u8], said: &mut Said) -> Result<(), TillFault> {
+    let table = sales_by_store(alloc, body)?;
+    if !table.is_empty() {
+        said.line("What was paid for rentals, of all time:")?;
     }
+    says_table(alloc, &table, "nothing was paid for a rental yet", said)
+}
+
+/// Says what customers paid for rentals, by category.
+fn says_sales_by_category(alloc: Global, body: &[u8], said: &mut Said) -> Result<(), TillFault> {
     let table = sales_by_film_category(alloc, body)?;
     if table.is_empty() {
         return Ok(());
@@ -153,10 +151,34 @@ pub(crate) fn says_sales(
     says_table(alloc, &table, "", said)
 }
 
+/// Says what customers paid for rentals, in all or by category. Fails with `Foreign` for any other view.
+pub(crate) fn says_sales(
+    alloc: Global,
+    view: View,
+    body: &[u8],
+    said: &mut Said,
+) -> Result<(), TillFault> {
+    match view {
+        View::SalesByStore => says_sales_in_all(alloc, body, said),
+        View::SalesByFilmCategory => says_sales_by_category(alloc, body, said),
+        View::CustomerList | View::StaffList | View::FilmList | View::ActorInfo => {
+            Err(TillFault::Foreign)
+        }
+    }
+}
+
 /// Returns the end of an accepted command's line: to whom, or how much, with the customer's name.
-pub(crate) fn besides(alloc: Global, act: &Act, name: &str) -> Result<String, TillFault> {
+pub(crate) fn besides(
+    alloc: Global,
+    act: &Act,
+    name: &str,
+    rented: &Rented,
+) -> Result<String, TillFault> {
     match act {
-        Act::Rent { copy, .. } => Ok(format!(in alloc; ": copy {} to {name}", copy.get())?),
+        Act::Rent { copy, .. } => {
+            let (title, due) = (rented.title_text(alloc)?, rented.due_text(alloc)?);
+            Ok(format!(in alloc; ": copy {}{title} to {name}{due}", copy.get())?)
+        }
         Act::Pay { amount, .. } => {
             let amount = money(alloc, i64::from(amount.get())).map_err(|_| TillFault::Memory)?;
             Ok(format!(in alloc; ": {amount} from {name}")?)

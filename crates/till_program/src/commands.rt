@@ -23,6 +23,7 @@ use crate::fault::TillFault;
 use crate::lists::name_if_known;
 use crate::said::Said;
 use crate::sendings::send_all;
+use crate::sheet::Rented;
 use shop_types::{Act, CustomerNo, Moment, Refusal};
 use sqlite::{Alter, Connection};
 use till_client::Answer;
@@ -268,21 +269,23 @@ pub(crate) fn called<K: WallClock, V: Server, L: Shelf>(
 fn more_of<K: WallClock, V: Server, L: Shelf>(
     desk: &Desk<'_, K, V, L>,
     act: &Act,
+    rented: &Rented,
     told: &Told,
 ) -> Result<String, TillFault> {
     if desk.is_json || !told.is_accepted() {
         return Ok(String::new(desk.alloc));
     }
     let name = customer_name(desk, act)?;
-    besides(desk.alloc, act, name.as_str())
+    besides(desk.alloc, act, name.as_str(), rented)
 }
 
 /// Says the outcome of a command.
 pub(crate) fn tell<K: WallClock, V: Server, L: Shelf>(
     desk: &Desk<'_, K, V, L>,
     act: &Act,
+    rented: &Rented,
     told: &Told,
 ) -> Result<Said, TillFault> {
-    let more = more_of(desk, act, told)?;
+    let more = more_of(desk, act, rented, told)?;
     command_said(desk.alloc, desk.is_json, &told.answer, more.as_str())
 }

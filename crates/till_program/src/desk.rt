@@ -34,6 +34,8 @@ pub struct Desk<'d, K: WallClock, V: Server, L: Shelf> {
     pub shelf: &'d L,
     pub routes: &'d Routes,
     pub settings: &'d Settings,
+    /// The branch's sheet, or nothing if there is none.
+    pub sheet: &'d [u8],
     /// The zone of the clock on the wall, by which moments are shown.
     pub wall: TimeZone<'d>,
     /// Whether the server answers, as far as is known.
@@ -129,6 +131,8 @@ impl<K: WallClock, V: Server, L: Shelf> Desk<'_, K, V, L> {
             routes: self.routes,
             settings: self.settings,
             wall: self.wall,
+            sheet: self.sheet,
+            line: self.line,
             staff: Some(staff),
             is_json: self.is_json,
             is_sure: self.is_sure,

@@ -32,6 +32,7 @@ mod said;
 mod same_act;
 mod sendings;
 mod settling;
+mod sheet;
 mod slips;
 mod standard;
 mod sure;
@@ -58,6 +59,7 @@ pub use program::{
 pub use prompt::change_staff;
 pub use said::Said;
 pub use settling::make_sure;
+pub use sheet::read_sheet;
 pub use today::said_day;
 pub use wall::on_wall;
 pub use watch::Quiet;

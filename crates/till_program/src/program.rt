@@ -20,6 +20,7 @@ use crate::opening::{OpenBook, Tools, close_held, opened};
 use crate::prompt::prompt;
 use crate::said::Said;
 use crate::settling::make_sure;
+use crate::sheet::read_sheet;
 use crate::sure::question;
 use crate::tcp::Tcp;
 use crate::today::said_day;
@@ -314,6 +315,7 @@ fn with_tools<'x, W: Write, E: Write>(
         rt,
         book: tools.name.as_str(),
     };
+    let sheet = read_sheet(rt.alloc(), &shelf);
     let mut desk = Desk {
         alloc: rt.alloc(),
         clock: rt,
@@ -321,6 +323,7 @@ fn with_tools<'x, W: Write, E: Write>(
         shelf: &shelf,
         routes: &tools.routes,
         settings: &tools.settings,
+        sheet: sheet.as_slice(),
         wall: wall_zone(&tools.rules, &tools.settings.zone),
         line: way.line,
         staff,

@@ -4,7 +4,8 @@ ghost use Rattle.std.specs.Prelude.{◌≡◌, false, Some, IfOk};
 ghost use Rattle.sqlite.specs.Held.{state};
 ghost use Rattle.sqlite.specs.State.{HasCleanDisk};
 ghost use Rattle.till_book.specs.Steps.{Stays};
-ghost use Rattle.till_program.specs.Word.{IsHeldIn, IsRenterIn};
+ghost use Rattle.till_program.specs.Word.{IsRenterIn};
+ghost use Rattle.till_program.specs.Returns.{IsRegisteredIn, IsReturned};
 
 use crate::book::Book;
 use crate::caches::Shelf;
@@ -13,6 +14,7 @@ use crate::commands::called;
 use crate::desk::Desk;
 use crate::entries::EntriesAfter;
 use crate::fault::TillFault;
+use crate::sheet::rental_on_sheet;
 use shop_types::{Act, Ask, CopyNo, CustomerNo, Moment, RentalNo};
 use sqlite::{Alter, Connection};
 use till_book::{HeldRental, held_of, renter_of};
@@ -57,19 +59,20 @@ fn is_rent_waiting<S: Alter, K: WallClock, V: Server, L: Shelf>(
     has_rent_of(desk, &entries, copy)
 }
 
-/// Returns the rental that the register has of a copy, and its customer. Fails with `NoRental` if it has none. The
-/// book stays.
-fn held_at<S: Alter>(conn: &mut Connection<S>, copy: CopyNo) -> Result<HeldRental, TillFault>
+/// Returns the rental that the register has of a copy, and its customer, if it has one. The book stays.
+fn held_at<S: Alter>(
+    conn: &mut Connection<S>,
+    copy: CopyNo,
+) -> Result<Option<HeldRental>, TillFault>
     requires { conn.old.in_transaction ≡ false }
     ensures ended { conn.new.in_transaction ≡ false }
     ensures clean { HasCleanDisk (state S.Store conn.new) → HasCleanDisk (state S.Store conn.old) }
     ensures stays { HasCleanDisk (state S.Store conn.new) → Stays (state S.Store conn.old) (state S.Store conn.new) }
     ensures held { HasCleanDisk (state S.Store conn.new)
-        → IfOk result (λ held. IsHeldIn copy held (state S.Store conn.old)) }
+        → IfOk result (λ held. IsRegisteredIn copy held (state S.Store conn.old)) }
 {
     match held_of(conn, copy) {
-        Ok(Some(held)) => Ok(held),
-        Ok(None) => Err(TillFault::NoRental),
+        Ok(held) => Ok(held),
         Err(_) => Err(TillFault::Book),
     }
 }
@@ -116,8 +119,9 @@ pub(crate) fn customer_of<S: Alter>(
     }
 }
 
-/// Returns the rental that the register has of a copy, and its customer. Fails with `RentWaits` if a rent of the copy
-/// has no reply yet, and with `NoRental` if the register has no rental of it. The book stays.
+/// Returns the rental that a copy's return is of, and its customer: the register's, and else the sheet's. Fails with
+/// `RentWaits` if a rent of the copy has no reply yet. If the register has no rental of the copy, fails with `NoRental`
+/// unless the server says that the sheet's customer has the copy. The book stays.
 pub(crate) fn rental_at<S: Alter, K: WallClock, V: Server, L: Shelf>(
     desk: &Desk<'_, K, V, L>,
     conn: &mut Connection<S>,
@@ -129,10 +133,14 @@ pub(crate) fn rental_at<S: Alter, K: WallClock, V: Server, L: Shelf>(
     ensures clean { HasCleanDisk (state S.Store conn.new) → HasCleanDisk (state S.Store conn.old) }
     ensures stays { HasCleanDisk (state S.Store conn.new) → Stays (state S.Store conn.old) (state S.Store conn.new) }
     ensures held { HasCleanDisk (state S.Store conn.new)
-        → IfOk result (λ held. IsHeldIn copy held (state S.Store conn.old)) }
+        → IfOk result (λ held. IsReturned desk.now.sheet.now copy held (state S.Store conn.old)) }
 {
     if is_rent_waiting(desk, conn, book, copy)? {
         return Err(TillFault::RentWaits);
     }
-    held_at(conn, copy)
+    match held_at(conn, copy) {
+        Ok(Some(held)) => Ok(held),
+        Ok(None) => rental_on_sheet(desk, copy),
+        Err(fault) => Err(fault),
+    }
 }

@@ -6,6 +6,7 @@ use crate::clock::WallClock;
 use crate::desk::Desk;
 use crate::fault::TillFault;
 use crate::said::Said;
+use crate::sheet::{Rented, branch_of};
 use shop_types::{Act, CustomerNo, Moment};
 use till_client::Answer;
 use till_shows::{Slip, SlipKind, last_slip, owed_cents, rental_in, slip_text};
@@ -22,6 +23,8 @@ pub(crate) struct Slipped<'a> {
     pub(crate) answer: &'a Answer,
     /// The command's moment.
     pub(crate) at: Option<Moment>,
+    /// What is known of a rent's film.
+    pub(crate) rented: &'a Rented,
     /// The reply to the question what the customer owes.
     pub(crate) balance: Option<&'a Answer>,
 }
@@ -96,12 +99,12 @@ fn text_of<K: WallClock, V: Server, L: Shelf>(
         None => desk.now()?,
     };
     let slip = Slip {
-        branch: None,
+        branch: branch_of(desk.sheet),
         staff,
         at: desk.on_wall(at),
         kind,
-        title: None,
-        due: None,
+        title: it.rented.title.as_deref(),
+        due: it.rented.due,
         paid: paid_of(it.act),
         owed: owed_of(desk, it),
         rental: rental_of(desk, it),

@@ -40,6 +40,7 @@ use crate::office::{give_office, read_office};
 use crate::returns::{balance_of, customer_of, owed_line, rental_at};
 use crate::said::Said;
 use crate::sendings::{send, waited};
+use crate::sheet::{Rented, about_rent};
 use crate::slips::{Slipped, debtor_of, say_slip, write_slip};
 use crate::sure::{is_answered, wants_yes};
 use crate::today::{dated_if, enters_acts, today};
@@ -148,7 +149,7 @@ fn act_plan<S: Alter, K: WallClock, V: Server, L: Shelf>(
     ensures stays { HasCleanDisk (state S.Store conn.new) → Stays (state S.Store conn.old) (state S.Store conn.new) }
     ensures planned { IfOk result (IsPlannedFor desk.now.settings.now.staff) }
     ensures acts { HasCleanDisk (state S.Store conn.new)
-        → IfOk result (IsPlanOf (state S.Store conn.old) (TillAct.Do act)) }
+        → IfOk result (IsPlanOf desk.now.sheet.now (state S.Store conn.old) (TillAct.Do act)) }
     ensures own { OnOk result (IsSome desk.now.settings.now.staff) }
     ensures others { desk.now.settings.now.staff ≡ None → result ≡ Err (others_fault desk.now.settings.now.staff) }
     ensures marked { OnOk result (book.now.is_own ≡ true) }
@@ -161,7 +162,7 @@ fn act_plan<S: Alter, K: WallClock, V: Server, L: Shelf>(
     Ok(Plan::Give(act, customer))
 }
 
-/// Plans the return of a copy: the rental is the register's. The book stays.
+/// Plans the return of a copy: the rental is the register's, or else the sheet's. The book stays.
 fn copy_plan<S: Alter, K: WallClock, V: Server, L: Shelf>(
     desk: &Desk<'_, K, V, L>,
     conn: &mut Connection<S>,
@@ -174,7 +175,7 @@ fn copy_plan<S: Alter, K: WallClock, V: Server, L: Shelf>(
     ensures stays { HasCleanDisk (state S.Store conn.new) → Stays (state S.Store conn.old) (state S.Store conn.new) }
     ensures planned { IfOk result (IsPlannedFor desk.now.settings.now.staff) }
     ensures acts { HasCleanDisk (state S.Store conn.new)
-        → IfOk result (IsPlanOf (state S.Store conn.old) (TillAct.ReturnCopy copy)) }
+        → IfOk result (IsPlanOf desk.now.sheet.now (state S.Store conn.old) (TillAct.ReturnCopy copy)) }
     ensures own { OnOk result (IsSome desk.now.settings.now.staff) }
     ensures others { desk.now.settings.now.staff ≡ None → result ≡ Err (others_fault desk.now.settings.now.staff) }
     ensures marked { OnOk result (book.now.is_own ≡ true) }
@@ -255,8 +256,8 @@ fn slip_plan<K: WallClock, V: Server, L: Shelf>(desk: &Desk<'_, K, V, L>) -> Res
     Ok(Plan::Slip)
 }
 
-/// Plans a word. For a return the register is read: by copy it is of the rental that the register has of it. The book
-/// stays.
+/// Plans a word. For a return the register is read: by copy it is of the rental that the register has of it, or else the
+/// sheet. The book stays.
 fn plan_of<S: Alter, K: WallClock, V: Server, L: Shelf>(
     desk: &Desk<'_, K, V, L>,
     conn: &mut Connection<S>,
@@ -268,7 +269,8 @@ fn plan_of<S: Alter, K: WallClock, V: Server, L: Shelf>(
     ensures clean { HasCleanDisk (state S.Store conn.new) → HasCleanDisk (state S.Store conn.old) }
     ensures stays { HasCleanDisk (state S.Store conn.new) → Stays (state S.Store conn.old) (state S.Store conn.new) }
     ensures planned { IfOk result (IsPlannedFor desk.now.settings.now.staff) }
-    ensures acts { HasCleanDisk (state S.Store conn.new) → IfOk result (IsPlanOf (state S.Store conn.old) act) }
+    ensures acts { HasCleanDisk (state S.Store conn.new)
+        → IfOk result (IsPlanOf desk.now.sheet.now (state S.Store conn.old) act) }
     ensures own { OnOk result (IsFor desk.now.settings.now.staff act) }
     ensures others { ¬ IsFor desk.now.settings.now.staff act
         → result ≡ Err (others_fault desk.now.settings.now.staff) }
@@ -300,6 +302,7 @@ fn follow_up<K: WallClock, V: Server, L: Shelf>(
     act: &Act,
     customer: Option<CustomerNo>,
     last: Option<Moment>,
+    rented: &Rented,
     told: &Told,
     said: &mut Said,
 ) -> Result<bool, TillFault> {
@@ -316,6 +319,7 @@ fn follow_up<K: WallClock, V: Server, L: Shelf>(
         act,
         answer: &told.answer,
         at: last,
+        rented,
         balance: balance.as_ref(),
     };
     Ok(write_slip(desk, slipped))
@@ -330,13 +334,18 @@ fn told<K: WallClock, V: Server, L: Shelf>(
     told: &Told,
     waited: Option<Said>,
 ) -> Result<Said, TillFault> {
-    let mut said = tell(desk, act, told)?;
+    let rented = if told.is_accepted() {
+        about_rent(desk, act, last)
+    } else {
+        Rented::nothing()
+    };
+    let mut said = tell(desk, act, &rented, told)?;
     let mut is_written = true;
     if told.is_accepted() {
         if matches!(act, Act::Customer(_) | Act::Active { .. }) {
             desk.shelf.forget(List::Customers.name());
         }
-        is_written = follow_up(desk, act, customer, last, told, &mut said)?;
+        is_written = follow_up(desk, act, customer, last, &rented, told, &mut said)?;
     }
     if let Some(table) = &waited {
         said.line("What had waited was sent first:")?;
@@ -445,8 +454,9 @@ fn carry_out<S: Alter, K: WallClock, V: Server, L: Shelf, W: Watch>(
 }
 
 /// Does a word at an open book, and says what it resulted in. An act that was typed is given once. A copy that comes
-/// back is the return of the register's rental. After `send` each entry has its reply. A look leaves the book as it is.
-/// Whatever becomes of a word, it enters nothing but tries of what was typed, unless the book failed.
+/// back is the return of the register's rental, or of the sheet's if the register has none. After `send` each entry has
+/// its reply. A look leaves the book as it is. Whatever becomes of a word, it enters nothing but tries of what was typed,
+/// unless the book failed.
 ///
 /// A branch's book stays one unless it failed, and what is in it stays, in head office's book too. A branch's command
 /// or look at head office's book is refused, whoever gives it: `IsOffice`. Head office's words at a branch's book are
@@ -469,7 +479,8 @@ pub fn do_word<S: Alter, K: WallClock, V: Server, L: Shelf, W: Watch>(
     ensures done { HasCleanDisk (state S.Store conn.new)
         → OnOk result (DoesWord (IsTold (V.opens desk.now.server.now) V.Reader.remaining V.Writer.contents)
         (local_clock (K.shows desk.now.clock.now) desk.now.settings.now.zone) desk.now.settings.now.mark desk.now.settings.now.token
-        (giver_of desk.now.settings.now.staff desk.now.staff) act (state S.Store conn.old) (state S.Store conn.new)) }
+        (giver_of desk.now.settings.now.staff desk.now.staff) desk.now.sheet.now act (state S.Store conn.old)
+        (state S.Store conn.new)) }
     ensures keeps { HasCleanDisk (state S.Store conn.new) → IsBookKept result → IsSome desk.now.settings.now.staff
         → KeepsATillsBook (IsTold (V.opens desk.now.server.now) V.Reader.remaining V.Writer.contents)
         desk.now.settings.now.mark (state S.Store conn.old) (state S.Store conn.new) }
@@ -503,7 +514,7 @@ pub fn do_word<S: Alter, K: WallClock, V: Server, L: Shelf, W: Watch>(
     ensures enters { HasCleanDisk (state S.Store conn.new) → IsBookKept result
         → EntersWord (local_clock (K.shows desk.now.clock.now) desk.now.settings.now.zone)
         desk.now.settings.now.mark desk.now.settings.now.token
-        (giver_of desk.now.settings.now.staff desk.now.staff) act
+        (giver_of desk.now.settings.now.staff desk.now.staff) desk.now.sheet.now act
         (state S.Store conn.old) (state S.Store conn.new) }
     ensures again { HasCleanDisk (state S.Store conn.new) → IfOk result (λ said. said.status < 3
         → RepeatsWord (IsTold (V.opens desk.now.server.now) V.Reader.remaining V.Writer.contents)

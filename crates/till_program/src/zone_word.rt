@@ -84,6 +84,7 @@ fn accepted(
         shelf: &shelf,
         routes: &tools.routes,
         settings: &tools.settings,
+        sheet: &[],
         wall: wall_zone(&tools.rules, &tools.settings.zone),
         line: way.line,
         staff: None,

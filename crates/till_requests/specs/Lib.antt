@@ -4,3 +4,6 @@ pub mod Requests
 pub mod Settings
 pub mod ZoneParts
 pub mod Zones
+pub mod SheetRows
+pub mod SheetSeen
+pub mod SheetProgress

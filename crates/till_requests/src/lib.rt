@@ -1,5 +1,5 @@
 //! Builds the requests of a till's program as bytes, each read back by the server's own readers. Also has what a
-//! program keeps beside its book: moments, its mark and its settings.
+//! program keeps beside its book: moments, its mark, its settings and the branch's sheet.
 #![tactic(auto)]
 
 mod bodies;
@@ -10,6 +10,7 @@ mod moments;
 mod office;
 mod same;
 mod settings;
+mod sheet;
 mod sole;
 mod zone_parts;
 mod zones;
@@ -22,5 +23,6 @@ pub use office::{
     NotSaid, OfficeLookSealed, OfficeSealed, is_office_look, office_look_request, office_request,
 };
 pub use settings::{NoSettings, Settings, read_settings, settings_text};
+pub use sheet::{SheetFault, SheetRow, find_row};
 pub use zone_parts::{ZoneName, ZoneOffset};
 pub use zones::{Zone, zone_offset, zone_second};

@@ -9,6 +9,7 @@ use std::alloc::Global;
 use std::cell::RefCell;
 use std::marker::Model;
 use till_client::{ReplyReading, read_reply};
+use till_program::Shelf;
 
 const IN_USE: Fault = Fault::Line("the line is in use");
 
@@ -84,6 +85,16 @@ impl<C: Counter> Kit<C> {
                 Ok(())
             }
             None => Err(Fault::Line("a moment is wanted")),
+        }
+    }
+
+    /// Adds a line to the branch's sheet beside the book.
+    pub fn lays(&self, alloc: Global, row: &str) -> Result<(), Fault> {
+        let line = format!(in alloc; "{row}\n")?;
+        if self.shelf.add(alloc, "sheet", line.as_str().as_bytes()) {
+            Ok(())
+        } else {
+            Err(Fault::Line("the sheet is in use"))
         }
     }
 

@@ -122,6 +122,9 @@ impl<'x, D: InMemory, C: Counter> Play<'x, D, C> {
 
     /// Does what happens to the clock, the book or the line.
     fn happens(&mut self, what: &str) -> Result<(), Fault> {
+        if let Some(row) = what.strip_prefix("sheet ") {
+            return self.kit.lays(self.alloc, row);
+        }
         match what.strip_prefix("at ") {
             Some(at) => self.kit.sets(at),
             None => match what {
@@ -147,7 +150,7 @@ impl<'x, D: InMemory, C: Counter> Play<'x, D, C> {
     }
 
     /// Plays the next line: `till> WORDS` or `till STATUS> WORDS`, `STATUS> WHO METHOD PATH BODY`, `: at MOMENT`,
-    /// `: WHAT`, or one more line of the wanted text.
+    /// `: sheet ROW`, `: WHAT`, or one more line of the wanted text.
     pub fn plays(&mut self, line: &str) -> Result<(), Fault> {
         self.line = self.line.saturating_add(1);
         if line.is_empty() || line.starts_with("#") {

@@ -12,7 +12,7 @@ use jiff_tz::TimeZone;
 use shop_types::{Act, LotName, StaffNo, StockFile};
 use sqlite::{Alter, Connection};
 use std::alloc::Global;
-use till_program::{Desk, Quiet, Said, TillFault, do_word, make_sure, said_day};
+use till_program::{Desk, Quiet, Said, TillFault, do_word, make_sure, read_sheet, said_day};
 use till_words::{TillAct, TillLine, read_till_words, split_line};
 
 /// Returns the import of the stock file as a lot of that name.
@@ -137,6 +137,7 @@ fn at_desk<'d, 'x, S: Alter, C: Counter>(
         staff,
         is_sure,
     } = typed;
+    let sheet = read_sheet(alloc, kit.shelf());
     let desk = Desk {
         alloc,
         clock: kit.clock(),
@@ -144,6 +145,7 @@ fn at_desk<'d, 'x, S: Alter, C: Counter>(
         shelf: kit.shelf(),
         routes: world.routes(),
         settings: world.settings(),
+        sheet: sheet.as_slice(),
         wall: TimeZone::UTC,
         line: till_program::Line::Open,
         staff,

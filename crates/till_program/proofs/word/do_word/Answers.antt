@@ -97,7 +97,7 @@ returns-clause-done g c clean =
     let planned = c.carry_out.ensures.clean clean in
     let read = c.plan_of.ensures.clean planned in
     ok_then _ (c.carry_out.ensures.done clean)
-    (word_done _ _ _ _ _ c.args.act c.in_ok-plan.plan c.in_ok-book.book.place c.carry_out.new.book.place
+    (word_done _ _ _ _ _ c.args.desk.now.sheet.now c.args.act c.in_ok-plan.plan c.in_ok-book.book.place c.carry_out.new.book.place
     (state g.S.Store c.args.conn.now) (state g.S.Store c.read.new.conn)
     (state g.S.Store c.plan_of.new.conn) (state g.S.Store c.carry_out.new.conn)
     (c.in_ok-book.ensures.place read) (c.read.ensures.stays read) (c.plan_of.ensures.stays planned)
@@ -245,7 +245,7 @@ pub returns-in_err-book-clause-enters : goal.returns-in_err-book-clause-enters
 returns-in_err-book-clause-enters g c clean kept =
     stays_word (local_clock (g.K.WallClock.shows c.args.desk.now.clock.now) c.args.desk.now.settings.now.zone)
     c.args.desk.now.settings.now.mark c.args.desk.now.settings.now.token (giver_of c.args.desk.now.settings.now.staff c.args.desk.now.staff)
-    c.args.act (state g.S.Store c.args.conn.now) (state g.S.Store c.read.new.conn) (c.read.ensures.stays clean)
+    c.args.desk.now.sheet.now c.args.act (state g.S.Store c.args.conn.now) (state g.S.Store c.read.new.conn) (c.read.ensures.stays clean)
 
 pub returns-clause-enters : goal.returns-clause-enters
 returns-clause-enters g c clean kept =
@@ -253,7 +253,7 @@ returns-clause-enters g c clean kept =
     let read = c.plan_of.ensures.clean planned in
     word_enters (local_clock (g.K.WallClock.shows c.args.desk.now.clock.now) c.args.desk.now.settings.now.zone)
     c.args.desk.now.settings.now.mark c.args.desk.now.settings.now.token (giver_of c.args.desk.now.settings.now.staff c.args.desk.now.staff)
-    c.args.act c.in_ok-plan.plan c.in_ok-book.book.place c.carry_out.new.book.place
+    c.args.desk.now.sheet.now c.args.act c.in_ok-plan.plan c.in_ok-book.book.place c.carry_out.new.book.place
     (state g.S.Store c.args.conn.now) (state g.S.Store c.read.new.conn)
     (state g.S.Store c.plan_of.new.conn) (state g.S.Store c.carry_out.new.conn)
     (c.in_ok-book.ensures.place read) (c.read.ensures.stays read) (c.plan_of.ensures.stays planned)
@@ -263,7 +263,7 @@ pub returns-in_err-plan-clause-enters : goal.returns-in_err-plan-clause-enters
 returns-in_err-plan-clause-enters g c clean kept =
     stays_word (local_clock (g.K.WallClock.shows c.args.desk.now.clock.now) c.args.desk.now.settings.now.zone)
     c.args.desk.now.settings.now.mark c.args.desk.now.settings.now.token (giver_of c.args.desk.now.settings.now.staff c.args.desk.now.staff)
-    c.args.act (state g.S.Store c.args.conn.now) (state g.S.Store c.plan_of.new.conn)
+    c.args.desk.now.sheet.now c.args.act (state g.S.Store c.args.conn.now) (state g.S.Store c.plan_of.new.conn)
     (stays_both (state g.S.Store c.args.conn.now) (state g.S.Store c.read.new.conn)
     (state g.S.Store c.plan_of.new.conn) (c.read.ensures.stays (c.plan_of.ensures.clean clean))
     (c.plan_of.ensures.stays clean))
@@ -272,7 +272,7 @@ pub returns-in_err-dated_if-clause-enters : goal.returns-in_err-dated_if-clause-
 returns-in_err-dated_if-clause-enters g c clean kept =
     stays_word (local_clock (g.K.WallClock.shows c.args.desk.now.clock.now) c.args.desk.now.settings.now.zone)
     c.args.desk.now.settings.now.mark c.args.desk.now.settings.now.token (giver_of c.args.desk.now.settings.now.staff c.args.desk.now.staff)
-    c.args.act (state g.S.Store c.args.conn.now) (state g.S.Store c.plan_of.new.conn)
+    c.args.desk.now.sheet.now c.args.act (state g.S.Store c.args.conn.now) (state g.S.Store c.plan_of.new.conn)
     (stays_both (state g.S.Store c.args.conn.now) (state g.S.Store c.read.new.conn)
     (state g.S.Store c.plan_of.new.conn) (c.read.ensures.stays (c.plan_of.ensures.clean clean))
     (c.plan_of.ensures.stays clean))
@@ -281,7 +281,7 @@ pub returns-in_err-is_answered-clause-enters : goal.returns-in_err-is_answered-c
 returns-in_err-is_answered-clause-enters g c clean kept =
     stays_word (local_clock (g.K.WallClock.shows c.args.desk.now.clock.now) c.args.desk.now.settings.now.zone)
     c.args.desk.now.settings.now.mark c.args.desk.now.settings.now.token (giver_of c.args.desk.now.settings.now.staff c.args.desk.now.staff)
-    c.args.act (state g.S.Store c.args.conn.now) (state g.S.Store c.plan_of.new.conn)
+    c.args.desk.now.sheet.now c.args.act (state g.S.Store c.args.conn.now) (state g.S.Store c.plan_of.new.conn)
     (stays_both (state g.S.Store c.args.conn.now) (state g.S.Store c.read.new.conn)
     (state g.S.Store c.plan_of.new.conn) (c.read.ensures.stays (c.plan_of.ensures.clean clean))
     (c.plan_of.ensures.stays clean))

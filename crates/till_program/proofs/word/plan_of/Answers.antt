@@ -6,4 +6,5 @@ use Rattle.till_program.proofs.word.plan_of.Goals as goal
 
 pub returns-in-Office-clause-acts : goal.returns-in-Office-clause-acts
 returns-in-Office-clause-acts g c clean =
-    subst (λ (act : TillAct). IfOk c.office_plan.result (IsPlanOf (state g.S.Store c.args.conn.now) act)) (sym c.in-Office.is) c.office_plan.ensures.acts
+    subst (λ (act : TillAct). IfOk c.office_plan.result (IsPlanOf c.args.desk.now.sheet.now (state g.S.Store c.args.conn.now) act))
+    (sym c.in-Office.is) c.office_plan.ensures.acts

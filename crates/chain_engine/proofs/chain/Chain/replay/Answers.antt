@@ -48,7 +48,7 @@ loop-token-preserved g c =
       rw told (All-push IsTold done answer inv.3 c.answer_with-reply.ensures.told),
       rw (told, failed_more done answer)
           (has_failed_then c.args.self.now.is_failed
-              (has_failed done) c.loop-token.self.is_failed c.answer_with-reply.new.self.is_failed (is_store_failure answer)
+          (has_failed done) c.loop-token.self.is_failed c.answer_with-reply.new.self.is_failed (is_store_failure answer)
           inv.4 c.answer_with-reply.ensures.fails (λ still. ap is_store_failure (c.answer_with-reply.ensures.failed still).1 ∙ failed_failure)),
       λ was.
           let before = inv.5 was in
