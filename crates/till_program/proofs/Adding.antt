@@ -114,9 +114,12 @@ sends_no_entry Tells mark before after old new sends journal commands at =
 pub no_entry_stays : (mark : Text) (before after : Place) (old mid new : State) → AddsNoEntry mark before old after mid → book.Stays mid new
     → AddsNoEntry mark before old after new
 no_entry_stays mark before after old mid new adds stays journal commands at =
-    let it = adds journal commands at in
-    (it.0, it.1, at_place mark after after mid new it.0 it.0 commands it.2 refl
-        (rests_stays after mid new stays it.0 (place_of mark after mid it.0 commands it.2)))
+    let it = adds journal commands at in (
+      it.0,
+      it.1,
+      at_place mark after after mid new it.0 it.0 commands it.2 refl
+          (rests_stays after mid new stays it.0 (place_of mark after mid it.0 commands it.2)),
+    )
 
 module _ (shows : ℕ → Type 0) (mark token : Text) (giver : Result ℕ TillFault) where
   -- what a plan enters, the same plan by another name enters
@@ -182,9 +185,11 @@ module _ (shows : ℕ → Type 0) (mark token : Text) (giver : Result ℕ TillFa
   word_enters sheet typed.Send it place after old read mid new is first second plans enters =
       λ journal commands rests tills.
       let counted = is journal rests in
-      let stays = stays_both old read mid first second in
-      (after, enters_as it plan.Send place mid after new plans enters journal commands
-          (record { rests = stays journal rests; book = tills; entries = counted.0; replies = counted.1 }))
+      let stays = stays_both old read mid first second in (
+        after,
+        enters_as it plan.Send place mid after new plans enters journal commands
+            (record { rests = stays journal rests; book = tills; entries = counted.0; replies = counted.1 }),
+      )
   word_enters sheet (typed.Again late) it place after old read mid new is first second plans enters = tt
   word_enters sheet (typed.Look look) it place after old read mid new is first second plans enters =
       stays_both old mid new (stays_both old read mid first second) (enters_as it (plan.Look look) place mid after new plans enters)
