@@ -4,5 +4,5 @@ pub mod Doing
 pub mod LastMoment
 pub mod Marks
 pub mod StandardLemmas
-pub mod Today
-pub mod Again
+pub mod Dates
+pub mod Repeating
