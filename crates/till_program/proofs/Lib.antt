@@ -6,5 +6,5 @@ pub mod Returned
 pub mod LastMoment
 pub mod Marks
 pub mod StandardLemmas
-pub mod Today
-pub mod Again
+pub mod Dates
+pub mod Repeating

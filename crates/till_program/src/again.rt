@@ -10,7 +10,7 @@ ghost use Rattle.till_work.specs.Desk.{GoesOn};
 ghost use Rattle.till_program.specs.Clock.{local_clock};
 ghost use Rattle.till_program.specs.Faults.{IsBookKept, giver_of};
 ghost use Rattle.till_program.specs.Giving.{GivesAct};
-ghost use Rattle.till_program.specs.Again.{GivesFirst, GivesAll};
+ghost use Rattle.till_program.specs.Again.{GivesBook, GivesAll};
 
 use crate::book::Book;
 use crate::caches::Shelf;
@@ -70,7 +70,7 @@ fn give_each<S: Alter, K: WallClock, V: Server, L: Shelf, W: Watch>(
     ensures ended { conn.new.in_transaction ≡ false }
     ensures clean { HasCleanDisk (state S.Store conn.new) → HasCleanDisk (state S.Store conn.old) }
     ensures given { HasCleanDisk (state S.Store conn.new) → IfOk result (λ stopped. stopped ≡ None
-        → GivesFirst (IsTold (V.opens desk.now.server.now) V.Reader.remaining V.Writer.contents)
+        → GivesBook (IsTold (V.opens desk.now.server.now) V.Reader.remaining V.Writer.contents)
         (local_clock (K.shows desk.now.clock.now) desk.now.settings.now.zone) desk.now.settings.now.mark desk.now.settings.now.token
         desk.now.settings.now.staff (length acts.now) acts.now book.old.place
         (state S.Store conn.old) book.new.place (state S.Store conn.new)) }

@@ -100,7 +100,7 @@ impl<K: WallClock, V: Server, L: Shelf> Desk<'_, K, V, L> {
 
     /// Returns what the clock on the wall showed at an entry's moment.
     pub(crate) fn on_wall(&self, at: Moment) -> Moment
-        ensures { IsOnWall self.now.wall.entry (offset_of self.now.settings.now.zone) at result }
+        ensures { IsOnWall self.now.wall (offset_of self.now.settings.now.zone) at result }
     {
         on_wall(self.wall, zone_offset(&self.settings.zone), at)
     }

@@ -61,10 +61,12 @@ struct Clocks {
 }
 
 /// Reads both clocks.
-fn clocks<K: WallClock, V: Server, L: Shelf>(desk: &Desk<'_, K, V, L>) -> Result<Clocks, TillFault>
+fn read_clocks<K: WallClock, V: Server, L: Shelf>(
+    desk: &Desk<'_, K, V, L>,
+) -> Result<Clocks, TillFault>
     ensures till { IfOk result (λ it. local_clock (K.shows desk.now.clock.now) desk.now.settings.now.zone
         (seconds_of it.till)) }
-    ensures wall { IfOk result (λ it. spec.IsOnWall desk.now.wall.entry (offset_of desk.now.settings.now.zone)
+    ensures wall { IfOk result (λ it. spec.IsOnWall desk.now.wall (offset_of desk.now.settings.now.zone)
         it.till it.wall) }
 {
     let till = desk.now()?;
@@ -76,7 +78,7 @@ fn clocks<K: WallClock, V: Server, L: Shelf>(desk: &Desk<'_, K, V, L>) -> Result
 pub(crate) fn wall_day<K: WallClock, V: Server, L: Shelf>(
     desk: &Desk<'_, K, V, L>,
 ) -> Result<i32, TillFault> {
-    let Clocks { wall, .. } = clocks(desk)?;
+    let Clocks { wall, .. } = read_clocks(desk)?;
     Ok(wall.day())
 }
 
@@ -108,10 +110,10 @@ pub(crate) fn dated<K: WallClock, V: Server, L: Shelf>(
     book: &Book,
 ) -> Result<(), TillFault>
     ensures { OnOk result (spec.HasDate (local_clock (K.shows desk.now.clock.now) desk.now.settings.now.zone)
-        desk.now.wall.entry (offset_of desk.now.settings.now.zone) desk.now.said_day
+        desk.now.wall (offset_of desk.now.settings.now.zone) desk.now.said_day
         (spec.last_moment book.now.place.entries book.now.last)) }
 {
-    let Clocks { till, wall } = clocks(desk)?;
+    let Clocks { till, wall } = read_clocks(desk)?;
     if is_near(last_moment(book), till) || desk.said_day == Some(wall.day()) {
         Ok(())
     } else {
@@ -126,7 +128,7 @@ pub(crate) fn dated_if<K: WallClock, V: Server, L: Shelf>(
     enters: bool,
 ) -> Result<(), TillFault>
     ensures { enters ≡ true → OnOk result (spec.HasDate
-        (local_clock (K.shows desk.now.clock.now) desk.now.settings.now.zone) desk.now.wall.entry
+        (local_clock (K.shows desk.now.clock.now) desk.now.settings.now.zone) desk.now.wall
         (offset_of desk.now.settings.now.zone) desk.now.said_day
         (spec.last_moment book.now.place.entries book.now.last)) }
 {
@@ -147,14 +149,14 @@ fn accept_day<K: WallClock, V: Server, L: Shelf>(
     date: &str,
 ) -> Result<Accepted, TillFault>
     ensures shown { IfOk result (λ it. spec.IsShownOnWall
-        (local_clock (K.shows desk.now.clock.now) desk.now.settings.now.zone) desk.now.wall.entry
+        (local_clock (K.shows desk.now.clock.now) desk.now.settings.now.zone) desk.now.wall
         (offset_of desk.now.settings.now.zone) it.wall) }
     ensures said { IfOk result (λ it. it.said ≡ pos (day_of it.wall)) }
 {
     let Some(said) = day_in(desk.alloc, date)? else {
         return Err(TillFault::NoDate);
     };
-    let Clocks { wall, .. } = clocks(desk)?;
+    let Clocks { wall, .. } = read_clocks(desk)?;
     let clock = wall.day();
     if said != clock {
         return Err(TillFault::OtherDay { clock, said });
@@ -173,7 +175,7 @@ pub(crate) fn day_said<K: WallClock, V: Server, L: Shelf>(
     date: &str,
 ) -> Result<i32, TillFault>
     ensures { IfOk result (λ day. spec.IsDayOnWall
-        (local_clock (K.shows desk.now.clock.now) desk.now.settings.now.zone) desk.now.wall.entry
+        (local_clock (K.shows desk.now.clock.now) desk.now.settings.now.zone) desk.now.wall
         (offset_of desk.now.settings.now.zone) day) }
 {
     let Accepted { said, .. } = accept_day(desk, date)?;

@@ -537,10 +537,10 @@ pub fn do_word<S: Alter, K: WallClock, V: Server, L: Shelf, W: Watch>(
         → Stays (state S.Store conn.old) (state S.Store conn.new) }
     ensures dated { HasCleanDisk (state S.Store conn.new) → dates.enters_acts act ≡ true
         → OnOk result (dates.IsDatedBook (local_clock (K.shows desk.now.clock.now) desk.now.settings.now.zone)
-        desk.now.wall.entry (offset_of desk.now.settings.now.zone) desk.now.said_day (state S.Store conn.old)) }
+        desk.now.wall (offset_of desk.now.settings.now.zone) desk.now.said_day (state S.Store conn.old)) }
     ensures undated { HasCleanDisk (state S.Store conn.new) → dates.enters_acts act ≡ true
         → ¬ dates.IsDatedBook (local_clock (K.shows desk.now.clock.now) desk.now.settings.now.zone)
-        desk.now.wall.entry (offset_of desk.now.settings.now.zone) desk.now.said_day (state S.Store conn.old)
+        desk.now.wall (offset_of desk.now.settings.now.zone) desk.now.said_day (state S.Store conn.old)
         → Stays (state S.Store conn.old) (state S.Store conn.new) }
     ensures enters { HasCleanDisk (state S.Store conn.new) → IsBookKept result
         → EntersWord (local_clock (K.shows desk.now.clock.now) desk.now.settings.now.zone)

@@ -1,6 +1,7 @@
 use Rattle.sqlite.specs.Held.{state}
 use Rattle.till_work.proofs.GoingOn.{goes_then}
 use Rattle.till_program.proofs.GoingOn.{kept_ok, kept_as}
+use Rattle.till_program.proofs.Repeating.{book_next}
 use Rattle.till_program.proofs.again.give_each.Goals as goal
 
 pub givings-preserved : goal.givings-preserved
@@ -11,10 +12,8 @@ givings-preserved g c = (
       goes_then _ c.args.desk.now.settings.now.mark c.args.book.now.place c.givings.book.place c.give_again.new.book.place
       (state g.S.Store c.args.conn.now) (state g.S.Store c.givings.conn)
       (state g.S.Store c.give_again.new.conn) (c.givings.invariant.2 (c.give_again.ensures.clean clean)) (c.in-Ok.ensures.keeps clean (kept_ok _))),
-  (λ clean. (
-    c.givings.book.place,
-    state g.S.Store c.givings.conn,
-    c.givings.invariant.3 (c.give_again.ensures.clean clean),
-    ?,
-  )),
+  (λ clean.
+      book_next _ _ _ _ _ _ _ _ c.args.book.now.place c.givings.book.place c.give_again.new.book.place
+      (state g.S.Store c.args.conn.now) (state g.S.Store c.givings.conn)
+      (state g.S.Store c.give_again.new.conn) (c.givings.invariant.3 (c.give_again.ensures.clean clean)) ? (c.in-Ok.ensures.given clean)),
 )

@@ -1,7 +1,7 @@
 use Rattle.sql_rows.proofs.Common.{◌≡◌, false, state, HasCleanDisk}
 use Rattle.till_work.specs.Told.{IsTold}
 use Rattle.till_work.specs.Desk.{GoesOn}
-use Rattle.till_program.specs.Again.{GivesFirst}
+use Rattle.till_program.specs.Again.{GivesBook}
 use Rattle.till_program.specs.Clock.{local_clock}
 use Rattle.till_program.proofs.again.give_each.Given as goal
 
@@ -13,5 +13,5 @@ invariant-givings g l =
     × (HasCleanDisk (state g.S.Store l.conn)
     → GoesOn tells l.desk.settings.now.mark l.initial.book.place (state g.S.Store l.initial.conn) l.book.place (state g.S.Store l.conn))
     × (HasCleanDisk (state g.S.Store l.conn)
-    → GivesFirst tells (local_clock (g.K.WallClock.shows l.desk.clock.now) l.desk.settings.now.zone) l.desk.settings.now.mark l.desk.settings.now.token
+    → GivesBook tells (local_clock (g.K.WallClock.shows l.desk.clock.now) l.desk.settings.now.zone) l.desk.settings.now.mark l.desk.settings.now.token
     l.desk.settings.now.staff l.it-index l.acts l.initial.book.place (state g.S.Store l.initial.conn) l.book.place (state g.S.Store l.conn))

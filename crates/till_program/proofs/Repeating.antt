@@ -16,7 +16,10 @@ use Rattle.till_words.specs.declared.words.TillAct.TheVariants as typed
 use Rattle.till_program.specs.declared.word.Plan.{Plan}
 use Rattle.till_program.specs.Doing.{IsPlanOf, RepeatsPlan, RepeatsWord}
 use Rattle.till_program.specs.Word.{IsPlaceOf}
-use Rattle.till_program.specs.Again.{IsRefused, IsRefusedIn}
+use Rattle.till_program.specs.Again.{IsRefused, IsRefusedIn, GivesBook}
+use Rattle.till_program.specs.Giving.{GivesAct}
+use Rattle.till_program.specs.Faults.{giver_of}
+use Rattle.shop_types.specs.Seen.{seen_act}
 use Rattle.till_program.specs.declared.refused.Repeat.{Repeat}
 use Rattle.till_program.proofs.GoingOn.{stays_both}
 
@@ -35,6 +38,61 @@ mapped_at f (y ∷ ys) (suc i) x e = mapped_at f ys i x e
 pub if_ok_then : {A E : Type 0} (r : Result A E) {P : A → Type 0} {Q R : Type 0} → IfOk r (λ (a : A). P a → Q) → (Q → R) → IfOk r (λ (a : A). P a → R)
 if_ok_then (Ok a) holds follows = λ p. follows (holds p)
 if_ok_then (Err e) holds follows = tt
+
+-- one more act was given
+pub book_next :
+    (Tells : List ℕ → Answer → Type 0) (shows : ℕ → Type 0) (mark token : Text) (own : Option ℕ)
+    (n : ℕ) (acts : List Repeat) (it : Repeat) (before mid after : Place) (old s new : State)
+    → GivesBook Tells shows mark token own n acts before old mid s → slice_get acts n ≡ Some it
+    → GivesAct Tells shows mark token (giver_of own (Some it.staff)) (seen_act it.act) mid s after new
+    → GivesBook Tells shows mark token own (suc n) acts before old after new
+book_next Tells shows mark token own n acts it before mid after old s new first there gives journal commands at =
+    let so_far = first journal commands at in
+    let given = gives.1.2 so_far.0 so_far.1 so_far.2 in
+    let tried = given.2 in (
+      tried.journal,
+      tried.commands,
+      tried.is_at,
+      so_far.0,
+      so_far.1,
+      so_far.3,
+      it,
+      there,
+      gives.0,
+      gives.1.0,
+      gives.1.1,
+      given.0,
+      given.1,
+      record {
+        extends = tried.extends;
+        requests = tried.requests;
+        tries = tried.tries;
+        entries = tried.entries;
+        says = tried.says;
+        each = tried.each;
+        waited = tried.waited;
+        replies = tried.replies;
+        first = tried.first;
+        counted = tried.counted;
+        settled = tried.settled;
+      },
+    )
+
+-- a book stays before and after
+pub book_later :
+    (Tells : List ℕ → Answer → Type 0) (shows : ℕ → Type 0) (mark token : Text) (own : Option ℕ)
+    (n : ℕ) (acts : List Repeat) (before after : Place) (old mid new : State)
+    → book.Stays old mid → GivesBook Tells shows mark token own n acts before mid after new → GivesBook Tells shows mark token own n acts before old after new
+book_later Tells shows mark token own n acts before after old mid new stays gives journal commands at =
+    gives journal commands (record { rests = stays journal at.rests; book = at.book; entries = at.entries; replies = at.replies })
+
+pub book_before :
+    (Tells : List ℕ → Answer → Type 0) (shows : ℕ → Type 0) (mark token : Text) (own : Option ℕ)
+    (n : ℕ) (acts : List Repeat) (before after : Place) (old mid new : State)
+    → GivesBook Tells shows mark token own n acts before old after mid → book.Stays mid new → GivesBook Tells shows mark token own n acts before old after new
+book_before Tells shows mark token own n acts before after old mid new gives stays journal commands at =
+    let it = gives journal commands at in
+    (it.0, it.1, record { rests = stays it.0 it.2.rests; book = it.2.book; entries = it.2.entries; replies = it.2.replies }, it.3)
 
 -- an entry that was refused in front of a look was refused
 each_before : (acts : List Repeat) (old mid : State) → book.Stays old mid → All (IsRefusedIn mid) acts → All (IsRefusedIn old) acts
@@ -60,17 +118,14 @@ pub word_repeated :
     → IsPlaceOf place old → book.Stays old read → book.Stays read mid → IsPlanOf sheet read word it
     → RepeatsPlan Tells shows mark token own it place mid after new → RepeatsWord Tells shows mark token own word old new
 word_repeated Tells shows mark token own sheet (typed.Again late) it place after old read mid new is first second plans repeats =
-    let all = subst (λ (p : Plan). RepeatsPlan Tells shows mark token own p place mid after new) plans repeats in (
+    let all = subst (λ (p : Plan). RepeatsPlan Tells shows mark token own p place mid after new) plans repeats in
+    let stays = stays_both old read mid first second in (
       place,
       after,
       is,
       all.0,
-      each_before all.0 old mid (stays_both old read mid first second) all.1,
-      all.2,
-      all.3,
-      stays_both old mid all.2 (stays_both old read mid first second) all.4,
-      all.5,
-      all.6,
+      each_before all.0 old mid stays all.1,
+      book_later Tells shows mark token own _ all.0 place after old mid new stays all.2,
     )
 word_repeated Tells shows mark token own sheet (typed.Do what) it place after old read mid new is first second plans repeats = tt
 word_repeated Tells shows mark token own sheet (typed.ReturnCopy copy) it place after old read mid new is first second plans repeats = tt
