@@ -1,4 +1,4 @@
--- What a word enters, whatever becomes of it: tries of what was typed, and nothing else.
+-- What a word enters, whatever its outcome: tries of what was typed, and nothing else.
 use Rattle.std.specs.Prelude.{◌≡◌, ◌⊎◌, ⊤, ⊥, ℕ, List, [], ◌∷◌, ◌++◌, Result, Ok, IsTrue}
 use Rattle.sqlite.specs.State.{State}
 use Rattle.shop_model.specs.Values.{Text, Act, Command}
@@ -50,7 +50,7 @@ AddsNoEntry mark before old after new =
     (journal : Journal) (commands : List Command) → IsAt mark before old journal commands
     → (next : Journal) × (next.entries ≡ journal.entries) × IsAt mark after new next commands
 
--- What a plan enters, whatever becomes of it. Of head office's commands, and of what is entered once more, nothing is said here.
+-- What a plan enters, whatever its outcome. Of head office's commands, and of what is entered once more, nothing is said here.
 abbrev pub EntersPlan : (ℕ → Type 0) → Text → Text → Result ℕ TillFault → Plan → Place → State → Place → State → Type 0
 EntersPlan shows mark token giver (plan.Give what customer) before old after new = AddsTries shows mark token giver (seen_act what) before old after new
 EntersPlan shows mark token giver (plan.Office words) before old after new = ⊤
@@ -77,7 +77,7 @@ KeepsEntries mark old new =
     (journal : Journal) (commands : List Command) → Rests old journal → IsTillsBook mark journal commands
     → (place : Place) × (next : Journal) × (next.entries ≡ journal.entries) × IsAt mark place new next commands
 
--- What a word enters, whatever becomes of it: tries of the act that was typed, and nothing else. For a copy that comes back they are tries of the return of the
+-- What a word enters, whatever its outcome: tries of the act that was typed, and nothing else. For a copy that comes back they are tries of the return of the
 -- register's rental, or of the sheet's, or there are none. No other word of a branch enters anything, except `again`. Of `again`, and of head office's commands, nothing is said here.
 abbrev pub EntersWord : (ℕ → Type 0) → Text → Text → Result ℕ TillFault → Text → TillAct → State → State → Type 0
 EntersWord shows mark token giver sheet (typed.Do what) old new = AddsWord shows mark token giver (seen_act what) old new

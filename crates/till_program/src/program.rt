@@ -510,15 +510,18 @@ pub fn perform_words<W: Write, E: Write>(
     ensures { IfSome held.new (λ book. book.conn.in_transaction ≡ false) }
 {
     let Words { words, way, .. } = given;
-    let said = match read_till_words(rt.alloc(), words) {
-        Ok(line) => match perform_line(rt, line, given, held, out, err) {
-            Ok(performed) => return performed,
-            Err(fault) => Err(fault),
-        },
-        Err(Usage::Words(text)) => usage(rt, words, text.as_str()),
+    let performed = match read_till_words(rt.alloc(), words) {
+        Ok(line) => perform_line(rt, line, given, held, out, err),
+        Err(Usage::Words(text)) => {
+            let said = usage(rt, words, text.as_str());
+            Ok(Performed::at(print(said, out, err), way))
+        }
         Err(Usage::Memory) => Err(TillFault::Memory),
     };
-    Performed::at(print(said, out, err), way)
+    match performed {
+        Ok(performed) => performed,
+        Err(fault) => Performed::at(print(Err(fault), out, err), way),
+    }
 }
 
 /// Opens the book for words that don't begin a prompt, does what they ask for, and closes it.

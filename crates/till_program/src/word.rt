@@ -486,7 +486,7 @@ fn carry_out<S: Alter, K: WallClock, V: Server, L: Shelf, W: Watch>(
 
 /// Does a word at an open book, and says what it resulted in. An act that was typed is given once. A copy that comes
 /// back is the return of the register's rental, or of the sheet's if the register has none. After `send` each entry has
-/// its reply. A look leaves the book as it is. Whatever becomes of a word, it enters nothing but tries of what was typed,
+/// its reply. A look leaves the book as it is. Whatever its outcome, a word enters nothing but tries of what was typed,
 /// unless the book failed.
 ///
 /// A branch's book stays one unless it failed, and what is in it stays, in head office's book too. A branch's command
