@@ -78,7 +78,7 @@ fn hold<E: Write>(
         },
     };
     let mut out: Vec<u8> = Vec::new(alloc);
-    Ok(perform_words(rt, given, held, &mut out, err).status)
+    Ok(perform_words(rt, &given, held, &mut out, err).status)
 }
 
 /// Returns the first address of a name, if it has one.

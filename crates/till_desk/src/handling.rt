@@ -111,7 +111,7 @@ fn performed(
             patience: Patience::Short,
         },
     };
-    let done = perform_words(rt, given, held, &mut out, &mut err);
+    let done = perform_words(rt, &given, held, &mut out, &mut err);
     *server = done.line;
     reply_text(alloc, done.status, out.as_slice(), err.as_slice())
 }

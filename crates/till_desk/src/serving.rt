@@ -275,7 +275,7 @@ fn send_waiting(rt: &HostRuntime, desk: &DeskBook, line: Line, held: &mut Option
     };
     let mut out: Vec<u8> = Vec::new(alloc);
     let mut err: Vec<u8> = Vec::new(alloc);
-    perform_words(rt, given, held, &mut out, &mut err).line
+    perform_words(rt, &given, held, &mut out, &mut err).line
 }
 
 /// Serves windows at the listener by the book, until the listener fails.

@@ -1,5 +1,5 @@
 -- What a word enters, whatever its outcome: tries of what was typed, and nothing else.
-use Rattle.std.specs.Prelude.{◌≡◌, ◌⊎◌, ⊤, ⊥, ℕ, List, [], ◌∷◌, ◌++◌, Result, Ok, IsTrue}
+use Rattle.std.specs.Prelude.{◌≡◌, ◌⊎◌, ⊤, ℕ, List, [], ◌∷◌, ◌++◌, Result, Ok, IsTrue}
 use Rattle.sqlite.specs.State.{State}
 use Rattle.shop_model.specs.Values.{Text, Act, Command}
 use Rattle.shop_types.specs.Seen.{seen_act}

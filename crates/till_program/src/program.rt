@@ -391,7 +391,7 @@ pub fn book_of(rt: &HostRuntime, named: &Option<FileName>) -> Result<String, Til
 fn perform_line<W: Write, E: Write>(
     rt: &HostRuntime,
     line: TillLine,
-    given: Words<'_>,
+    given: &Words<'_>,
     held: &mut Option<OpenBook>,
     out: &mut W,
     err: &mut E,
@@ -407,12 +407,7 @@ fn perform_line<W: Write, E: Write>(
         act,
     } = line;
     let book = book_of(rt, &book)?;
-    let Words {
-        standing,
-        stock,
-        way,
-        ..
-    } = given;
+    let (standing, way) = (given.standing, given.way);
     match act {
         TillAct::Init(beginning) => {
             close_held(held);
@@ -429,7 +424,7 @@ fn perform_line<W: Write, E: Write>(
             Ok(Performed::at(print(said, out, err), way))
         }
         act => {
-            let act = with_file(rt, stock, act)?;
+            let act = with_file(rt, given.stock, act)?;
             let word = Word {
                 is_json,
                 is_sure,
@@ -501,7 +496,7 @@ impl Performed {
 /// The book that is held is closed if another is named. The book of the words is held after them, unless it failed.
 pub fn perform_words<W: Write, E: Write>(
     rt: &HostRuntime,
-    given: Words<'_>,
+    given: &Words<'_>,
     held: &mut Option<OpenBook>,
     out: &mut W,
     err: &mut E,
@@ -509,11 +504,11 @@ pub fn perform_words<W: Write, E: Write>(
     requires { IfSome held.old (λ book. book.conn.in_transaction ≡ false) }
     ensures { IfSome held.new (λ book. book.conn.in_transaction ≡ false) }
 {
-    let Words { words, way, .. } = given;
-    let performed = match read_till_words(rt.alloc(), words) {
+    let way = given.way;
+    let performed = match read_till_words(rt.alloc(), given.words) {
         Ok(line) => perform_line(rt, line, given, held, out, err),
         Err(Usage::Words(text)) => {
-            let said = usage(rt, words, text.as_str());
+            let said = usage(rt, given.words, text.as_str());
             Ok(Performed::at(print(said, out, err), way))
         }
         Err(Usage::Memory) => Err(TillFault::Memory),
@@ -541,7 +536,7 @@ fn perform_once<W: Write, E: Write>(
         stock: Stock::Named,
         way: Way::open(),
     };
-    let performed = perform_words(rt, given, &mut held, out, err);
+    let performed = perform_words(rt, &given, &mut held, out, err);
     close_held(&mut held);
     performed.status
 }

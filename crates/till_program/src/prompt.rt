@@ -75,7 +75,7 @@ fn perform_noted<W: Write, E: Write>(
             patience: Patience::Long,
         },
     };
-    let performed = perform_words(rt, given, held, out, err);
+    let performed = perform_words(rt, &given, held, out, err);
     known.notes.note(
         line,
         performed.line,
