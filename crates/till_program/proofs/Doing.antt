@@ -49,7 +49,7 @@ carried_out r Tells shows mark token giver it other before old after new same do
     subst (λ (p : Plan). OnOk r (IsCarriedOut Tells shows mark token giver p before old after new)) (sym same) done
 
 -- what the book is read for stays so in front of a look
-returned_before : (sheet : Text) (copy : ℕ) (held : HeldRental) (old new : State) → book.Stays old new
+pub returned_before : (sheet : Text) (copy : ℕ) (held : HeldRental) (old new : State) → book.Stays old new
     → IsReturned sheet copy held new → IsReturned sheet copy held old
 returned_before sheet copy held old new stays (inl is) = inl (λ journal rests. is journal (stays journal rests))
 returned_before sheet copy held old new stays (inr is) = inr ((λ journal rests. is.0 journal (stays journal rests)), is.1)

@@ -1,6 +1,8 @@
 pub mod GoingOn
 pub mod Giving
 pub mod Doing
+pub mod Adding
+pub mod Returned
 pub mod LastMoment
 pub mod Marks
 pub mod StandardLemmas

@@ -7,6 +7,7 @@ pub mod Wall
 pub mod Word
 pub mod Returns
 pub mod Doing
+pub mod Adding
 pub mod Sure
 pub mod Today
 pub mod Again

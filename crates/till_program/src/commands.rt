@@ -12,6 +12,7 @@ ghost use Rattle.till_work.specs.Desk.{GoesOn, Stays};
 ghost use Rattle.till_program.specs.Clock.{local_clock};
 ghost use Rattle.till_program.specs.Faults.{IsBookKept, giver_of};
 ghost use Rattle.till_program.specs.Giving.{IsDated, IsRequest, EntersTry, Tries, IsBack, Gives};
+ghost use Rattle.till_program.specs.Adding.{AddsTries};
 
 use crate::answers::{besides, command_said};
 use crate::book::Book;
@@ -173,6 +174,11 @@ fn give_once<S: Alter, K: WallClock, V: Server, L: Shelf, W: Watch>(
         → GoesOn (IsTold (V.opens desk.now.server.now) V.Reader.remaining V.Writer.contents)
         desk.now.settings.now.mark book.old.place (state S.Store conn.old) book.new.place
         (state S.Store conn.new) }
+    ensures adds { HasCleanDisk (state S.Store conn.new) → IsBookKept result
+        → AddsTries (local_clock (K.shows desk.now.clock.now) desk.now.settings.now.zone)
+        desk.now.settings.now.mark desk.now.settings.now.token
+        (giver_of desk.now.settings.now.staff desk.now.staff) (seen_act act.now)
+        book.old.place (state S.Store conn.old) book.new.place (state S.Store conn.new) }
 {
     match enter_act(desk, conn, book, act, ahead) {
         Ok(()) => {}
@@ -209,6 +215,11 @@ pub(crate) fn give<S: Alter, K: WallClock, V: Server, L: Shelf, W: Watch>(
         → GoesOn (IsTold (V.opens desk.now.server.now) V.Reader.remaining V.Writer.contents)
         desk.now.settings.now.mark book.old.place (state S.Store conn.old) book.new.place
         (state S.Store conn.new) }
+    ensures adds { HasCleanDisk (state S.Store conn.new) → IsBookKept result
+        → AddsTries (local_clock (K.shows desk.now.clock.now) desk.now.settings.now.zone)
+        desk.now.settings.now.mark desk.now.settings.now.token
+        (giver_of desk.now.settings.now.staff desk.now.staff) (seen_act act.now)
+        book.old.place (state S.Store conn.old) book.new.place (state S.Store conn.new) }
 {
     let mut told = Err(TillFault::OtherBook);
     'tries: for ahead in AHEAD {

@@ -8,6 +8,7 @@ ghost use Rattle.till_book.specs.Steps.{Stays};
 ghost use Rattle.till_work.specs.Told.{IsTold};
 ghost use Rattle.till_work.specs.Desk.{GoesOn, Grows, Sends, TellsLast};
 ghost use Rattle.till_program.specs.Faults.{IsBookKept};
+ghost use Rattle.till_program.specs.Adding.{AddsNoEntry};
 ghost use Rattle.till_program.specs.Word.{FailsToSendAll, SendsAll};
 
 use crate::book::Book;
@@ -77,6 +78,8 @@ pub(crate) fn send<S: Alter, K: WallClock, V: Server, L: Shelf, W: Watch>(
     ensures grows { HasCleanDisk (state S.Store conn.new) → IsBookKept result
         → Grows (IsTold (V.opens desk.now.server.now) V.Reader.remaining V.Writer.contents) place.old (state S.Store
         conn.old) place.new (state S.Store conn.new) }
+    ensures adds { HasCleanDisk (state S.Store conn.new) → IsBookKept result → (mark : Text)
+        → AddsNoEntry mark place.old (state S.Store conn.old) place.new (state S.Store conn.new) }
 {
     let before = place.replies;
     match send_all(desk, conn, place, watch) {

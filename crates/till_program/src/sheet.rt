@@ -133,7 +133,7 @@ fn period_of<K: WallClock, V: Server, L: Shelf>(
 fn due_of<K: WallClock, V: Server, L: Shelf>(
     desk: &Desk<'_, K, V, L>,
     film: Option<FilmNo>,
-    at: Option<Moment>,
+    at: &Option<Moment>,
 ) -> Option<Moment> {
     let (Some(film), Some(at)) = (film, at) else {
         return None;
@@ -147,7 +147,7 @@ fn due_of<K: WallClock, V: Server, L: Shelf>(
 pub(crate) fn about_rent<K: WallClock, V: Server, L: Shelf>(
     desk: &Desk<'_, K, V, L>,
     act: &Act,
-    at: Option<Moment>,
+    at: &Option<Moment>,
 ) -> Rented {
     let row = match act {
         Act::Rent { copy, .. } => row_of(desk, *copy),

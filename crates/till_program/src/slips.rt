@@ -8,6 +8,7 @@ use crate::fault::TillFault;
 use crate::said::Said;
 use crate::sheet::{Rented, branch_of};
 use shop_types::{Act, CustomerNo, Moment};
+use std::alloc::Global;
 use till_client::Answer;
 use till_shows::{Slip, SlipKind, last_slip, owed_cents, rental_in, slip_text};
 use till_work::Server;
@@ -15,18 +16,15 @@ use till_work::Server;
 /// The name of the file on the shelf.
 const NAME: &str = "slips";
 
-/// An accepted command for which a customer gets a slip.
-#[derive(Clone, Copy)]
-pub(crate) struct Slipped<'a> {
-    pub(crate) act: &'a Act,
-    /// The reply to the command.
-    pub(crate) answer: &'a Answer,
+/// What a slip says of an accepted command, besides who gave it and which film it was.
+#[derive(Drop)]
+pub(crate) struct Slipped {
+    kind: SlipKind,
     /// The command's moment.
-    pub(crate) at: Option<Moment>,
-    /// What is known of a rent's film.
-    pub(crate) rented: &'a Rented,
-    /// The reply to the question what the customer owes.
-    pub(crate) balance: Option<&'a Answer>,
+    at: Option<Moment>,
+    paid: Option<u64>,
+    owed: Option<i64>,
+    rental: Option<u64>,
 }
 
 /// Returns what an act is on a slip, and none if a customer gets no slip of it.
@@ -41,22 +39,19 @@ fn kind_of(act: &Act) -> Option<SlipKind> {
 }
 
 /// Returns whose debt is on an act's slip. `renter` is the customer of a return's rental, if the till knows.
-pub(crate) fn debtor_of(act: &Act, renter: Option<CustomerNo>) -> Option<CustomerNo> {
+pub(crate) fn debtor_of(act: &Act, renter: &Option<CustomerNo>) -> Option<CustomerNo> {
     match act {
         Act::Rent { customer, .. } | Act::Pay { customer, .. } => Some(*customer),
-        Act::TakeBack(_) => renter,
+        Act::TakeBack(_) => *renter,
         Act::Customer(_) | Act::Active { .. } | Act::Import { .. } => None,
         Act::Dispatch { .. } | Act::Receive { .. } | Act::Scrap(_) => None,
     }
 }
 
 /// Returns the number of the rental that an act is about, if there is one: a rent's is in its reply.
-fn rental_of<K: WallClock, V: Server, L: Shelf>(
-    desk: &Desk<'_, K, V, L>,
-    it: Slipped<'_>,
-) -> Option<u64> {
-    match it.act {
-        Act::Rent { .. } => rental_in(desk.alloc, it.answer.body.as_slice()).ok(),
+fn rental_of(alloc: Global, act: &Act, answer: &Answer) -> Option<u64> {
+    match act {
+        Act::Rent { .. } => rental_in(alloc, answer.body.as_slice()).ok(),
         Act::TakeBack(rental) => Some(u64::from(rental.get())),
         Act::Pay { rental, .. } => match rental {
             Some(rental) => Some(u64::from(rental.get())),
@@ -77,50 +72,70 @@ fn paid_of(act: &Act) -> Option<u64> {
 }
 
 /// Returns the cents that the customer owes, if the server said so.
-fn owed_of<K: WallClock, V: Server, L: Shelf>(
-    desk: &Desk<'_, K, V, L>,
-    it: Slipped<'_>,
-) -> Option<i64> {
-    match it.balance {
-        Some(answer) => owed_cents(desk.alloc, answer.body.as_slice()).ok(),
+fn owed_of(alloc: Global, balance: &Option<Answer>) -> Option<i64> {
+    match balance {
+        Some(answer) => owed_cents(alloc, answer.body.as_slice()).ok(),
         None => None,
     }
 }
 
-/// Returns the text of a slip of that kind.
+/// Returns what the slip of an accepted command says, if a customer gets one of it. `answer` is the reply to the
+/// command, and `balance` the reply to the question what the customer owes.
+pub(crate) fn slip_of(
+    alloc: Global,
+    act: &Act,
+    answer: &Answer,
+    at: &Option<Moment>,
+    balance: &Option<Answer>,
+) -> Option<Slipped> {
+    match kind_of(act) {
+        Some(kind) => Some(Slipped {
+            kind,
+            at: *at,
+            paid: paid_of(act),
+            owed: owed_of(alloc, balance),
+            rental: rental_of(alloc, act, answer),
+        }),
+        None => None,
+    }
+}
+
+/// Returns the text of a slip.
 fn text_of<K: WallClock, V: Server, L: Shelf>(
     desk: &Desk<'_, K, V, L>,
-    it: Slipped<'_>,
-    kind: SlipKind,
+    it: &Slipped,
+    rented: &Rented,
 ) -> Result<String, TillFault> {
     let staff = desk.giver()?;
     let at = match it.at {
         Some(at) => at,
         None => desk.now()?,
     };
+    let title = match &rented.title {
+        Some(title) => Some(title.as_str()),
+        None => None,
+    };
     let slip = Slip {
         branch: branch_of(desk.sheet),
         staff,
         at: desk.on_wall(at),
-        kind,
-        title: it.rented.title.as_deref(),
-        due: it.rented.due,
-        paid: paid_of(it.act),
-        owed: owed_of(desk, it),
-        rental: rental_of(desk, it),
+        kind: it.kind,
+        title,
+        due: rented.due,
+        paid: it.paid,
+        owed: it.owed,
+        rental: it.rental,
     };
     Ok(slip_text(desk.alloc, &slip)?)
 }
 
-/// Writes the slip of an accepted rent, return or payment after the last one. Returns false if it can't be written.
+/// Writes a slip after the last one, with what is known of a rent's film. Returns false if it can't be written.
 pub(crate) fn write_slip<K: WallClock, V: Server, L: Shelf>(
     desk: &Desk<'_, K, V, L>,
-    it: Slipped<'_>,
+    it: &Slipped,
+    rented: &Rented,
 ) -> bool {
-    let Some(kind) = kind_of(it.act) else {
-        return true;
-    };
-    match text_of(desk, it, kind) {
+    match text_of(desk, it, rented) {
         Ok(text) => desk
             .shelf
             .append(desk.alloc, NAME, text.as_str().as_bytes()),

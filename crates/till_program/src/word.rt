@@ -11,6 +11,7 @@ ghost use Rattle.till_requests.specs.Zones.{offset_of};
 ghost use Rattle.till_program.specs.Clock.{local_clock};
 ghost use Rattle.till_program.specs.Faults.{IsBookKept, IsReading, giver_of, others_fault};
 ghost use Rattle.till_program.specs.Giving.{GivesAct};
+ghost use Rattle.till_program.specs.Adding.{AddsTries, EntersPlan, EntersWord};
 ghost use Rattle.till_program.specs.Word.{
   KeepsATillsBook,
   KeepsABook,
@@ -40,12 +41,13 @@ use crate::returns::{balance_of, customer_of, owed_line, rental_at};
 use crate::said::Said;
 use crate::sendings::{send, waited};
 use crate::sheet::{Rented, about_rent};
-use crate::slips::{Slipped, debtor_of, say_slip, write_slip};
+use crate::slips::{debtor_of, say_slip, slip_of, write_slip};
 use crate::sure::{is_answered, wants_yes};
 use crate::today::{dated_if, enters_acts, today};
 use shop_types::{Act, CopyNo, CustomerNo, Moment};
 use sqlite::{Alter, Connection};
 use std::alloc::Global;
+use till_client::Answer;
 use till_requests::is_office_look;
 use till_words::{DayText, Drawer, TillAct, TillLook, WordList, help_text};
 use till_work::{Server, Watch};
@@ -294,34 +296,74 @@ fn plan_of<S: Alter, K: WallClock, V: Server, L: Shelf>(
     }
 }
 
-/// Says what the customer of an accepted return owes, and writes the slip of an accepted command, if it has one. Returns
+/// Asks what the customer of an act owes, if there is one.
+fn balance_after<K: WallClock, V: Server, L: Shelf>(
+    desk: &Desk<'_, K, V, L>,
+    act: &Act,
+    customer: &Option<CustomerNo>,
+    last: &Option<Moment>,
+) -> Option<Answer> {
+    match debtor_of(act, customer) {
+        Some(debtor) => balance_of(desk, debtor, *last).ok(),
+        None => None,
+    }
+}
+
+/// Says what the customer of a return owes, by the reply to that question.
+fn say_owed<K: WallClock, V: Server, L: Shelf>(
+    desk: &Desk<'_, K, V, L>,
+    customer: &Option<CustomerNo>,
+    balance: &Option<Answer>,
+    said: &mut Said,
+) -> Result<(), TillFault> {
+    if desk.is_json {
+        return Ok(());
+    }
+    let (Some(customer), Some(balance)) = (customer, balance) else {
+        return Ok(());
+    };
+    if let Ok(line) = owed_line(desk, *customer, balance) {
+        said.line(line.as_str())?;
+    }
+    Ok(())
+}
+
+/// If the act was accepted, says what the customer of a return owes, and writes the slip, if the act has one. Returns
 /// false if the slip can't be written.
 fn follow_up<K: WallClock, V: Server, L: Shelf>(
     desk: &Desk<'_, K, V, L>,
     act: &Act,
-    customer: Option<CustomerNo>,
-    last: Option<Moment>,
+    customer: &Option<CustomerNo>,
+    last: &Option<Moment>,
     rented: &Rented,
     told: &Told,
     said: &mut Said,
 ) -> Result<bool, TillFault> {
-    let balance = match debtor_of(act, customer) {
-        Some(debtor) => balance_of(desk, debtor, last).ok(),
-        None => None,
-    };
-    if let (Some(customer), Some(balance), false) = (customer, &balance, desk.is_json) {
-        if let Ok(line) = owed_line(desk, customer, balance) {
-            said.line(line.as_str())?;
-        }
+    if !told.is_accepted() {
+        return Ok(true);
     }
-    let slipped = Slipped {
-        act,
-        answer: &told.answer,
-        at: last,
-        rented,
-        balance: balance.as_ref(),
-    };
-    Ok(write_slip(desk, slipped))
+    if matches!(act, Act::Customer(_) | Act::Active { .. }) {
+        desk.shelf.forget(List::Customers.name());
+    }
+    let balance = balance_after(desk, act, customer, last);
+    say_owed(desk, customer, &balance, said)?;
+    match slip_of(desk.alloc, act, &told.answer, last, &balance) {
+        Some(slip) => Ok(write_slip(desk, &slip, rented)),
+        None => Ok(true),
+    }
+}
+
+/// Returns what is known of a rent's film and last day, if the rent was accepted.
+fn about_accepted<K: WallClock, V: Server, L: Shelf>(
+    desk: &Desk<'_, K, V, L>,
+    act: &Act,
+    last: &Option<Moment>,
+    told: &Told,
+) -> Rented {
+    if !told.is_accepted() {
+        return Rented::nothing();
+    }
+    about_rent(desk, act, last)
 }
 
 /// Says the outcome of a command, what its customer owes, and the outcomes of the entries that had waited before it.
@@ -333,19 +375,9 @@ fn told<K: WallClock, V: Server, L: Shelf>(
     told: &Told,
     waited: Option<Said>,
 ) -> Result<Said, TillFault> {
-    let rented = if told.is_accepted() {
-        about_rent(desk, act, last)
-    } else {
-        Rented::nothing()
-    };
+    let rented = about_accepted(desk, act, &last, told);
     let mut said = tell(desk, act, &rented, told)?;
-    let mut is_written = true;
-    if told.is_accepted() {
-        if matches!(act, Act::Customer(_) | Act::Active { .. }) {
-            desk.shelf.forget(List::Customers.name());
-        }
-        is_written = follow_up(desk, act, customer, last, &rented, told, &mut said)?;
-    }
+    let is_written = follow_up(desk, act, &customer, &last, &rented, told, &mut said)?;
     if let Some(table) = &waited {
         said.line("What had waited was sent first:")?;
         said.text.push_str(table.text.as_str())?;
@@ -377,6 +409,11 @@ fn give_and_tell<S: Alter, K: WallClock, V: Server, L: Shelf, W: Watch>(
         → GoesOn (IsTold (V.opens desk.now.server.now) V.Reader.remaining V.Writer.contents)
         desk.now.settings.now.mark book.old.place (state S.Store conn.old) book.new.place
         (state S.Store conn.new) }
+    ensures adds { HasCleanDisk (state S.Store conn.new) → IsBookKept result
+        → AddsTries (local_clock (K.shows desk.now.clock.now) desk.now.settings.now.zone)
+        desk.now.settings.now.mark desk.now.settings.now.token
+        (giver_of desk.now.settings.now.staff desk.now.staff) (seen_act act.now)
+        book.old.place (state S.Store conn.old) book.new.place (state S.Store conn.new) }
 {
     let before = book.place;
     let it = match give(desk, conn, book, act, watch) {
@@ -420,6 +457,11 @@ fn carry_out<S: Alter, K: WallClock, V: Server, L: Shelf, W: Watch>(
         → IsPlannedFor desk.now.settings.now.staff plan
         → Grows (IsTold (V.opens desk.now.server.now) V.Reader.remaining V.Writer.contents) book.old.place (state
         S.Store conn.old) book.new.place (state S.Store conn.new) }
+    ensures enters { HasCleanDisk (state S.Store conn.new) → IsBookKept result
+        → EntersPlan (local_clock (K.shows desk.now.clock.now) desk.now.settings.now.zone)
+        desk.now.settings.now.mark desk.now.settings.now.token
+        (giver_of desk.now.settings.now.staff desk.now.staff) plan book.old.place
+        (state S.Store conn.old) book.new.place (state S.Store conn.new) }
     ensures again { HasCleanDisk (state S.Store conn.new) → IfOk result (λ said. said.status < 3
         → RepeatsPlan (IsTold (V.opens desk.now.server.now) V.Reader.remaining V.Writer.contents)
         (local_clock (K.shows desk.now.clock.now) desk.now.settings.now.zone) desk.now.settings.now.mark desk.now.settings.now.token
@@ -443,7 +485,9 @@ fn carry_out<S: Alter, K: WallClock, V: Server, L: Shelf, W: Watch>(
 }
 
 /// Does a word at an open book, and says what it resulted in. An act that was typed is given once. A copy that comes
-/// back is the return of the register's rental, or of the sheet's if the register has none. After `send` each entry has its reply. A look leaves the book as it is.
+/// back is the return of the register's rental, or of the sheet's if the register has none. After `send` each entry has
+/// its reply. A look leaves the book as it is. Whatever becomes of a word, it enters nothing but tries of what was typed,
+/// unless the book failed.
 ///
 /// A branch's book stays one unless it failed, and what is in it stays, in head office's book too. A branch's command
 /// or look at head office's book is refused, whoever gives it: `IsOffice`. Head office's words at a branch's book are
@@ -498,6 +542,11 @@ pub fn do_word<S: Alter, K: WallClock, V: Server, L: Shelf, W: Watch>(
         → ¬ dates.IsDatedBook (local_clock (K.shows desk.now.clock.now) desk.now.settings.now.zone)
         desk.now.wall.entry (offset_of desk.now.settings.now.zone) desk.now.said_day (state S.Store conn.old)
         → Stays (state S.Store conn.old) (state S.Store conn.new) }
+    ensures enters { HasCleanDisk (state S.Store conn.new) → IsBookKept result
+        → EntersWord (local_clock (K.shows desk.now.clock.now) desk.now.settings.now.zone)
+        desk.now.settings.now.mark desk.now.settings.now.token
+        (giver_of desk.now.settings.now.staff desk.now.staff) desk.now.sheet.now act
+        (state S.Store conn.old) (state S.Store conn.new) }
     ensures again { HasCleanDisk (state S.Store conn.new) → IfOk result (λ said. said.status < 3
         → RepeatsWord (IsTold (V.opens desk.now.server.now) V.Reader.remaining V.Writer.contents)
         (local_clock (K.shows desk.now.clock.now) desk.now.settings.now.zone) desk.now.settings.now.mark desk.now.settings.now.token

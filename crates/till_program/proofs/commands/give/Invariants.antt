@@ -6,6 +6,7 @@ use Rattle.till_work.specs.Desk.{GoesOn}
 use Rattle.till_program.specs.Clock.{local_clock}
 use Rattle.till_program.specs.declared.commands.Told.{Told}
 use Rattle.till_program.specs.Faults.{giver_of}
+use Rattle.till_program.specs.Adding.{AddsTries}
 use Rattle.till_program.proofs.Giving.{SoFar}
 use Rattle.till_program.proofs.commands.give.Given as goal
 
@@ -20,3 +21,7 @@ invariant-tries g l =
     → SoFar tells (local_clock (g.K.WallClock.shows l.desk.clock.now) l.desk.settings.now.zone) l.desk.settings.now.mark l.desk.settings.now.token
     (giver_of l.desk.settings.now.staff l.desk.staff) (seen_act l.act) (λ (it : Told). seen_answer it.answer) l.told
     l.initial.book.place (state g.S.Store l.initial.conn) l.book.place (state g.S.Store l.conn))
+    × (HasCleanDisk (state g.S.Store l.conn)
+    → AddsTries (local_clock (g.K.WallClock.shows l.desk.clock.now) l.desk.settings.now.zone) l.desk.settings.now.mark l.desk.settings.now.token
+    (giver_of l.desk.settings.now.staff l.desk.staff) (seen_act l.act) l.initial.book.place (state g.S.Store l.initial.conn)
+    l.book.place (state g.S.Store l.conn))

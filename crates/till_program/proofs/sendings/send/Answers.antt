@@ -2,6 +2,7 @@ use Rattle.sqlite.specs.Held.{state}
 use Rattle.till_work.proofs.GoingOn.{sends_goes, sends_grows}
 use Rattle.till_program.proofs.GoingOn.{kept_ok, kept_as, goes_stays, grows_stays}
 use Rattle.till_program.proofs.Doing.{sends_all, all_stays}
+use Rattle.till_program.proofs.Adding.{sends_no_entry, no_entry_stays}
 use Rattle.till_program.proofs.sendings.send.Goals as goal
 
 pub returns-in-Err-clause-keeps : goal.returns-in-Err-clause-keeps
@@ -34,3 +35,15 @@ returns-clause-sent g c clean =
     (state g.S.Store c.send_all.new.conn) (state g.S.Store c.entries_after.new.conn)
     (sends_all _ c.args.place.now c.send_all.new.place (state g.S.Store c.args.conn.now) (state g.S.Store c.send_all.new.conn)
     (c.in-Ok.ensures.sends (c.entries_after.ensures.clean clean) (kept_ok _)) c.in-Ok.ensures.all) (c.entries_after.ensures.stays clean)
+
+pub returns-in-Err-clause-adds : goal.returns-in-Err-clause-adds
+returns-in-Err-clause-adds g c clean kept mark =
+    sends_no_entry _ mark c.args.place.now c.send_all.new.place (state g.S.Store c.args.conn.now) (state g.S.Store c.send_all.new.conn)
+    (c.in-Err.ensures.sends clean (kept_as c.in-Err.fault kept))
+
+pub returns-clause-adds : goal.returns-clause-adds
+returns-clause-adds g c clean kept mark =
+    no_entry_stays mark c.args.place.now c.send_all.new.place (state g.S.Store c.args.conn.now)
+    (state g.S.Store c.send_all.new.conn) (state g.S.Store c.entries_after.new.conn)
+    (sends_no_entry _ mark c.args.place.now c.send_all.new.place (state g.S.Store c.args.conn.now) (state g.S.Store c.send_all.new.conn)
+    (c.in-Ok.ensures.sends (c.entries_after.ensures.clean clean) (kept_ok _))) (c.entries_after.ensures.stays clean)

@@ -3,7 +3,9 @@ use Rattle.till_work.specs.Told.{IsTold}
 use Rattle.till_program.specs.Clock.{local_clock}
 use Rattle.till_program.specs.Faults.{giver_of}
 use Rattle.till_program.specs.declared.word.Plan.TheVariants as plan
+use Rattle.std.proofs.Common.{sym}
 use Rattle.till_program.proofs.Doing.{on_ok, carried_out}
+use Rattle.till_program.proofs.Adding.{enters_as}
 use Rattle.till_program.proofs.GoingOn.{kept_goes, kept_grows}
 use Rattle.till_program.proofs.word.carry_out.Goals as goal
 
@@ -77,3 +79,33 @@ returns-in-Day-clause-keeps g c clean kept branch planned =
 pub returns-in-Day-clause-grows : goal.returns-in-Day-clause-grows
 returns-in-Day-clause-grows g c clean kept office planned =
     kept_grows _ c.args.book.now.place (state g.S.Store c.args.conn.now) (state g.S.Store c.day.new.conn) (c.day.ensures.stays clean)
+
+pub returns-in-Give-clause-enters : goal.returns-in-Give-clause-enters
+returns-in-Give-clause-enters g c clean kept =
+    enters_as (local_clock (g.K.WallClock.shows c.args.desk.now.clock.now) c.args.desk.now.settings.now.zone)
+    c.args.desk.now.settings.now.mark c.args.desk.now.settings.now.token (giver_of c.args.desk.now.settings.now.staff c.args.desk.now.staff)
+    (plan.Give c.in-Give.act c.in-Give.customer) c.args.plan _ _ _ _ (sym c.in-Give.is) (c.give_and_tell.ensures.adds clean kept)
+
+pub returns-in-Send-clause-enters : goal.returns-in-Send-clause-enters
+returns-in-Send-clause-enters g c clean kept =
+    enters_as (local_clock (g.K.WallClock.shows c.args.desk.now.clock.now) c.args.desk.now.settings.now.zone)
+    c.args.desk.now.settings.now.mark c.args.desk.now.settings.now.token (giver_of c.args.desk.now.settings.now.staff c.args.desk.now.staff)
+    plan.Send c.args.plan _ _ _ _ (sym c.in-Send.is) (c.send.ensures.adds clean kept c.args.desk.now.settings.now.mark)
+
+pub returns-in-Waiting-clause-enters : goal.returns-in-Waiting-clause-enters
+returns-in-Waiting-clause-enters g c clean kept =
+    enters_as (local_clock (g.K.WallClock.shows c.args.desk.now.clock.now) c.args.desk.now.settings.now.zone)
+    c.args.desk.now.settings.now.mark c.args.desk.now.settings.now.token (giver_of c.args.desk.now.settings.now.staff c.args.desk.now.staff)
+    plan.Waiting c.args.plan _ _ _ _ (sym c.in-Waiting.is) (c.waiting_entries.ensures.stays clean)
+
+pub returns-in-Last-clause-enters : goal.returns-in-Last-clause-enters
+returns-in-Last-clause-enters g c clean kept =
+    enters_as (local_clock (g.K.WallClock.shows c.args.desk.now.clock.now) c.args.desk.now.settings.now.zone)
+    c.args.desk.now.settings.now.mark c.args.desk.now.settings.now.token (giver_of c.args.desk.now.settings.now.staff c.args.desk.now.staff)
+    (plan.Last c.in-Last.count) c.args.plan _ _ _ _ (sym c.in-Last.is) (c.last_entries.ensures.stays clean)
+
+pub returns-in-Day-clause-enters : goal.returns-in-Day-clause-enters
+returns-in-Day-clause-enters g c clean kept =
+    enters_as (local_clock (g.K.WallClock.shows c.args.desk.now.clock.now) c.args.desk.now.settings.now.zone)
+    c.args.desk.now.settings.now.mark c.args.desk.now.settings.now.token (giver_of c.args.desk.now.settings.now.staff c.args.desk.now.staff)
+    (plan.Day c.in-Day.asked) c.args.plan _ _ _ _ (sym c.in-Day.is) (c.day.ensures.stays clean)

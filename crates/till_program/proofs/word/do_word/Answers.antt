@@ -5,6 +5,9 @@ use Rattle.till_program.specs.declared.fault.TillFault.TheVariants.{OtherBook}
 use Rattle.till_program.specs.Faults.{IsReading, others_fault}
 use Rattle.till_program.proofs.GoingOn.{read_keeps, read_grows, stays_keeps, stays_grows, stays_both}
 use Rattle.till_program.proofs.Doing.{on_ok, ok_then, word_done}
+use Rattle.till_program.specs.Clock.{local_clock}
+use Rattle.till_program.specs.Faults.{giver_of}
+use Rattle.till_program.proofs.Adding.{stays_word, word_enters}
 use Rattle.till_program.proofs.Marks.{own_book, other_book}
 use Rattle.till_program.proofs.word.do_word.Goals as goal
 
@@ -235,3 +238,50 @@ returns-in_err-is_answered-clause-undated g c clean enters lacking =
     stays_both (state g.S.Store c.args.conn.now) (state g.S.Store c.read.new.conn)
     (state g.S.Store c.plan_of.new.conn) (c.read.ensures.stays (c.plan_of.ensures.clean clean))
     (c.plan_of.ensures.stays clean)
+
+-- ---- what is entered
+
+pub returns-in_err-book-clause-enters : goal.returns-in_err-book-clause-enters
+returns-in_err-book-clause-enters g c clean kept =
+    stays_word (local_clock (g.K.WallClock.shows c.args.desk.now.clock.now) c.args.desk.now.settings.now.zone)
+    c.args.desk.now.settings.now.mark c.args.desk.now.settings.now.token (giver_of c.args.desk.now.settings.now.staff c.args.desk.now.staff)
+    c.args.desk.now.sheet.now c.args.act (state g.S.Store c.args.conn.now) (state g.S.Store c.read.new.conn) (c.read.ensures.stays clean)
+
+pub returns-clause-enters : goal.returns-clause-enters
+returns-clause-enters g c clean kept =
+    let planned = c.carry_out.ensures.clean clean in
+    let read = c.plan_of.ensures.clean planned in
+    word_enters (local_clock (g.K.WallClock.shows c.args.desk.now.clock.now) c.args.desk.now.settings.now.zone)
+    c.args.desk.now.settings.now.mark c.args.desk.now.settings.now.token (giver_of c.args.desk.now.settings.now.staff c.args.desk.now.staff)
+    c.args.desk.now.sheet.now c.args.act c.in_ok-plan.plan c.in_ok-book.book.place c.carry_out.new.book.place
+    (state g.S.Store c.args.conn.now) (state g.S.Store c.read.new.conn)
+    (state g.S.Store c.plan_of.new.conn) (state g.S.Store c.carry_out.new.conn)
+    (c.in_ok-book.ensures.place read) (c.read.ensures.stays read) (c.plan_of.ensures.stays planned)
+    (c.in_ok-plan.ensures.acts planned) (c.carry_out.ensures.enters clean kept)
+
+pub returns-in_err-plan-clause-enters : goal.returns-in_err-plan-clause-enters
+returns-in_err-plan-clause-enters g c clean kept =
+    stays_word (local_clock (g.K.WallClock.shows c.args.desk.now.clock.now) c.args.desk.now.settings.now.zone)
+    c.args.desk.now.settings.now.mark c.args.desk.now.settings.now.token (giver_of c.args.desk.now.settings.now.staff c.args.desk.now.staff)
+    c.args.desk.now.sheet.now c.args.act (state g.S.Store c.args.conn.now) (state g.S.Store c.plan_of.new.conn)
+    (stays_both (state g.S.Store c.args.conn.now) (state g.S.Store c.read.new.conn)
+    (state g.S.Store c.plan_of.new.conn) (c.read.ensures.stays (c.plan_of.ensures.clean clean))
+    (c.plan_of.ensures.stays clean))
+
+pub returns-in_err-dated_if-clause-enters : goal.returns-in_err-dated_if-clause-enters
+returns-in_err-dated_if-clause-enters g c clean kept =
+    stays_word (local_clock (g.K.WallClock.shows c.args.desk.now.clock.now) c.args.desk.now.settings.now.zone)
+    c.args.desk.now.settings.now.mark c.args.desk.now.settings.now.token (giver_of c.args.desk.now.settings.now.staff c.args.desk.now.staff)
+    c.args.desk.now.sheet.now c.args.act (state g.S.Store c.args.conn.now) (state g.S.Store c.plan_of.new.conn)
+    (stays_both (state g.S.Store c.args.conn.now) (state g.S.Store c.read.new.conn)
+    (state g.S.Store c.plan_of.new.conn) (c.read.ensures.stays (c.plan_of.ensures.clean clean))
+    (c.plan_of.ensures.stays clean))
+
+pub returns-in_err-is_answered-clause-enters : goal.returns-in_err-is_answered-clause-enters
+returns-in_err-is_answered-clause-enters g c clean kept =
+    stays_word (local_clock (g.K.WallClock.shows c.args.desk.now.clock.now) c.args.desk.now.settings.now.zone)
+    c.args.desk.now.settings.now.mark c.args.desk.now.settings.now.token (giver_of c.args.desk.now.settings.now.staff c.args.desk.now.staff)
+    c.args.desk.now.sheet.now c.args.act (state g.S.Store c.args.conn.now) (state g.S.Store c.plan_of.new.conn)
+    (stays_both (state g.S.Store c.args.conn.now) (state g.S.Store c.read.new.conn)
+    (state g.S.Store c.plan_of.new.conn) (c.read.ensures.stays (c.plan_of.ensures.clean clean))
+    (c.plan_of.ensures.stays clean))

@@ -5,6 +5,7 @@ use Rattle.till_work.specs.Told.{IsTold}
 use Rattle.till_program.specs.Clock.{local_clock}
 use Rattle.till_program.specs.Faults.{giver_of}
 use Rattle.till_program.proofs.Doing.{gives_told}
+use Rattle.till_program.proofs.Adding.{adds_stays}
 use Rattle.till_program.proofs.GoingOn.{kept_ok, kept_as, goes_stays}
 use Rattle.till_program.proofs.word.give_and_tell.Goals as goal
 
@@ -32,3 +33,22 @@ returns-clause-given g c clean =
     (seen_answer c.in-Ok.it.answer) c.args.book.now.place c.give.new.book.place
     (state g.S.Store c.args.conn.now) (state g.S.Store c.give.new.conn) (state g.S.Store c.waited.new.conn)
     (c.in-Ok.ensures.given (c.waited.ensures.clean clean)) (c.waited.ensures.stays clean)
+
+pub returns-in_err-table-clause-adds : goal.returns-in_err-table-clause-adds
+returns-in_err-table-clause-adds g c clean kept =
+    adds_stays (local_clock (g.K.WallClock.shows c.args.desk.now.clock.now) c.args.desk.now.settings.now.zone)
+    c.args.desk.now.settings.now.mark c.args.desk.now.settings.now.token (giver_of c.args.desk.now.settings.now.staff c.args.desk.now.staff)
+    (seen_act c.args.act.now) c.args.book.now.place c.give.new.book.place
+    (state g.S.Store c.args.conn.now) (state g.S.Store c.give.new.conn) (state g.S.Store c.waited.new.conn)
+    (c.in-Ok.ensures.adds (c.waited.ensures.clean clean) (kept_ok _)) (c.waited.ensures.stays clean)
+
+pub returns-clause-adds : goal.returns-clause-adds
+returns-clause-adds g c clean kept =
+    adds_stays (local_clock (g.K.WallClock.shows c.args.desk.now.clock.now) c.args.desk.now.settings.now.zone)
+    c.args.desk.now.settings.now.mark c.args.desk.now.settings.now.token (giver_of c.args.desk.now.settings.now.staff c.args.desk.now.staff)
+    (seen_act c.args.act.now) c.args.book.now.place c.give.new.book.place
+    (state g.S.Store c.args.conn.now) (state g.S.Store c.give.new.conn) (state g.S.Store c.waited.new.conn)
+    (c.in-Ok.ensures.adds (c.waited.ensures.clean clean) (kept_ok _)) (c.waited.ensures.stays clean)
+
+pub returns-in-Err-clause-adds : goal.returns-in-Err-clause-adds
+returns-in-Err-clause-adds g c clean kept = c.in-Err.ensures.adds clean (kept_as c.in-Err.fault kept)
