@@ -66,7 +66,10 @@ struct Kept {
 }
 
 /// Returns the list, if the shelf has one that isn't old.
-fn kept<K: WallClock, V: Server, L: Shelf>(desk: &Desk<'_, K, V, L>, list: List) -> Option<Kept> {
+fn kept_list<K: WallClock, V: Server, L: Shelf>(
+    desk: &Desk<'_, K, V, L>,
+    list: List,
+) -> Option<Kept> {
     let (second, body) = desk.shelf.take(desk.alloc, list.name())?;
     let seconds = desk.seconds().ok()?.checked_sub(second)?;
     if seconds < KEPT {
@@ -121,7 +124,7 @@ pub(crate) fn found<K: WallClock, V: Server, L: Shelf>(
     list: List,
     part: &str,
 ) -> Result<Picked, TillFault> {
-    if let Some(Kept { body, seconds }) = kept(desk, list) {
+    if let Some(Kept { body, seconds }) = kept_list(desk, list) {
         if let Ok(table) = list.with(desk.alloc, body.as_slice(), part) {
             if !table.is_empty() {
                 let answer = Answer { status: 200, body };
@@ -142,7 +145,7 @@ pub(crate) fn name_if_known<K: WallClock, V: Server, L: Shelf>(
     desk: &Desk<'_, K, V, L>,
     customer: CustomerNo,
 ) -> Option<String> {
-    let list = kept(desk, List::Customers)?;
+    let list = kept_list(desk, List::Customers)?;
     customer_named(desk.alloc, list.body.as_slice(), customer).ok()?
 }
 
@@ -167,7 +170,7 @@ pub(crate) fn title_of<K: WallClock, V: Server, L: Shelf>(
     desk: &Desk<'_, K, V, L>,
     film: FilmNo,
 ) -> Result<Option<String>, TillFault> {
-    if let Some(list) = kept(desk, List::Films) {
+    if let Some(list) = kept_list(desk, List::Films) {
         if let Ok(Some(title)) = film_named(desk.alloc, list.body.as_slice(), film) {
             return Ok(Some(title));
         }

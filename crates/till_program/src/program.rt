@@ -248,7 +248,7 @@ enum Consent {
 }
 
 /// Returns what came of the question before a word.
-fn consent<K: WallClock, V: Server, L: Shelf, W: Write>(
+fn consent_to<K: WallClock, V: Server, L: Shelf, W: Write>(
     rt: &HostRuntime,
     desk: &Desk<'_, K, V, L>,
     act: &TillAct,
@@ -337,7 +337,7 @@ fn with_tools<'x, W: Write, E: Write>(
     };
     desk.said_day = asked.said_day;
     if !is_sure {
-        match consent(rt, &desk, &act, asks, asked.last, out) {
+        match consent_to(rt, &desk, &act, asks, asked.last, out) {
             Consent::Given => desk.is_sure = true,
             Consent::Missing => {}
             Consent::Asked(question) => return question_outcome(question.as_str(), way.line, out),

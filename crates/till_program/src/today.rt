@@ -61,7 +61,9 @@ struct Clocks {
 }
 
 /// Reads both clocks.
-fn clocks<K: WallClock, V: Server, L: Shelf>(desk: &Desk<'_, K, V, L>) -> Result<Clocks, TillFault>
+fn both_clocks<K: WallClock, V: Server, L: Shelf>(
+    desk: &Desk<'_, K, V, L>,
+) -> Result<Clocks, TillFault>
     ensures till { IfOk result (λ it. local_clock (K.shows desk.now.clock.now) desk.now.settings.now.zone
         (seconds_of it.till)) }
     ensures wall { IfOk result (λ it. spec.IsOnWall desk.now.wall.entry (offset_of desk.now.settings.now.zone)
@@ -76,7 +78,7 @@ fn clocks<K: WallClock, V: Server, L: Shelf>(desk: &Desk<'_, K, V, L>) -> Result
 pub(crate) fn wall_day<K: WallClock, V: Server, L: Shelf>(
     desk: &Desk<'_, K, V, L>,
 ) -> Result<i32, TillFault> {
-    let Clocks { wall, .. } = clocks(desk)?;
+    let Clocks { wall, .. } = both_clocks(desk)?;
     Ok(wall.day())
 }
 
@@ -111,7 +113,7 @@ pub(crate) fn dated<K: WallClock, V: Server, L: Shelf>(
         desk.now.wall.entry (offset_of desk.now.settings.now.zone) desk.now.said_day
         (spec.last_moment book.now.place.entries book.now.last)) }
 {
-    let Clocks { till, wall } = clocks(desk)?;
+    let Clocks { till, wall } = both_clocks(desk)?;
     if is_near(last_moment(book), till) || desk.said_day == Some(wall.day()) {
         Ok(())
     } else {
@@ -154,7 +156,7 @@ fn accept_day<K: WallClock, V: Server, L: Shelf>(
     let Some(said) = day_in(desk.alloc, date)? else {
         return Err(TillFault::NoDate);
     };
-    let Clocks { wall, .. } = clocks(desk)?;
+    let Clocks { wall, .. } = both_clocks(desk)?;
     let clock = wall.day();
     if said != clock {
         return Err(TillFault::OtherDay { clock, said });
