@@ -15,7 +15,8 @@ use Rattle.till_words.specs.declared.words.TillAct.{TillAct}
 use Rattle.till_words.specs.declared.words.TillAct.TheVariants as typed
 use Rattle.till_program.specs.declared.fault.TillFault.{TillFault}
 use Rattle.till_program.specs.Doing.{DoesWord, GivesWord}
-use Rattle.till_program.specs.Word.{KeepsATillsBook, IsHeldIn, IsBehind}
+use Rattle.till_program.specs.Returns.{IsReturned}
+use Rattle.till_program.specs.Word.{KeepsATillsBook, IsBehind}
 use Rattle.till_desk.specs.Windows.{Done, IsDone, AreDone, IsGivenIn, IsIn, book_after}
 
 module _ (Tells : List ℕ → Answer → Type 0) (shows : ℕ → Type 0) (mark token : Text) where
@@ -89,17 +90,17 @@ module _ (Tells : List ℕ → Answer → Type 0) (shows : ℕ → Type 0) (mark
       → IsTrue word.is_said → word.act ≡ typed.Do what
       → IsIn shows mark token word.giver (seen_act what) commands (book_after word.after later)
   acts_stay s journal commands before later word what rests book first done last told is =
-      let does : DoesWord Tells shows mark token word.giver (typed.Do what) (book_after s before) word.after =
-      subst (λ (act : TillAct). DoesWord Tells shows mark token word.giver act (book_after s before) word.after) is (done.does told) in
+      let does : DoesWord Tells shows mark token word.giver word.sheet (typed.Do what) (book_after s before) word.after =
+      subst (λ (act : TillAct). DoesWord Tells shows mark token word.giver word.sheet act (book_after s before) word.after) is (done.does told) in
       given_stays s journal commands before later word (seen_act what) rests book first last does
 
   pub copies_come_back : (s : State) (journal : Journal) (commands : List Command) (before later : List Done) (word : Done) (copy : ℕ)
       → Rests s journal → IsTillsBook mark journal commands
       → AreDone Tells shows mark token s before → IsDone Tells shows mark token (book_after s before) word → AreDone Tells shows mark token word.after later
       → IsTrue word.is_said → word.act ≡ typed.ReturnCopy copy
-      → (held : HeldRental) × IsHeldIn copy held (book_after s before)
+      → (held : HeldRental) × IsReturned word.sheet copy held (book_after s before)
       × IsIn shows mark token word.giver (seen_act (TakeBack held.rental)) commands (book_after word.after later)
   copies_come_back s journal commands before later word copy rests book first done last told is =
-      let does : DoesWord Tells shows mark token word.giver (typed.ReturnCopy copy) (book_after s before) word.after =
-      subst (λ (act : TillAct). DoesWord Tells shows mark token word.giver act (book_after s before) word.after) is (done.does told) in
+      let does : DoesWord Tells shows mark token word.giver word.sheet (typed.ReturnCopy copy) (book_after s before) word.after =
+      subst (λ (act : TillAct). DoesWord Tells shows mark token word.giver word.sheet act (book_after s before) word.after) is (done.does told) in
       (does.0, does.1, given_stays s journal commands before later word (seen_act (TakeBack does.0.rental)) rests book first last does.2)

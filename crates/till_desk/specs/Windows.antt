@@ -16,12 +16,14 @@ use Rattle.till_words.specs.declared.words.TillAct.TheVariants as typed
 use Rattle.till_program.specs.declared.fault.TillFault.{TillFault}
 use Rattle.till_program.specs.Doing.{DoesWord}
 use Rattle.till_program.specs.Giving.{AreTries, IsBack}
-use Rattle.till_program.specs.Word.{KeepsATillsBook, IsHeldIn, IsBehind}
+use Rattle.till_program.specs.Returns.{IsReturned}
+use Rattle.till_program.specs.Word.{KeepsATillsBook}
 
--- a word: at which window, who gave it, what it asked for, whether the desk replied that it was done, and the book after it
+-- a word: at which window, who gave it, the sheet beside the book, what it asked for, whether the desk replied that it was done, and the book after it
 pub record Done : Type 0 where
   pub window : ℕ
   pub giver : Result ℕ TillFault
+  pub sheet : Text
   pub act : TillAct
   pub is_said : Bool
   pub after : State
@@ -29,7 +31,7 @@ pub record Done : Type 0 where
 -- The word kept the book as `do_word` says. If the desk replied that it was done, it was done as `do_word` says.
 pub record IsDone (Tells : List ℕ → Answer → Type 0) (shows : ℕ → Type 0) (mark token : Text) (before : State) (word : Done) : Type 0 where
   pub keeps : KeepsATillsBook Tells mark before word.after
-  pub does : IsTrue word.is_said → DoesWord Tells shows mark token word.giver word.act before word.after
+  pub does : IsTrue word.is_said → DoesWord Tells shows mark token word.giver word.sheet word.act before word.after
 
 -- Words were done one after another, of any windows in any order. Each found the book as the word before it had left it.
 abbrev pub AreDone : (List ℕ → Answer → Type 0) → (ℕ → Type 0) → Text → Text → State → List Done → Type 0
@@ -87,7 +89,7 @@ ActsStay =
     → IsTrue word.is_said → word.act ≡ typed.Do what
     → IsIn shows mark token word.giver (seen_act what) commands (book_after word.after later)
 
--- A copy that came back at any window is the return of its rental in the one book. Which window entered that rental doesn't matter.
+-- A copy that came back at any window is the return of its rental in the one book, or in the sheet. Which window entered that rental doesn't matter.
 abbrev pub CopiesComeBack : Type 0
 CopiesComeBack =
     (Tells : List ℕ → Answer → Type 0) (shows : ℕ → Type 0) (mark token : Text) (s : State)
@@ -95,5 +97,5 @@ CopiesComeBack =
     → Rests s journal → IsTillsBook mark journal commands
     → AreDone Tells shows mark token s before → IsDone Tells shows mark token (book_after s before) word → AreDone Tells shows mark token word.after later
     → IsTrue word.is_said → word.act ≡ typed.ReturnCopy copy
-    → (held : HeldRental) × IsHeldIn copy held (book_after s before)
+    → (held : HeldRental) × IsReturned word.sheet copy held (book_after s before)
     × IsIn shows mark token word.giver (seen_act (TakeBack held.rental)) commands (book_after word.after later)
