@@ -1,5 +1,5 @@
 -- Acts that are given once more.
-use Rattle.std.proofs.Common.{◌≡◌, ◌∷◌, [], ℕ, zero, suc, List, map, Option, None, Some, Result, Ok, Err, IfOk, subst, ap}
+use Rattle.std.proofs.Common.{◌≡◌, ◌∷◌, [], ℕ, zero, suc, List, map, Option, None, Some, Result, Ok, Err, IfOk, subst, sym, ap}
 use Rattle.std.specs.Prelude.{slice_get}
 use Rattle.std.proofs.lemmas.List.Elements.{All-weaker}
 use Rattle.sqlite.specs.State.{State}
@@ -93,6 +93,15 @@ pub book_before :
 book_before Tells shows mark token own n acts before after old mid new gives stays journal commands at =
     let it = gives journal commands at in
     (it.0, it.1, record { rests = stays it.0 it.2.rests; book = it.2.book; entries = it.2.entries; replies = it.2.replies }, it.3)
+
+-- what was repeated of a plan was repeated of the same plan by another name
+pub repeats_as :
+    {A E : Type 0} (r : Result A E) {P : A → Type 0} (Tells : List ℕ → Answer → Type 0) (shows : ℕ → Type 0) (mark token : Text) (own : Option ℕ)
+    (it other : Plan) (before : Place) (old : State) (after : Place) (new : State) → it ≡ other
+    → IfOk r (λ (a : A). P a → RepeatsPlan Tells shows mark token own other before old after new)
+    → IfOk r (λ (a : A). P a → RepeatsPlan Tells shows mark token own it before old after new)
+repeats_as {A} r {P} Tells shows mark token own it other before old after new same is =
+    subst (λ (p : Plan). IfOk r (λ (a : A). P a → RepeatsPlan Tells shows mark token own p before old after new)) (sym same) is
 
 -- an entry that was refused in front of a look was refused
 each_before : (acts : List Repeat) (old mid : State) → book.Stays old mid → All (IsRefusedIn mid) acts → All (IsRefusedIn old) acts
