@@ -34,6 +34,14 @@ mapped_at f [] i x e = absurd (none_some x e)
 mapped_at {A} {B} f (y ∷ ys) zero x e = ap (λ (it : A). Some (f it)) (some_same y x e)
 mapped_at f (y ∷ ys) (suc i) x e = mapped_at f ys i x e
 
+-- what holds of a desk holds of one with the same clock, server and settings
+pub by_same :
+    {X Y Z W : Type 0} (P : X → Y → Z → W → Type 0) {x x' : X} {y y' : Y} {z z' : Z} {w w' : W}
+    → x ≡ x' → y ≡ y' → z ≡ z' → w ≡ w' → P x y z w → P x' y' z' w'
+by_same {X} {Y} {Z} {W} P {x} {x'} {y} {y'} {z} {z'} {w} {w'} one two three four holds =
+    subst (λ (it : X). P it y' z' w') one
+    (subst (λ (it : Y). P x it z' w') two (subst (λ (it : Z). P x y it w') three (subst (λ (it : W). P x y z it) four holds)))
+
 -- of a result that is no fault, what follows
 pub if_ok_then : {A E : Type 0} (r : Result A E) {P : A → Type 0} {Q R : Type 0} → IfOk r (λ (a : A). P a → Q) → (Q → R) → IfOk r (λ (a : A). P a → R)
 if_ok_then (Ok a) holds follows = λ p. follows (holds p)

@@ -50,9 +50,14 @@ fn give_again<S: Alter, K: WallClock, V: Server, L: Shelf, W: Watch>(
         desk.now.settings.now.mark book.old.place (state S.Store conn.old) book.new.place
         (state S.Store conn.new) }
 {
-    let desk = desk.by(it.staff);
-    match give(&desk, conn, book, &it.act, watch) {
-        Ok(_) => Ok(()),
+    let theirs = desk.by(it.staff);
+    let given = give(&theirs, conn, book, &it.act, watch);
+    drop(theirs);
+    match given {
+        Ok(told) => {
+            drop(told);
+            Ok(())
+        }
         Err(fault) => Err(fault),
     }
 }

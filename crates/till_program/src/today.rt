@@ -61,7 +61,9 @@ struct Clocks {
 }
 
 /// Reads both clocks.
-fn read_clocks<K: WallClock, V: Server, L: Shelf>(desk: &Desk<'_, K, V, L>) -> Result<Clocks, TillFault>
+fn read_clocks<K: WallClock, V: Server, L: Shelf>(
+    desk: &Desk<'_, K, V, L>,
+) -> Result<Clocks, TillFault>
     ensures till { IfOk result (λ it. local_clock (K.shows desk.now.clock.now) desk.now.settings.now.zone
         (seconds_of it.till)) }
     ensures wall { IfOk result (λ it. spec.IsOnWall desk.now.wall (offset_of desk.now.settings.now.zone)
