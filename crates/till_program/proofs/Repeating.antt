@@ -1,5 +1,5 @@
 -- Acts that are given once more.
-use Rattle.std.proofs.Common.{◌≡◌, ◌∷◌, [], ℕ, zero, suc, List, map, Option, None, Some, Result, Ok, Err, IfOk, subst, ap}
+use Rattle.std.proofs.Common.{◌≡◌, ◌∷◌, [], ℕ, zero, suc, List, map, Option, None, Some, Result, Ok, Err, IfOk, subst, sym, ap}
 use Rattle.std.specs.Prelude.{slice_get}
 use Rattle.std.proofs.lemmas.List.Elements.{All-weaker}
 use Rattle.sqlite.specs.State.{State}
@@ -33,6 +33,14 @@ pub mapped_at : {A B : Type 0} (f : A → B) (xs : List A) (i : ℕ) (x : A) →
 mapped_at f [] i x e = absurd (none_some x e)
 mapped_at {A} {B} f (y ∷ ys) zero x e = ap (λ (it : A). Some (f it)) (some_same y x e)
 mapped_at f (y ∷ ys) (suc i) x e = mapped_at f ys i x e
+
+-- what holds of a desk holds of one with the same clock, server and settings
+pub by_same :
+    {X Y Z W : Type 0} (P : X → Y → Z → W → Type 0) {x x' : X} {y y' : Y} {z z' : Z} {w w' : W}
+    → x ≡ x' → y ≡ y' → z ≡ z' → w ≡ w' → P x y z w → P x' y' z' w'
+by_same {X} {Y} {Z} {W} P {x} {x'} {y} {y'} {z} {z'} {w} {w'} one two three four holds =
+    subst (λ (it : X). P it y' z' w') one
+    (subst (λ (it : Y). P x it z' w') two (subst (λ (it : Z). P x y it w') three (subst (λ (it : W). P x y z it) four holds)))
 
 -- of a result that is no fault, what follows
 pub if_ok_then : {A E : Type 0} (r : Result A E) {P : A → Type 0} {Q R : Type 0} → IfOk r (λ (a : A). P a → Q) → (Q → R) → IfOk r (λ (a : A). P a → R)
@@ -93,6 +101,15 @@ pub book_before :
 book_before Tells shows mark token own n acts before after old mid new gives stays journal commands at =
     let it = gives journal commands at in
     (it.0, it.1, record { rests = stays it.0 it.2.rests; book = it.2.book; entries = it.2.entries; replies = it.2.replies }, it.3)
+
+-- what was repeated of a plan was repeated of the same plan by another name
+pub repeats_as :
+    {A E : Type 0} (r : Result A E) {P : A → Type 0} (Tells : List ℕ → Answer → Type 0) (shows : ℕ → Type 0) (mark token : Text) (own : Option ℕ)
+    (it other : Plan) (before : Place) (old : State) (after : Place) (new : State) → it ≡ other
+    → IfOk r (λ (a : A). P a → RepeatsPlan Tells shows mark token own other before old after new)
+    → IfOk r (λ (a : A). P a → RepeatsPlan Tells shows mark token own it before old after new)
+repeats_as {A} r {P} Tells shows mark token own it other before old after new same is =
+    subst (λ (p : Plan). IfOk r (λ (a : A). P a → RepeatsPlan Tells shows mark token own p before old after new)) (sym same) is
 
 -- an entry that was refused in front of a look was refused
 each_before : (acts : List Repeat) (old mid : State) → book.Stays old mid → All (IsRefusedIn mid) acts → All (IsRefusedIn old) acts

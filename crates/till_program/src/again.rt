@@ -50,9 +50,14 @@ fn give_again<S: Alter, K: WallClock, V: Server, L: Shelf, W: Watch>(
         desk.now.settings.now.mark book.old.place (state S.Store conn.old) book.new.place
         (state S.Store conn.new) }
 {
-    let desk = desk.by(it.staff);
-    match give(&desk, conn, book, &it.act, watch) {
-        Ok(_) => Ok(()),
+    let theirs = desk.by(it.staff);
+    let given = give(&theirs, conn, book, &it.act, watch);
+    drop(theirs);
+    match given {
+        Ok(told) => {
+            drop(told);
+            Ok(())
+        }
         Err(fault) => Err(fault),
     }
 }
@@ -89,6 +94,20 @@ fn give_each<S: Alter, K: WallClock, V: Server, L: Shelf, W: Watch>(
     Ok(None)
 }
 
+/// Adds the fault that ended it.
+fn stopped_said(alloc: Global, said: Said, fault: TillFault) -> Result<Said, TillFault>
+    ensures { IfOk result (λ said. said.status < 3 → ⊥) }
+{
+    let mut said = said;
+    let line = format!(in alloc; "{fault}")?;
+    said.line(line.as_str())?;
+    let Said { text, .. } = said;
+    Ok(Said {
+        text,
+        status: fault.status().max(STOPPED),
+    })
+}
+
 /// Says what was left out, and then the entries that were sent and entered. If a fault ended it, says that too.
 fn again_said(
     alloc: Global,
@@ -103,12 +122,10 @@ fn again_said(
         said.status = 1;
         said.line(left.as_str())?;
     }
-    if let Some(fault) = stopped {
-        said.status = fault.status().max(STOPPED);
-        let line = format!(in alloc; "{fault}")?;
-        said.line(line.as_str())?;
+    match stopped {
+        Some(fault) => stopped_said(alloc, said, fault),
+        None => Ok(said),
     }
-    Ok(said)
 }
 
 /// Shows the entries that had waited and those that were entered after them, or says that there was none to repeat. The

@@ -1,6 +1,6 @@
 //! The entries that were refused because the branch had a later moment, and weren't repeated yet.
 
-ghost use Rattle.std.specs.Prelude.{IfOk, OnOk};
+ghost use Rattle.std.specs.Prelude.{◌≡◌, [], ◌∷◌, ◌++◌, IfOk, OnOk};
 ghost use Rattle.std.specs.List.{All};
 ghost use Rattle.till_program.specs.Again.{IsBackAt, IsRefused};
 
@@ -69,6 +69,14 @@ fn leave_out<K: WallClock, V: Server, L: Shelf>(
     Ok(())
 }
 
+/// Adds an act after the others.
+fn add_repeat(repeats: &mut Repeats, it: Repeat) -> Result<(), TillFault>
+    ensures { OnOk result (repeats.new.acts.items ≡ repeats.old.acts.items ++ it ∷ []) }
+{
+    repeats.acts.push(it)?;
+    Ok(())
+}
+
 /// Adds the entry at that place, if it wasn't repeated. A rent or a return of another day is left out unless `late`.
 fn add_entry<K: WallClock, V: Server, L: Shelf>(
     desk: &Desk<'_, K, V, L>,
@@ -91,8 +99,7 @@ fn add_entry<K: WallClock, V: Server, L: Shelf>(
         return leave_out(desk, entries, at, &mut repeats.left);
     }
     let Command { staff, act, .. } = command;
-    repeats.acts.push(Repeat { staff, act })?;
-    Ok(())
+    add_repeat(repeats, Repeat { staff, act })
 }
 
 /// Returns the entries that are to be given once more, the oldest first.

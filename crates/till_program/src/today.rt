@@ -98,7 +98,7 @@ fn is_near(last: Option<Moment>, now: Moment) -> bool
     ensures { result ≡ true → spec.IsNear last now }
 {
     match last {
-        Some(last) => now.seconds() <= last.seconds() + LONG,
+        Some(last) => now.seconds().saturating_sub(last.seconds()) <= LONG,
         None => false,
     }
 }

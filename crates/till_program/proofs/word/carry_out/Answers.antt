@@ -7,6 +7,7 @@ use Rattle.std.proofs.Common.{sym}
 use Rattle.till_program.proofs.Doing.{on_ok, carried_out}
 use Rattle.till_program.proofs.Adding.{enters_as}
 use Rattle.till_program.proofs.GoingOn.{kept_goes, kept_grows}
+use Rattle.till_program.proofs.Repeating.{repeats_as}
 use Rattle.till_program.proofs.word.carry_out.Goals as goal
 
 pub returns-in-Give-clause-keeps : goal.returns-in-Give-clause-keeps
@@ -109,3 +110,13 @@ returns-in-Day-clause-enters g c clean kept =
     enters_as (local_clock (g.K.WallClock.shows c.args.desk.now.clock.now) c.args.desk.now.settings.now.zone)
     c.args.desk.now.settings.now.mark c.args.desk.now.settings.now.token (giver_of c.args.desk.now.settings.now.staff c.args.desk.now.staff)
     (plan.Day c.in-Day.asked) c.args.plan _ _ _ _ (sym c.in-Day.is) (c.day.ensures.stays clean)
+
+pub returns-in-Again-clause-keeps : goal.returns-in-Again-clause-keeps
+returns-in-Again-clause-keeps g c clean kept branch planned = c.again.ensures.keeps clean kept
+
+pub returns-in-Again-clause-again : goal.returns-in-Again-clause-again
+returns-in-Again-clause-again g c clean =
+    repeats_as c.again.result (IsTold (g.V.Server.opens c.args.desk.now.server.now) g.V.Reader.Read.remaining g.V.Writer.Write.contents)
+    (local_clock (g.K.WallClock.shows c.args.desk.now.clock.now) c.args.desk.now.settings.now.zone)
+    c.args.desk.now.settings.now.mark c.args.desk.now.settings.now.token c.args.desk.now.settings.now.staff c.args.plan
+    (plan.Again c.in-Again.late) _ _ _ _ c.in-Again.is (c.again.ensures.given clean)

@@ -9,6 +9,11 @@ use Rattle.till_program.specs.Clock.{local_clock}
 use Rattle.till_program.specs.Faults.{giver_of}
 use Rattle.till_program.proofs.Adding.{stays_word, word_enters}
 use Rattle.till_program.proofs.Marks.{own_book, other_book}
+use Rattle.till_work.specs.Told.{IsTold}
+use Rattle.till_requests.specs.Zones.{offset_of}
+use Rattle.till_program.specs.Clock.{local_clock}
+use Rattle.till_program.proofs.Dates.{dated_book}
+use Rattle.till_program.proofs.Repeating.{if_ok_then, word_repeated}
 use Rattle.till_program.proofs.word.do_word.Goals as goal
 
 pub returns-in_err-book-clause-keeps : goal.returns-in_err-book-clause-keeps
@@ -285,3 +290,39 @@ returns-in_err-is_answered-clause-enters g c clean kept =
     (stays_both (state g.S.Store c.args.conn.now) (state g.S.Store c.read.new.conn)
     (state g.S.Store c.plan_of.new.conn) (c.read.ensures.stays (c.plan_of.ensures.clean clean))
     (c.plan_of.ensures.stays clean))
+
+pub returns-clause-dated : goal.returns-clause-dated
+returns-clause-dated g c clean enters =
+    let planned = c.carry_out.ensures.clean clean in
+    let read = c.plan_of.ensures.clean planned in
+    on_ok _
+    (dated_book (local_clock (g.K.WallClock.shows c.args.desk.now.clock.now) c.args.desk.now.settings.now.zone)
+    c.args.desk.now.wall (offset_of c.args.desk.now.settings.now.zone) c.args.desk.now.said_day
+    c.in_ok-book.book.last c.in_ok-book.book.place (state g.S.Store c.args.conn.now)
+    (c.in_ok-book.ensures.place read) (c.in_ok-book.ensures.moment read) (c.in_ok-dated_if.ensures (c.enters_acts.ensures ∙ enters)))
+
+pub returns-clause-undated : goal.returns-clause-undated
+returns-clause-undated g c clean enters lacking =
+    let planned = c.carry_out.ensures.clean clean in
+    let read = c.plan_of.ensures.clean planned in
+    absurd (lacking
+    (dated_book (local_clock (g.K.WallClock.shows c.args.desk.now.clock.now) c.args.desk.now.settings.now.zone)
+    c.args.desk.now.wall (offset_of c.args.desk.now.settings.now.zone) c.args.desk.now.said_day
+    c.in_ok-book.book.last c.in_ok-book.book.place (state g.S.Store c.args.conn.now)
+    (c.in_ok-book.ensures.place read) (c.in_ok-book.ensures.moment read) (c.in_ok-dated_if.ensures (c.enters_acts.ensures ∙ enters))))
+
+-- ---- acts that are given once more
+
+pub returns-clause-again : goal.returns-clause-again
+returns-clause-again g c clean =
+    let planned = c.carry_out.ensures.clean clean in
+    let read = c.plan_of.ensures.clean planned in
+    if_ok_then c.carry_out.result (c.carry_out.ensures.again clean)
+    (word_repeated (IsTold (g.V.Server.opens c.args.desk.now.server.now) g.V.Reader.Read.remaining g.V.Writer.Write.contents)
+    (local_clock (g.K.WallClock.shows c.args.desk.now.clock.now) c.args.desk.now.settings.now.zone)
+    c.args.desk.now.settings.now.mark c.args.desk.now.settings.now.token c.args.desk.now.settings.now.staff
+    c.args.desk.now.sheet.now c.args.act c.in_ok-plan.plan c.in_ok-book.book.place c.carry_out.new.book.place
+    (state g.S.Store c.args.conn.now) (state g.S.Store c.read.new.conn)
+    (state g.S.Store c.plan_of.new.conn) (state g.S.Store c.carry_out.new.conn)
+    (c.in_ok-book.ensures.place read) (c.read.ensures.stays read) (c.plan_of.ensures.stays planned)
+    (c.in_ok-plan.ensures.acts planned))
