@@ -6,16 +6,6 @@ use Rattle.till_program.proofs.GoingOn.{kept_ok, kept_as, kept_goes, goes_stays}
 use Rattle.till_program.proofs.Repeating.{if_ok_then, each_in_book, book_later, book_before}
 use Rattle.till_program.proofs.again.again.Goals as goal
 
-pub returns-in_err-entries-clause-keeps : goal.returns-in_err-entries-clause-keeps
-returns-in_err-entries-clause-keeps g c clean kept =
-    kept_goes _ c.args.desk.now.settings.now.mark c.args.book.now.place (state g.S.Store c.args.conn.now) (state g.S.Store c.read.new.conn)
-    (c.read.ensures.stays clean)
-
-pub returns-in_err-repeats-clause-keeps : goal.returns-in_err-repeats-clause-keeps
-returns-in_err-repeats-clause-keeps g c clean kept =
-    kept_goes _ c.args.desk.now.settings.now.mark c.args.book.now.place (state g.S.Store c.args.conn.now) (state g.S.Store c.read.new.conn)
-    (c.read.ensures.stays clean)
-
 pub returns-in-Err-clause-keeps : goal.returns-in-Err-clause-keeps
 returns-in-Err-clause-keeps g c clean kept =
     goes_then _ c.args.desk.now.settings.now.mark c.args.book.now.place c.args.book.now.place c.give_each.new.book.place
@@ -58,7 +48,7 @@ returns-clause-given g c clean =
     let token = c.args.desk.now.settings.now.token in
     let own = c.args.desk.now.settings.now.staff in
     let acts = c.in_ok-repeats.repeats.acts.items in
-    if_ok_then c.again_said.result c.again_said.ensures
+    if_ok_then c.again_said.result _ c.again_said.ensures
     (λ none. (
       acts,
       each_in_book acts c.in_ok-entries.entries.rows (state g.S.Store c.args.conn.now) (state g.S.Store c.read.new.conn)

@@ -1,7 +1,7 @@
 use Rattle.sqlite.specs.Held.{state}
 use Rattle.till_work.proofs.GoingOn.{goes_then}
-use Rattle.till_program.proofs.GoingOn.{kept_ok, kept_as}
-use Rattle.till_program.proofs.Repeating.{book_next}
+use Rattle.till_program.proofs.GoingOn.{kept_ok}
+use Rattle.till_program.proofs.Repeating.{book_next, stopped_kept, stopped_then}
 use Rattle.till_program.proofs.again.give_each.Goals as goal
 
 pub givings-preserved : goal.givings-preserved
@@ -17,3 +17,13 @@ givings-preserved g c = (
       (state g.S.Store c.args.conn.now) (state g.S.Store c.givings.conn)
       (state g.S.Store c.give_again.new.conn) (c.givings.invariant.3 (c.give_again.ensures.clean clean)) ? (c.in-Ok.ensures.given clean)),
 )
+
+pub returns-in-Err-clause-given : goal.returns-in-Err-clause-given
+returns-in-Err-clause-given g c clean = stopped_then c.stopped_by.result c.in-Err.fault c.stopped_by.ensures.other
+
+pub returns-in-Err-clause-keeps : goal.returns-in-Err-clause-keeps
+returns-in-Err-clause-keeps g c clean kept =
+    goes_then _ c.args.desk.now.settings.now.mark c.args.book.now.place c.givings.book.place c.give_again.new.book.place
+    (state g.S.Store c.args.conn.now) (state g.S.Store c.givings.conn)
+    (state g.S.Store c.give_again.new.conn) (c.givings.invariant.2 (c.give_again.ensures.clean clean))
+    (c.in-Err.ensures.keeps clean (stopped_kept c.stopped_by.result c.in-Err.fault c.stopped_by.ensures.book kept))

@@ -267,7 +267,7 @@ pub returns-clause-again : goal.returns-clause-again
 returns-clause-again g c clean =
     let planned = c.carry_out.ensures.clean clean in
     let read = c.plan_of.ensures.clean planned in
-    if_ok_then c.carry_out.result (c.carry_out.ensures.again clean)
+    if_ok_then c.carry_out.result _ (c.carry_out.ensures.again clean)
     (word_repeated (IsTold (g.V.Server.opens c.args.desk.now.server.now) g.V.Reader.Read.remaining g.V.Writer.Write.contents)
     (local_clock (g.K.WallClock.shows c.args.desk.now.clock.now) c.args.desk.now.settings.now.zone)
     c.args.desk.now.settings.now.mark c.args.desk.now.settings.now.token c.args.desk.now.settings.now.staff
