@@ -107,10 +107,10 @@ fn is_near(last: Option<Moment>, now: Moment) -> bool
 fn is_said(said: Option<i32>, day: i32) -> bool
     ensures { result ≡ true → said ≡ Some day }
 {
-    match said {
-        Some(said) => said == day,
-        None => false,
-    }
+    let Some(said) = said else {
+        return false;
+    };
+    said == day
 }
 
 /// Tests that commands may be entered: the last entry is at most 36 hours ago, or the date of the clock on the wall was
