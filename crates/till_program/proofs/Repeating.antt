@@ -1,5 +1,5 @@
 -- Acts that are given once more.
-use Rattle.std.proofs.Common.{◌≡◌, ◌∷◌, [], ℕ, zero, suc, List, map, Option, None, Some, Result, Ok, Err, IfOk, subst, sym, ap, ◌∙◌}
+use Rattle.std.proofs.Common.{◌≡◌, ◌+◌, ◌∷◌, [], ℕ, zero, suc, List, map, Option, None, Some, Result, Ok, Err, IfOk, subst, sym, ap, length, arith, ◌∙◌}
 use Rattle.std.specs.Prelude.{slice_get}
 use Rattle.std.proofs.lemmas.List.Elements.{All-weaker}
 use Rattle.sqlite.specs.State.{State}
@@ -37,16 +37,18 @@ mapped_at {A} {B} f (y ∷ ys) zero x e = ap (λ (it : A). Some (f it)) (some_sa
 mapped_at f (y ∷ ys) (suc i) x e = mapped_at f ys i x e
 
 -- a result that stopped is no fault of the book, so the fault was none
-pub stopped_kept : {A B : Type 0} (r : Result A TillFault) (fault : TillFault) → (fault ≡ word.Book → r ≡ Err word.Book) → IsBookKept r → IsBookKept {A = B} (Err fault)
+pub stopped_kept :
+    {A B : Type 0} (r : Result A TillFault) (fault : TillFault) → (fault ≡ word.Book → r ≡ Err word.Book) → IsBookKept r
+    → IsBookKept {A = B} (Err fault)
 stopped_kept r fault failed kept e =
     let same : fault ≡ word.Book = cc in
     kept (failed same)
 
 -- something that stopped isn't nothing
-pub stopped_then : {Q : Type 0} (r : Result (Option TillFault) TillFault) (fault : TillFault) → IfOk r (λ (it : Option TillFault). it ≡ Some fault)
+pub stopped_then : (Q : Type 0) (r : Result (Option TillFault) TillFault) (fault : TillFault) → IfOk r (λ (it : Option TillFault). it ≡ Some fault)
     → IfOk r (λ (it : Option TillFault). it ≡ None → Q)
-stopped_then (Ok it) fault is = λ none. absurd (none_some fault (sym none ∙ is))
-stopped_then (Err e) fault is = tt
+stopped_then Q (Ok it) fault is = λ none. absurd (none_some fault (sym none ∙ is))
+stopped_then Q (Err e) fault is = tt
 
 -- what holds of a desk holds of one with the same clock, server and settings
 pub by_same :
@@ -62,13 +64,13 @@ if_ok_then (Ok a) P holds follows = λ p. follows (holds p)
 if_ok_then (Err e) P holds follows = tt
 
 -- one more act was given
-pub book_next :
+book_suc :
     (Tells : List ℕ → Answer → Type 0) (shows : ℕ → Type 0) (mark token : Text) (own : Option ℕ)
     (n : ℕ) (acts : List Repeat) (it : Repeat) (before mid after : Place) (old s new : State)
     → GivesBook Tells shows mark token own n acts before old mid s → slice_get acts n ≡ Some it
     → GivesAct Tells shows mark token (giver_of own (Some it.staff)) (seen_act it.act) mid s after new
     → GivesBook Tells shows mark token own (suc n) acts before old after new
-book_next Tells shows mark token own n acts it before mid after old s new first there gives journal commands at =
+book_suc Tells shows mark token own n acts it before mid after old s new first there gives journal commands at =
     let so_far = first journal commands at in
     let given = gives.1.2 so_far.0 so_far.1 so_far.2 in
     let tried = given.2 in (
@@ -105,6 +107,17 @@ book_next Tells shows mark token own n acts it before mid after old s new first 
         ),
       ),
     )
+
+pub book_next :
+    (Tells : List ℕ → Answer → Type 0) (shows : ℕ → Type 0) (mark token : Text) (own : Option ℕ)
+    (n : ℕ) (acts : List Repeat) (it : Repeat) (before mid after : Place) (old s new : State)
+    → GivesBook Tells shows mark token own n acts before old mid s → slice_get acts n ≡ Some it
+    → GivesAct Tells shows mark token (giver_of own (Some it.staff)) (seen_act it.act) mid s after new
+    → GivesBook Tells shows mark token own (n + 1) acts before old after new
+book_next Tells shows mark token own n acts it before mid after old s new first there gives =
+    let e : suc n ≡ n + 1 = omega arith in
+    subst (λ (k : ℕ). GivesBook Tells shows mark token own k acts before old after new) e
+    (book_suc Tells shows mark token own n acts it before mid after old s new first there gives)
 
 -- a book stays before and after
 pub book_later :
@@ -160,7 +173,7 @@ word_repeated Tells shows mark token own (typed.Again late) it place after old r
       place,
       after,
       is,
-      (all.0, each_before all.0 old mid stays all.1, book_later Tells shows mark token own _ all.0 place after old mid new stays all.2),
+      (all.0, each_before all.0 old mid stays all.1, book_later Tells shows mark token own (length all.0) all.0 place after old mid new stays all.2),
     )
 word_repeated Tells shows mark token own (typed.Do what) it place after old read mid new is first second plans repeats = tt
 word_repeated Tells shows mark token own (typed.ReturnCopy copy) it place after old read mid new is first second plans repeats = tt

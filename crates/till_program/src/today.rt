@@ -103,14 +103,14 @@ fn is_near(last: Option<Moment>, now: Moment) -> bool
     }
 }
 
-/// Tests whether the day that was said is that one.
-fn is_said(said: Option<i32>, day: i32) -> bool
-    ensures { result ≡ true → said ≡ Some day }
+/// Tests whether the day that was said is that of the moment.
+fn is_said(said: Option<i32>, wall: Moment) -> bool
+    ensures { result ≡ true → said ≡ Some (pos (day_of wall)) }
 {
     let Some(said) = said else {
         return false;
     };
-    said == day
+    said == wall.day()
 }
 
 /// Tests that commands may be entered: the last entry is at most 36 hours ago, or the date of the clock on the wall was
@@ -127,7 +127,7 @@ pub(crate) fn dated<K: WallClock, V: Server, L: Shelf>(
     if is_near(last_moment(book), it.till) {
         return Ok(());
     }
-    if is_said(desk.said_day, it.wall.day()) {
+    if is_said(desk.said_day, it.wall) {
         return Ok(());
     }
     Err(TillFault::Undated)

@@ -1,4 +1,4 @@
-use Rattle.std.proofs.Common.{◌∙◌, ℤ, Option, Some, inl, inr, ap, subst}
+use Rattle.std.proofs.Common.{Option, inl, inr, subst}
 use Rattle.shop_model.specs.Calendar.{Moment}
 use Rattle.till_program.specs.Today.{IsNear}
 use Rattle.till_program.proofs.today.dated.Goals as goal
@@ -18,5 +18,5 @@ returns-then-is_said g c = (
   c.in_ok-it.it.wall,
   c.in_ok-it.ensures.till,
   c.in_ok-it.ensures.wall,
-  inr (c.is_said.ensures c.if-is_said.true ∙ ap (λ (day : ℤ). Some day) c.day.ensures.value),
+  inr (c.is_said.ensures c.if-is_said.true),
 )

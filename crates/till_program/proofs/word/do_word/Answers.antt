@@ -249,7 +249,7 @@ returns-clause-dated g c clean enters =
     (dated_book (local_clock (g.K.WallClock.shows c.args.desk.now.clock.now) c.args.desk.now.settings.now.zone)
     c.args.desk.now.wall (offset_of c.args.desk.now.settings.now.zone) c.args.desk.now.said_day
     c.in_ok-book.book.last c.in_ok-book.book.place (state g.S.Store c.args.conn.now)
-    (c.in_ok-book.ensures.place read) (c.in_ok-book.ensures.moment read) (c.in_ok-dated_if.ensures (c.enters_acts.ensures ∙ enters)))
+    (c.in_ok-book.ensures.place read) (c.in_ok-book.ensures.moment read) (c.in_ok-dated_if.ensures (c.enters_acts-enters.ensures ∙ enters)))
 
 pub returns-clause-undated : goal.returns-clause-undated
 returns-clause-undated g c clean enters lacking =
@@ -259,7 +259,7 @@ returns-clause-undated g c clean enters lacking =
     (dated_book (local_clock (g.K.WallClock.shows c.args.desk.now.clock.now) c.args.desk.now.settings.now.zone)
     c.args.desk.now.wall (offset_of c.args.desk.now.settings.now.zone) c.args.desk.now.said_day
     c.in_ok-book.book.last c.in_ok-book.book.place (state g.S.Store c.args.conn.now)
-    (c.in_ok-book.ensures.place read) (c.in_ok-book.ensures.moment read) (c.in_ok-dated_if.ensures (c.enters_acts.ensures ∙ enters))))
+    (c.in_ok-book.ensures.place read) (c.in_ok-book.ensures.moment read) (c.in_ok-dated_if.ensures (c.enters_acts-enters.ensures ∙ enters))))
 
 -- ---- acts that are given once more
 
