@@ -17,7 +17,8 @@ returns-in-Ok-clause-given g c clean =
     (λ clock server (settings : Settings) staff. GivesAct (IsTold (g.V.Server.opens server) g.V.Reader.Read.remaining g.V.Writer.Write.contents)
     (local_clock (g.K.WallClock.shows clock) settings.zone) settings.mark settings.token (giver_of settings.staff staff) (seen_act c.args.it.now.act)
     c.args.book.now.place (state g.S.Store c.args.conn.now) c.give-given.new.book.place (state g.S.Store c.give-given.new.conn))
-    c.by-theirs.ensures.clock c.by-theirs.ensures.server c.by-theirs.ensures.settings c.by-theirs.ensures.staff (seen_answer c.in-Ok.told.answer, c.in-Ok.ensures.given clean)
+    c.by-theirs.ensures.clock c.by-theirs.ensures.server c.by-theirs.ensures.settings c.by-theirs.ensures.staff
+    (seen_answer c.in-Ok.told.answer, c.in-Ok.ensures.given clean)
 
 pub returns-in-Ok-clause-keeps : goal.returns-in-Ok-clause-keeps
 returns-in-Ok-clause-keeps g c clean kept =
@@ -31,4 +32,5 @@ returns-in-Err-clause-keeps g c clean kept =
     by_same
     (λ clock server (settings : Settings) staff. GoesOn (IsTold (g.V.Server.opens server) g.V.Reader.Read.remaining g.V.Writer.Write.contents)
     settings.mark c.args.book.now.place (state g.S.Store c.args.conn.now) c.give-given.new.book.place (state g.S.Store c.give-given.new.conn))
-    c.by-theirs.ensures.clock c.by-theirs.ensures.server c.by-theirs.ensures.settings c.by-theirs.ensures.staff (c.in-Err.ensures.keeps clean (kept_as c.in-Err.fault kept))
+    c.by-theirs.ensures.clock c.by-theirs.ensures.server c.by-theirs.ensures.settings c.by-theirs.ensures.staff
+    (c.in-Err.ensures.keeps clean (kept_as c.in-Err.fault kept))
