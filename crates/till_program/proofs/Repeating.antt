@@ -1,5 +1,5 @@
 -- Acts that are given once more.
-use Rattle.std.proofs.Common.{◌≡◌, ◌∷◌, [], ℕ, zero, suc, List, map, Option, None, Some, Result, Ok, Err, IfOk, subst, sym, ap}
+use Rattle.std.proofs.Common.{◌≡◌, ◌+◌, ◌∷◌, [], ℕ, zero, suc, List, map, Option, None, Some, Result, Ok, Err, IfOk, subst, sym, ap, length, arith, ◌∙◌}
 use Rattle.std.specs.Prelude.{slice_get}
 use Rattle.std.proofs.lemmas.List.Elements.{All-weaker}
 use Rattle.sqlite.specs.State.{State}
@@ -18,7 +18,9 @@ use Rattle.till_program.specs.Doing.{IsPlanOf, RepeatsPlan, RepeatsWord}
 use Rattle.till_program.specs.Word.{IsPlaceOf}
 use Rattle.till_program.specs.Again.{IsRefused, IsRefusedIn, GivesBook}
 use Rattle.till_program.specs.Giving.{GivesAct}
-use Rattle.till_program.specs.Faults.{giver_of}
+use Rattle.till_program.specs.declared.fault.TillFault.{TillFault}
+use Rattle.till_program.specs.declared.fault.TillFault.TheVariants as word
+use Rattle.till_program.specs.Faults.{IsBookKept, giver_of}
 use Rattle.shop_types.specs.Seen.{seen_act}
 use Rattle.till_program.specs.declared.refused.Repeat.{Repeat}
 use Rattle.till_program.proofs.GoingOn.{stays_both}
@@ -34,6 +36,20 @@ mapped_at f [] i x e = absurd (none_some x e)
 mapped_at {A} {B} f (y ∷ ys) zero x e = ap (λ (it : A). Some (f it)) (some_same y x e)
 mapped_at f (y ∷ ys) (suc i) x e = mapped_at f ys i x e
 
+-- a result that stopped is no fault of the book, so the fault was none
+pub stopped_kept :
+    {A B : Type 0} (r : Result A TillFault) (fault : TillFault) → (fault ≡ word.Book → r ≡ Err word.Book) → IsBookKept r
+    → IsBookKept {A = B} (Err fault)
+stopped_kept r fault failed kept e =
+    let same : fault ≡ word.Book = cc in
+    kept (failed same)
+
+-- something that stopped isn't nothing
+pub stopped_then : (Q : Type 0) (r : Result (Option TillFault) TillFault) (fault : TillFault) → IfOk r (λ (it : Option TillFault). it ≡ Some fault)
+    → IfOk r (λ (it : Option TillFault). it ≡ None → Q)
+stopped_then Q (Ok it) fault is = λ none. absurd (none_some fault (sym none ∙ is))
+stopped_then Q (Err e) fault is = tt
+
 -- what holds of a desk holds of one with the same clock, server and settings
 pub by_same :
     {X Y Z W : Type 0} (P : X → Y → Z → W → Type 0) {x x' : X} {y y' : Y} {z z' : Z} {w w' : W}
@@ -43,48 +59,65 @@ by_same {X} {Y} {Z} {W} P {x} {x'} {y} {y'} {z} {z'} {w} {w'} one two three four
     (subst (λ (it : Y). P x it z' w') two (subst (λ (it : Z). P x y it w') three (subst (λ (it : W). P x y z it) four holds)))
 
 -- of a result that is no fault, what follows
-pub if_ok_then : {A E : Type 0} (r : Result A E) {P : A → Type 0} {Q R : Type 0} → IfOk r (λ (a : A). P a → Q) → (Q → R) → IfOk r (λ (a : A). P a → R)
-if_ok_then (Ok a) holds follows = λ p. follows (holds p)
-if_ok_then (Err e) holds follows = tt
+pub if_ok_then : {A E : Type 0} (r : Result A E) (P : A → Type 0) {Q R : Type 0} → IfOk r (λ (a : A). P a → Q) → (Q → R) → IfOk r (λ (a : A). P a → R)
+if_ok_then (Ok a) P holds follows = λ p. follows (holds p)
+if_ok_then (Err e) P holds follows = tt
 
 -- one more act was given
-pub book_next :
+book_suc :
     (Tells : List ℕ → Answer → Type 0) (shows : ℕ → Type 0) (mark token : Text) (own : Option ℕ)
     (n : ℕ) (acts : List Repeat) (it : Repeat) (before mid after : Place) (old s new : State)
     → GivesBook Tells shows mark token own n acts before old mid s → slice_get acts n ≡ Some it
     → GivesAct Tells shows mark token (giver_of own (Some it.staff)) (seen_act it.act) mid s after new
     → GivesBook Tells shows mark token own (suc n) acts before old after new
-book_next Tells shows mark token own n acts it before mid after old s new first there gives journal commands at =
+book_suc Tells shows mark token own n acts it before mid after old s new first there gives journal commands at =
     let so_far = first journal commands at in
     let given = gives.1.2 so_far.0 so_far.1 so_far.2 in
     let tried = given.2 in (
       tried.journal,
       tried.commands,
       tried.is_at,
-      so_far.0,
-      so_far.1,
-      so_far.3,
-      it,
-      there,
-      gives.0,
-      gives.1.0,
-      gives.1.1,
-      given.0,
-      given.1,
-      record {
-        extends = tried.extends;
-        requests = tried.requests;
-        tries = tried.tries;
-        entries = tried.entries;
-        says = tried.says;
-        each = tried.each;
-        waited = tried.waited;
-        replies = tried.replies;
-        first = tried.first;
-        counted = tried.counted;
-        settled = tried.settled;
-      },
+      (
+        so_far.0,
+        so_far.1,
+        so_far.3,
+        (
+          it,
+          there,
+          (
+            gives.0,
+            gives.1.0,
+            gives.1.1,
+            given.0,
+            given.1,
+            record {
+              extends = tried.extends;
+              requests = tried.requests;
+              tries = tried.tries;
+              entries = tried.entries;
+              says = tried.says;
+              each = tried.each;
+              waited = tried.waited;
+              replies = tried.replies;
+              first = tried.first;
+              counted = tried.counted;
+              settled = tried.settled;
+            },
+          ),
+        ),
+      ),
     )
+
+pub book_next :
+    (Tells : List ℕ → Answer → Type 0) (shows : ℕ → Type 0) (mark token : Text) (own : Option ℕ)
+    (n : ℕ) (acts : List Repeat) (it : Repeat) (before mid after : Place) (old s new : State)
+    → GivesBook Tells shows mark token own n acts before old mid s → slice_get acts n ≡ Some it
+    → GivesAct Tells shows mark token (giver_of own (Some it.staff)) (seen_act it.act) mid s after new
+    → GivesBook Tells shows mark token own (n + 1) acts before old after new
+book_next Tells shows mark token own n acts it before mid after old s new first there gives =
+    let e : suc n ≡ n + 1 = omega arith in
+    subst (λ (k : ℕ). GivesBook Tells shows mark token own k acts before old after new) e
+    (book_suc Tells shows mark token own n acts it before mid after old s new first there gives)
 
 -- a book stays before and after
 pub book_later :
@@ -104,11 +137,11 @@ book_before Tells shows mark token own n acts before after old mid new gives sta
 
 -- what was repeated of a plan was repeated of the same plan by another name
 pub repeats_as :
-    {A E : Type 0} (r : Result A E) {P : A → Type 0} (Tells : List ℕ → Answer → Type 0) (shows : ℕ → Type 0) (mark token : Text) (own : Option ℕ)
+    {A E : Type 0} (r : Result A E) (P : A → Type 0) (Tells : List ℕ → Answer → Type 0) (shows : ℕ → Type 0) (mark token : Text) (own : Option ℕ)
     (it other : Plan) (before : Place) (old : State) (after : Place) (new : State) → it ≡ other
     → IfOk r (λ (a : A). P a → RepeatsPlan Tells shows mark token own other before old after new)
     → IfOk r (λ (a : A). P a → RepeatsPlan Tells shows mark token own it before old after new)
-repeats_as {A} r {P} Tells shows mark token own it other before old after new same is =
+repeats_as {A} r P Tells shows mark token own it other before old after new same is =
     subst (λ (p : Plan). IfOk r (λ (a : A). P a → RepeatsPlan Tells shows mark token own p before old after new)) (sym same) is
 
 -- an entry that was refused in front of a look was refused
@@ -140,9 +173,7 @@ word_repeated Tells shows mark token own sheet (typed.Again late) it place after
       place,
       after,
       is,
-      all.0,
-      each_before all.0 old mid stays all.1,
-      book_later Tells shows mark token own _ all.0 place after old mid new stays all.2,
+      (all.0, each_before all.0 old mid stays all.1, book_later Tells shows mark token own (length all.0) all.0 place after old mid new stays all.2),
     )
 word_repeated Tells shows mark token own sheet (typed.Do what) it place after old read mid new is first second plans repeats = tt
 word_repeated Tells shows mark token own sheet (typed.ReturnCopy copy) it place after old read mid new is first second plans repeats = tt

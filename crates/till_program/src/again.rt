@@ -1,6 +1,6 @@
 //! What was refused because the branch had a later moment is given once more.
 
-ghost use Rattle.std.specs.Prelude.{◌≡◌, ◌<◌, ◌≤◌, false, None, Some, length, IfOk, OnOk};
+ghost use Rattle.std.specs.Prelude.{◌≡◌, ◌<◌, ◌≤◌, false, None, Some, Err, length, IfOk, OnOk};
 ghost use Rattle.sqlite.specs.Held.{state};
 ghost use Rattle.sqlite.specs.State.{HasCleanDisk};
 ghost use Rattle.shop_types.specs.Seen.{seen_act};
@@ -62,6 +62,17 @@ fn give_again<S: Alter, K: WallClock, V: Server, L: Shelf, W: Watch>(
     }
 }
 
+/// Returns the fault at which giving stopped. Fails only if the book failed.
+fn stopped_by(fault: TillFault) -> Result<Option<TillFault>, TillFault>
+    ensures other { IfOk result (λ it. it ≡ Some fault) }
+    ensures book { fault ≡ TillFault.Book → result ≡ Err TillFault.Book }
+{
+    match fault {
+        TillFault::Book => Err(TillFault::Book),
+        other => Ok(Some(other)),
+    }
+}
+
 /// Gives acts once more, one after another. Returns the first fault, after which none was given. Fails only if the book
 /// failed.
 fn give_each<S: Alter, K: WallClock, V: Server, L: Shelf, W: Watch>(
@@ -87,11 +98,18 @@ fn give_each<S: Alter, K: WallClock, V: Server, L: Shelf, W: Watch>(
     'givings: for it in acts {
         match give_again(desk, conn, book, it, watch) {
             Ok(()) => continue,
-            Err(TillFault::Book) => return Err(TillFault::Book),
-            Err(fault) => return Ok(Some(fault)),
+            Err(fault) => return stopped_by(fault),
         }
     }
     Ok(None)
+}
+
+/// Returns the status of a word that ended before all was given.
+fn stopped_status(fault: TillFault) -> u8
+    ensures { 3 ≤ result }
+{
+    let status = fault.status();
+    if status < STOPPED { STOPPED } else { status }
 }
 
 /// Adds the fault that ended it.
@@ -104,23 +122,23 @@ fn stopped_said(alloc: Global, said: Said, fault: TillFault) -> Result<Said, Til
     let Said { text, .. } = said;
     Ok(Said {
         text,
-        status: fault.status().max(STOPPED),
+        status: stopped_status(fault),
     })
 }
 
 /// Says what was left out, and then the entries that were sent and entered. If a fault ended it, says that too.
 fn again_said(
     alloc: Global,
-    left: String,
+    left: &str,
     table: Said,
     stopped: Option<TillFault>,
 ) -> Result<Said, TillFault>
     ensures { IfOk result (λ said. said.status < 3 → stopped ≡ None) }
 {
     let mut said = table;
-    if !left.as_str().is_empty() {
+    if !left.is_empty() {
         said.status = 1;
-        said.line(left.as_str())?;
+        said.line(left)?;
     }
     match stopped {
         Some(fault) => stopped_said(alloc, said, fault),
@@ -181,5 +199,5 @@ pub(crate) fn again<S: Alter, K: WallClock, V: Server, L: Shelf, W: Watch>(
     };
     let table = entered(desk, conn, &repeats, first)?;
     let Repeats { left, .. } = repeats;
-    again_said(desk.alloc, left, table, stopped)
+    again_said(desk.alloc, left.as_str(), table, stopped)
 }

@@ -102,6 +102,25 @@ fn add_entry<K: WallClock, V: Server, L: Shelf>(
     add_repeat(repeats, Repeat { staff, act })
 }
 
+/// Adds the entry at that place, if it was refused so and wasn't repeated.
+fn add_refused<K: WallClock, V: Server, L: Shelf>(
+    desk: &Desk<'_, K, V, L>,
+    entries: &EntriesAfter,
+    at: usize,
+    late: bool,
+    today: i32,
+    repeats: &mut Repeats,
+) -> Result<(), TillFault>
+    ensures { All (IsRefused entries.now.rows.entries entries.now.rows.replies) repeats.old.acts.items
+        → OnOk result (All (IsRefused entries.now.rows.entries entries.now.rows.replies) repeats.new.acts.items) }
+{
+    if entries.is_back_at(at) {
+        add_entry(desk, entries, at, late, today, repeats)
+    } else {
+        Ok(())
+    }
+}
+
 /// Returns the entries that are to be given once more, the oldest first.
 pub(crate) fn repeats_in<K: WallClock, V: Server, L: Shelf>(
     desk: &Desk<'_, K, V, L>,
@@ -116,9 +135,7 @@ pub(crate) fn repeats_in<K: WallClock, V: Server, L: Shelf>(
         left: String::new(desk.alloc),
     };
     for at in 0..entries.len() {
-        if entries.is_back_at(at) {
-            add_entry(desk, entries, at, late, today, &mut repeats)?;
-        }
+        add_refused(desk, entries, at, late, today, &mut repeats)?;
     }
     Ok(repeats)
 }

@@ -1,6 +1,6 @@
 //! Today's date. A person says it before a book's first entry, and before one that is more than 36 hours after the last.
 
-ghost use Rattle.std.specs.Prelude.{◌≡◌, true, pos, IfOk, OnOk};
+ghost use Rattle.std.specs.Prelude.{◌≡◌, true, pos, IfOk, OnOk, Some};
 ghost use Rattle.shop_model.specs.Calendar.{day_of, seconds_of};
 ghost use Rattle.till_requests.specs.Zones.{offset_of};
 ghost use Rattle.till_program.specs.Clock.{local_clock};
@@ -103,6 +103,16 @@ fn is_near(last: Option<Moment>, now: Moment) -> bool
     }
 }
 
+/// Tests whether the day that was said is that of the moment.
+fn is_said(said: Option<i32>, wall: Moment) -> bool
+    ensures { result ≡ true → said ≡ Some (pos (day_of wall)) }
+{
+    let Some(said) = said else {
+        return false;
+    };
+    said == wall.day()
+}
+
 /// Tests that commands may be entered: the last entry is at most 36 hours ago, or the date of the clock on the wall was
 /// said.
 pub(crate) fn dated<K: WallClock, V: Server, L: Shelf>(
@@ -113,12 +123,14 @@ pub(crate) fn dated<K: WallClock, V: Server, L: Shelf>(
         desk.now.wall (offset_of desk.now.settings.now.zone) desk.now.said_day
         (spec.last_moment book.now.place.entries book.now.last)) }
 {
-    let Clocks { till, wall } = read_clocks(desk)?;
-    if is_near(last_moment(book), till) || desk.said_day == Some(wall.day()) {
-        Ok(())
-    } else {
-        Err(TillFault::Undated)
+    let it = read_clocks(desk)?;
+    if is_near(last_moment(book), it.till) {
+        return Ok(());
     }
+    if is_said(desk.said_day, it.wall) {
+        return Ok(());
+    }
+    Err(TillFault::Undated)
 }
 
 /// Tests that a word may be entered, if it enters commands.

@@ -1,20 +1,14 @@
+use Rattle.std.proofs.Common.{◌≡◌, List, length, rules, subst, sym}
+use Rattle.std.specs.List.{All}
 use Rattle.sqlite.specs.Held.{state}
+use Rattle.till_program.specs.Again.{IsRefused}
+use Rattle.till_program.specs.declared.refused.Repeat.{Repeat}
 use Rattle.till_work.specs.Told.{IsTold}
 use Rattle.till_work.proofs.GoingOn.{goes_then}
 use Rattle.till_program.specs.Clock.{local_clock}
 use Rattle.till_program.proofs.GoingOn.{kept_ok, kept_as, kept_goes, goes_stays}
 use Rattle.till_program.proofs.Repeating.{if_ok_then, each_in_book, book_later, book_before}
 use Rattle.till_program.proofs.again.again.Goals as goal
-
-pub returns-in_err-entries-clause-keeps : goal.returns-in_err-entries-clause-keeps
-returns-in_err-entries-clause-keeps g c clean kept =
-    kept_goes _ c.args.desk.now.settings.now.mark c.args.book.now.place (state g.S.Store c.args.conn.now) (state g.S.Store c.read.new.conn)
-    (c.read.ensures.stays clean)
-
-pub returns-in_err-repeats-clause-keeps : goal.returns-in_err-repeats-clause-keeps
-returns-in_err-repeats-clause-keeps g c clean kept =
-    kept_goes _ c.args.desk.now.settings.now.mark c.args.book.now.place (state g.S.Store c.args.conn.now) (state g.S.Store c.read.new.conn)
-    (c.read.ensures.stays clean)
 
 pub returns-in-Err-clause-keeps : goal.returns-in-Err-clause-keeps
 returns-in-Err-clause-keeps g c clean kept =
@@ -57,15 +51,18 @@ returns-clause-given g c clean =
     let mark = c.args.desk.now.settings.now.mark in
     let token = c.args.desk.now.settings.now.token in
     let own = c.args.desk.now.settings.now.staff in
-    let acts = c.in_ok-repeats.repeats.acts.items in
-    if_ok_then c.again_said.result c.again_said.ensures
+    let acts : List Repeat = c.as_slice.result.now in
+    let same : acts ≡ c.in_ok-repeats.repeats.acts.items = search rules in
+    if_ok_then c.again_said.result _ c.again_said.ensures
     (λ none. (
       acts,
       each_in_book acts c.in_ok-entries.entries.rows (state g.S.Store c.args.conn.now) (state g.S.Store c.read.new.conn)
-          (c.in_ok-entries.ensures.found read) c.in_ok-repeats.ensures,
-      book_before tells shows mark token own _ acts c.args.book.now.place c.give_each.new.book.place
+          (c.in_ok-entries.ensures.found read)
+          (subst (λ (its : List Repeat). All (IsRefused c.in_ok-entries.entries.rows.entries c.in_ok-entries.entries.rows.replies) its) (sym same)
+          c.in_ok-repeats.ensures),
+      book_before tells shows mark token own (length acts) acts c.args.book.now.place c.give_each.new.book.place
           (state g.S.Store c.args.conn.now) (state g.S.Store c.give_each.new.conn) (state g.S.Store c.entered.new.conn)
-          (book_later tells shows mark token own _ acts c.args.book.now.place c.give_each.new.book.place
+          (book_later tells shows mark token own (length acts) acts c.args.book.now.place c.give_each.new.book.place
           (state g.S.Store c.args.conn.now) (state g.S.Store c.read.new.conn) (state g.S.Store c.give_each.new.conn)
           (c.read.ensures.stays read) (c.in-Ok.ensures.given given none))
           (c.entered.ensures.stays clean),

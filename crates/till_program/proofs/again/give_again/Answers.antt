@@ -16,19 +16,21 @@ returns-in-Ok-clause-given g c clean =
     by_same
     (λ clock server (settings : Settings) staff. GivesAct (IsTold (g.V.Server.opens server) g.V.Reader.Read.remaining g.V.Writer.Write.contents)
     (local_clock (g.K.WallClock.shows clock) settings.zone) settings.mark settings.token (giver_of settings.staff staff) (seen_act c.args.it.now.act)
-    c.args.book.now.place (state g.S.Store c.args.conn.now) c.give.new.book.place (state g.S.Store c.give.new.conn))
-    c.by.ensures.clock c.by.ensures.server c.by.ensures.settings c.by.ensures.staff (seen_answer c.in-Ok.told.answer, c.in-Ok.ensures.given clean)
+    c.args.book.now.place (state g.S.Store c.args.conn.now) c.give-given.new.book.place (state g.S.Store c.give-given.new.conn))
+    c.by-theirs.ensures.clock c.by-theirs.ensures.server c.by-theirs.ensures.settings c.by-theirs.ensures.staff
+    (seen_answer c.in-Ok.told.answer, c.in-Ok.ensures.given clean)
 
 pub returns-in-Ok-clause-keeps : goal.returns-in-Ok-clause-keeps
 returns-in-Ok-clause-keeps g c clean kept =
     by_same
     (λ clock server (settings : Settings) staff. GoesOn (IsTold (g.V.Server.opens server) g.V.Reader.Read.remaining g.V.Writer.Write.contents)
-    settings.mark c.args.book.now.place (state g.S.Store c.args.conn.now) c.give.new.book.place (state g.S.Store c.give.new.conn))
-    c.by.ensures.clock c.by.ensures.server c.by.ensures.settings c.by.ensures.staff (c.in-Ok.ensures.keeps clean (kept_ok _))
+    settings.mark c.args.book.now.place (state g.S.Store c.args.conn.now) c.give-given.new.book.place (state g.S.Store c.give-given.new.conn))
+    c.by-theirs.ensures.clock c.by-theirs.ensures.server c.by-theirs.ensures.settings c.by-theirs.ensures.staff (c.in-Ok.ensures.keeps clean (kept_ok _))
 
 pub returns-in-Err-clause-keeps : goal.returns-in-Err-clause-keeps
 returns-in-Err-clause-keeps g c clean kept =
     by_same
     (λ clock server (settings : Settings) staff. GoesOn (IsTold (g.V.Server.opens server) g.V.Reader.Read.remaining g.V.Writer.Write.contents)
-    settings.mark c.args.book.now.place (state g.S.Store c.args.conn.now) c.give.new.book.place (state g.S.Store c.give.new.conn))
-    c.by.ensures.clock c.by.ensures.server c.by.ensures.settings c.by.ensures.staff (c.in-Err.ensures.keeps clean (kept_as c.in-Err.fault kept))
+    settings.mark c.args.book.now.place (state g.S.Store c.args.conn.now) c.give-given.new.book.place (state g.S.Store c.give-given.new.conn))
+    c.by-theirs.ensures.clock c.by-theirs.ensures.server c.by-theirs.ensures.settings c.by-theirs.ensures.staff
+    (c.in-Err.ensures.keeps clean (kept_as c.in-Err.fault kept))

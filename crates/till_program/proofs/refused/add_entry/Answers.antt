@@ -12,7 +12,7 @@ returns g c all =
     let P = IsRefused c.args.entries.now.rows.entries c.args.entries.now.rows.replies in
     ok_then c.add_repeat.result c.add_repeat.ensures
     (λ same.
-    subst (λ (items : List Repeat). All P items) (sym same)
+    subst (λ (items : List Repeat). All P items) (sym {A = List Repeat} same)
     (All-push P c.args.repeats.now.acts.items _ all (record {
       at = c.args.at;
       command = seen_command c.in_ok-command.command;

@@ -116,7 +116,7 @@ returns-in-Again-clause-keeps g c clean kept branch planned = c.again.ensures.ke
 
 pub returns-in-Again-clause-again : goal.returns-in-Again-clause-again
 returns-in-Again-clause-again g c clean =
-    repeats_as c.again.result (IsTold (g.V.Server.opens c.args.desk.now.server.now) g.V.Reader.Read.remaining g.V.Writer.Write.contents)
+    repeats_as c.again.result _ (IsTold (g.V.Server.opens c.args.desk.now.server.now) g.V.Reader.Read.remaining g.V.Writer.Write.contents)
     (local_clock (g.K.WallClock.shows c.args.desk.now.clock.now) c.args.desk.now.settings.now.zone)
     c.args.desk.now.settings.now.mark c.args.desk.now.settings.now.token c.args.desk.now.settings.now.staff c.args.plan
     (plan.Again c.in-Again.late) _ _ _ _ c.in-Again.is (c.again.ensures.given clean)

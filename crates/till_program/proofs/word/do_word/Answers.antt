@@ -299,7 +299,7 @@ returns-clause-dated g c clean enters =
     (dated_book (local_clock (g.K.WallClock.shows c.args.desk.now.clock.now) c.args.desk.now.settings.now.zone)
     c.args.desk.now.wall (offset_of c.args.desk.now.settings.now.zone) c.args.desk.now.said_day
     c.in_ok-book.book.last c.in_ok-book.book.place (state g.S.Store c.args.conn.now)
-    (c.in_ok-book.ensures.place read) (c.in_ok-book.ensures.moment read) (c.in_ok-dated_if.ensures (c.enters_acts.ensures ∙ enters)))
+    (c.in_ok-book.ensures.place read) (c.in_ok-book.ensures.moment read) (c.in_ok-dated_if.ensures (c.enters_acts-enters.ensures ∙ enters)))
 
 pub returns-clause-undated : goal.returns-clause-undated
 returns-clause-undated g c clean enters lacking =
@@ -309,7 +309,7 @@ returns-clause-undated g c clean enters lacking =
     (dated_book (local_clock (g.K.WallClock.shows c.args.desk.now.clock.now) c.args.desk.now.settings.now.zone)
     c.args.desk.now.wall (offset_of c.args.desk.now.settings.now.zone) c.args.desk.now.said_day
     c.in_ok-book.book.last c.in_ok-book.book.place (state g.S.Store c.args.conn.now)
-    (c.in_ok-book.ensures.place read) (c.in_ok-book.ensures.moment read) (c.in_ok-dated_if.ensures (c.enters_acts.ensures ∙ enters))))
+    (c.in_ok-book.ensures.place read) (c.in_ok-book.ensures.moment read) (c.in_ok-dated_if.ensures (c.enters_acts-enters.ensures ∙ enters))))
 
 -- ---- acts that are given once more
 
@@ -317,7 +317,7 @@ pub returns-clause-again : goal.returns-clause-again
 returns-clause-again g c clean =
     let planned = c.carry_out.ensures.clean clean in
     let read = c.plan_of.ensures.clean planned in
-    if_ok_then c.carry_out.result (c.carry_out.ensures.again clean)
+    if_ok_then c.carry_out.result _ (c.carry_out.ensures.again clean)
     (word_repeated (IsTold (g.V.Server.opens c.args.desk.now.server.now) g.V.Reader.Read.remaining g.V.Writer.Write.contents)
     (local_clock (g.K.WallClock.shows c.args.desk.now.clock.now) c.args.desk.now.settings.now.zone)
     c.args.desk.now.settings.now.mark c.args.desk.now.settings.now.token c.args.desk.now.settings.now.staff
