@@ -185,11 +185,10 @@ module _ (shows : ℕ → Type 0) (mark token : Text) (giver : Result ℕ TillFa
   word_enters sheet typed.Send it place after old read mid new is first second plans enters =
       λ journal commands rests tills.
       let counted = is journal rests in
-      let stays = stays_both old read mid first second in (
-        after,
-        enters_as it plan.Send place mid after new plans enters journal commands
-            (record { rests = stays journal rests; book = tills; entries = counted.0; replies = counted.1 }),
-      )
+      let stays = stays_both old read mid first second in
+      let adds = enters_as it plan.Send place mid after new plans enters journal commands
+      (record { rests = stays journal rests; book = tills; entries = counted.0; replies = counted.1 }) in
+      (after, adds.0, adds.1, adds.2)
   word_enters sheet (typed.Again late) it place after old read mid new is first second plans enters = tt
   word_enters sheet (typed.Look look) it place after old read mid new is first second plans enters =
       stays_both old mid new (stays_both old read mid first second) (enters_as it (plan.Look look) place mid after new plans enters)

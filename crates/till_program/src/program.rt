@@ -450,7 +450,7 @@ fn greeted(rt: &HostRuntime, book: &str, staff: Option<StaffNo>) -> Result<Said,
 fn help(rt: &HostRuntime) -> Result<Said, TillFault> {
     let mut text = help_text(rt.alloc())?;
     text.push_str(
-        "\nAt the prompt, staff N changes who stands there, and exit or quit ends it.\n",
+        "\nAt the prompt, staff N changes who stands there, and exit or quit ends it.\nMany windows at one book: desk --help.\n",
     )?;
     Ok(Said { text, status: 0 })
 }
