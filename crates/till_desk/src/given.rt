@@ -14,12 +14,18 @@ pub(crate) struct Leading<'w> {
     pub(crate) place: usize,
 }
 
+/// The first word of a line from a window's prompt, where a question can be asked.
+pub(crate) const PROMPT: &str = "prompt";
+
+/// The first word of another line.
+pub(crate) const ONCE: &str = "once";
+
 /// Who gives words at a window.
 #[derive(Clone, Copy)]
-pub(crate) struct Giver<'w> {
+pub(crate) struct Giver {
     pub(crate) staff: StaffNo,
-    /// The first word of the line, which says who is asked.
-    pub(crate) first: &'w str,
+    /// Whether the words come from a prompt, where a question can be asked.
+    pub(crate) is_asked: bool,
     /// Whether the question on the words was answered by yes.
     pub(crate) is_sure: bool,
 }
@@ -62,13 +68,14 @@ pub(crate) fn read_leading(words: &[String]) -> Leading<'_> {
 pub(crate) fn words_to_send(
     alloc: Global,
     words: &[String],
-    giver: Giver<'_>,
+    giver: Giver,
 ) -> Result<Vec<String>, AllocError> {
     let Giver {
         staff,
-        first,
+        is_asked,
         is_sure,
     } = giver;
+    let first = if is_asked { PROMPT } else { ONCE };
     let leading = read_leading(words);
     let mut sent = Vec::new(alloc);
     sent.push(String::from_str(alloc, first)?)?;

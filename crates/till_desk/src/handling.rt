@@ -5,6 +5,7 @@ ghost use Rattle.till_desk.specs.Frames as spec;
 
 use crate::fault::{NoFrame, NoLine};
 use crate::frames::read_frame;
+use crate::given::{ONCE, PROMPT};
 use crate::lines::read_line;
 use crate::replies::reply_text;
 use crate::secret::Secret;
@@ -57,12 +58,6 @@ fn unread(alloc: Global, fault: NoLine) -> Result<Vec<u8>, NoLine> {
         NoLine::Form(fault) => refused(alloc, fault),
     }
 }
-
-/// The first word of a line from a window's prompt, where a question can be asked.
-pub(crate) const PROMPT: &str = "prompt";
-
-/// The first word of another line.
-pub(crate) const ONCE: &str = "once";
 
 /// Returns who is asked before a word of the line that can't be undone. Returns none if its first word doesn't say it.
 fn asks_of(line: &[String]) -> Option<Asks> {

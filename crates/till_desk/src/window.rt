@@ -4,7 +4,6 @@ use crate::fault::NoLine;
 use crate::faults::ShopFault;
 use crate::frames::frame;
 use crate::given::{Giver, words_to_send};
-use crate::handling::{ONCE, PROMPT};
 use crate::replies::{Reply, read_reply};
 use crate::settings::WindowSettings;
 use std::fs;
@@ -76,14 +75,20 @@ fn exchange(rt: &HostRuntime, window: &WindowSettings, bytes: &[u8]) -> Result<V
 }
 
 /// Prints what the desk replied, and returns the status.
-fn print<W: Write, E: Write>(reply: Reply<'_>, out: &mut W, err: &mut E) -> u8 {
-    let is_out = out.write_all(reply.out).is_ok() && out.flush().is_ok();
-    let _ = err.write_all(reply.err);
-    if reply.status == 0 && !is_out {
-        3
-    } else {
-        reply.status
-    }
+fn print<W: Write, E: Write>(text: &[u8], out: &mut W, err: &mut E) -> Result<u8, ShopFault> {
+    let Ok(
+        Reply {
+            status,
+            out: said,
+            err: more,
+        },
+    ) = read_reply(text)
+    else {
+        return Err(ShopFault::NoReply);
+    };
+    let is_out = out.write_all(said).is_ok() && out.flush().is_ok();
+    let _ = err.write_all(more);
+    Ok(if status == 0 && !is_out { 3 } else { status })
 }
 
 /// Has the desk do the words of the giver, with the file that they may name. Returns the bytes of its reply.
@@ -91,7 +96,7 @@ fn reply_to(
     rt: &HostRuntime,
     window: &WindowSettings,
     words: &[String],
-    giver: Giver<'_>,
+    giver: Giver,
     file: &[u8],
 ) -> Result<Vec<u8>, ShopFault> {
     let alloc = rt.alloc();
@@ -100,6 +105,20 @@ fn reply_to(
         Ok(bytes) => exchange(rt, window, bytes.as_slice()),
         Err(NoLine::Memory) => Err(ShopFault::Till(TillFault::Memory)),
         Err(NoLine::NotText | NoLine::Form(_)) => Err(ShopFault::Long),
+    }
+}
+
+/// Returns the question that a reply asks, if it asks one.
+fn question_in(reply: &[u8]) -> Result<Option<&str>, ShopFault> {
+    let Ok(Reply { status, out, .. }) = read_reply(reply) else {
+        return Err(ShopFault::NoReply);
+    };
+    if status != ASKED {
+        return Ok(None);
+    }
+    match std::str::from_utf8(out) {
+        Ok(question) => Ok(Some(question)),
+        Err(_) => Err(ShopFault::NoReply),
     }
 }
 
@@ -114,31 +133,23 @@ fn send<W: Write, E: Write>(
     out: &mut W,
     err: &mut E,
 ) -> Result<u8, ShopFault> {
+    let staff = standing.staff.unwrap_or(window.staff);
     let giver = Giver {
-        staff: standing.staff.unwrap_or(window.staff),
-        first: if standing.asks == Asks::Prompt {
-            PROMPT
-        } else {
-            ONCE
-        },
+        staff,
+        is_asked: standing.asks == Asks::Prompt,
         is_sure: false,
     };
     let text = reply_to(rt, window, words, giver, file)?;
-    let reply = read_reply(text.as_slice()).map_err(|_| ShopFault::NoReply)?;
-    if reply.status != ASKED {
-        return Ok(print(reply, out, err));
-    }
-    let Ok(question) = std::str::from_utf8(reply.out) else {
-        return Err(ShopFault::NoReply);
+    let Some(question) = question_in(text.as_slice())? else {
+        return print(text.as_slice(), out, err);
     };
     let answered = Giver {
-        first: ONCE,
+        staff,
+        is_asked: false,
         is_sure: says_yes(rt, question, out),
-        ..giver
     };
     let text = reply_to(rt, window, words, answered, file)?;
-    let reply = read_reply(text.as_slice()).map_err(|_| ShopFault::NoReply)?;
-    Ok(print(reply, out, err))
+    print(text.as_slice(), out, err)
 }
 
 /// Returns the bytes of a stock file.

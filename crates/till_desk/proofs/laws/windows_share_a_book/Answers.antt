@@ -2,10 +2,10 @@ use Rattle.till_desk.proofs.WindowLaws.{windows_share, acts_stay, copies_come_ba
 use Rattle.till_desk.proofs.laws.windows_share_a_book.Goals as goal
 
 pub returns-clause-shared : goal.returns-clause-shared
-returns-clause-shared c = windows_share
+returns-clause-shared g c = windows_share _ _ _
 
 pub returns-clause-acts : goal.returns-clause-acts
-returns-clause-acts c = acts_stay
+returns-clause-acts g c = acts_stay _ _ _
 
 pub returns-clause-copies : goal.returns-clause-copies
-returns-clause-copies c = copies_come_back
+returns-clause-copies g c = copies_come_back _ _ _
