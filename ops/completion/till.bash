@@ -27,6 +27,7 @@ _till() {
         [send]=""
         [last]="--count"
         [day]="--date --count"
+        [again]="--late"
         [slip]=""
         [today]="--date"
         [zone]="--name"
@@ -47,7 +48,7 @@ _till() {
     case $previous in
         --book | --file) compopt -o default ;;
         --zone) offered="UTC $(awk -F '\t' '!/^#/ {print $3}' /usr/share/zoneinfo/zone.tab 2>/dev/null)" ;;
-        --json | --yes | --office) ;&
+        --json | --yes | --office | --late) ;&
         [!-]*)
             if [[ -z $word ]]; then
                 offered="${!options[*]} --book --json --staff --yes --help"

@@ -28,6 +28,7 @@ _till() {
         [send]=""
         [last]="--count"
         [day]="--date --count"
+        [again]="--late"
         [slip]=""
         [today]="--date"
         [zone]="--name"
@@ -48,7 +49,7 @@ _till() {
     case $words[CURRENT-1] in
         --book | --file) _files ;;
         --zone) compadd -- UTC ${(f)"$(awk -F '\t' '!/^#/ {print $3}' /usr/share/zoneinfo/zone.tab 2>/dev/null)"} ;;
-        --json | --yes | --office | [^-]*)
+        --json | --yes | --office | --late | [^-]*)
             if [[ -z $word ]]; then
                 compadd -- ${(k)options} --book --json --staff --yes --help
             elif [[ $word == help ]]; then
