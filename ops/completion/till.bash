@@ -31,8 +31,8 @@ _till() {
         [slip]=""
         [today]="--date"
         [zone]="--name"
-        [desk]="--port"
-        [window]="--address --staff"
+        [desk]="--port --listen"
+        [window]="--address --staff --secret-file"
         [help]=""
         [init]="--address --token --staff --zone --office"
         [office]=""
@@ -46,7 +46,7 @@ _till() {
         fi
     done
     case $previous in
-        --book | --file) compopt -o default ;;
+        --book | --file | --secret-file) compopt -o default ;;
         --zone) offered="UTC $(awk -F '\t' '!/^#/ {print $3}' /usr/share/zoneinfo/zone.tab 2>/dev/null)" ;;
         --json | --yes | --office | --late) ;&
         [!-]*)

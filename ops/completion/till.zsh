@@ -32,8 +32,8 @@ _till() {
         [slip]=""
         [today]="--date"
         [zone]="--name"
-        [desk]="--port"
-        [window]="--address --staff"
+        [desk]="--port --listen"
+        [window]="--address --staff --secret-file"
         [help]=""
         [init]="--address --token --staff --zone --office"
         [office]=""
@@ -47,7 +47,7 @@ _till() {
         fi
     done
     case $words[CURRENT-1] in
-        --book | --file) _files ;;
+        --book | --file | --secret-file) _files ;;
         --zone) compadd -- UTC ${(f)"$(awk -F '\t' '!/^#/ {print $3}' /usr/share/zoneinfo/zone.tab 2>/dev/null)"} ;;
         --json | --yes | --office | --late | [^-]*)
             if [[ -z $word ]]; then
