@@ -12,6 +12,7 @@ import tempfile
 import time
 
 from chain_files import LOG, Wrong, are_as_written, files
+from copy_reading import find_copy
 
 # A connection has 1,000 requests; one that was silent for 30 seconds is gone.
 MOST, SILENT = 1000, 20
@@ -198,10 +199,8 @@ class Titles:
 
 @contextlib.contextmanager
 def opened(copy):
-    """Opens a copy of the chain to read: a folder of ops/backup, or a file. Reads a copy of its own, since SQLite leaves a file beside what it reads."""
-    file = os.path.join(copy, "shop.db") if os.path.isdir(copy) else copy
-    if not os.path.exists(file):
-        raise Wrong(f"there is no file {file}", 3)
+    """Opens a copy of the chain to read: the newest of a folder of ops/backup, a copy in it, or a file. Reads a copy of its own, since SQLite leaves a file beside what it reads."""
+    file = find_copy(copy)
     with tempfile.TemporaryDirectory() as folder:
         for it in files(file):
             shutil.copyfile(it, os.path.join(folder, "shop.db" + (LOG if it == file + LOG else "")))

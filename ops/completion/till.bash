@@ -27,11 +27,12 @@ _till() {
         [send]=""
         [last]="--count"
         [day]="--date --count"
+        [again]="--late"
         [slip]=""
         [today]="--date"
         [zone]="--name"
-        [desk]="--port"
-        [window]="--address --staff"
+        [desk]="--port --listen"
+        [window]="--address --staff --secret-file"
         [help]=""
         [init]="--address --token --staff --zone --office"
         [office]=""
@@ -45,9 +46,9 @@ _till() {
         fi
     done
     case $previous in
-        --book | --file) compopt -o default ;;
+        --book | --file | --secret-file) compopt -o default ;;
         --zone) offered="UTC $(awk -F '\t' '!/^#/ {print $3}' /usr/share/zoneinfo/zone.tab 2>/dev/null)" ;;
-        --json | --yes | --office) ;&
+        --json | --yes | --office | --late) ;&
         [!-]*)
             if [[ -z $word ]]; then
                 offered="${!options[*]} --book --json --staff --yes --help"

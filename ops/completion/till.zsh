@@ -28,11 +28,12 @@ _till() {
         [send]=""
         [last]="--count"
         [day]="--date --count"
+        [again]="--late"
         [slip]=""
         [today]="--date"
         [zone]="--name"
-        [desk]="--port"
-        [window]="--address --staff"
+        [desk]="--port --listen"
+        [window]="--address --staff --secret-file"
         [help]=""
         [init]="--address --token --staff --zone --office"
         [office]=""
@@ -46,9 +47,9 @@ _till() {
         fi
     done
     case $words[CURRENT-1] in
-        --book | --file) _files ;;
+        --book | --file | --secret-file) _files ;;
         --zone) compadd -- UTC ${(f)"$(awk -F '\t' '!/^#/ {print $3}' /usr/share/zoneinfo/zone.tab 2>/dev/null)"} ;;
-        --json | --yes | --office | [^-]*)
+        --json | --yes | --office | --late | [^-]*)
             if [[ -z $word ]]; then
                 compadd -- ${(k)options} --book --json --staff --yes --help
             elif [[ $word == help ]]; then
