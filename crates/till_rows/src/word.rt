@@ -126,6 +126,7 @@ fn at_desk<'d, 'x, S: Alter, C: Counter>(
     world: &'d World,
     kit: &'d Kit<C>,
     server: &'d Line<'x, C>,
+    sheet: &'d [u8],
     conn: &mut Connection<S>,
     typed: TypedLine,
     told: &mut Texts,
@@ -137,7 +138,6 @@ fn at_desk<'d, 'x, S: Alter, C: Counter>(
         staff,
         is_sure,
     } = typed;
-    let sheet = read_sheet(alloc, kit.shelf());
     let desk = Desk {
         alloc,
         clock: kit.clock(),
@@ -145,7 +145,7 @@ fn at_desk<'d, 'x, S: Alter, C: Counter>(
         shelf: kit.shelf(),
         routes: world.routes(),
         settings: world.settings(),
-        sheet: sheet.as_slice(),
+        sheet,
         wall: TimeZone::UTC,
         line: till_program::Line::Open,
         staff,
@@ -173,5 +173,15 @@ pub fn type_at<'x, S: Alter, C: Counter>(
         Err(fault) => return Err(fault),
     };
     let server = Line { wire: kit.wire() };
-    at_desk(alloc, &*world, &*kit, &server, conn, typed, told)
+    let sheet = read_sheet(alloc, kit.shelf());
+    at_desk(
+        alloc,
+        &*world,
+        &*kit,
+        &server,
+        sheet.as_slice(),
+        conn,
+        typed,
+        told,
+    )
 }
