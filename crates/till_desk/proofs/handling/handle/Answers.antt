@@ -1,4 +1,3 @@
-use Rattle.std.proofs.Common.{absurd}
 use Rattle.till_desk.proofs.handling.handle.Goals as goal
 use Rattle.till_desk.proofs.handling.handle.Goals.{in-Ok+in-Ok-performed, in-Ok+in-Err-performed+in_ok-unread-in-Err-performed, in-Err-Short, in-Err+in_ok-refused-in-Err}
 
