@@ -1,4 +1,4 @@
--- The rows of tables, by each table's place, and what texts that read whole tables return.
+-- The rows of the tables, each table by its place, and what a statement returns that reads a whole table.
 use Rattle.std.specs.Prelude.{ℕ, List, [], ◌∷◌, length, map, IsPermutation, ◌+◌, get_or}
 use Rattle.sqlite_trees.specs.Tree.{Trees}
 use Rattle.sqlite.specs.Table.{Table}

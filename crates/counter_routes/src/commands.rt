@@ -92,7 +92,7 @@ fn act(alloc: Global, form: CommandForm, value: &Value) -> Result<Act, Fault>
     }
 }
 
-/// Who gives the command and when, where the body has so many members.
+/// Reads who gives the command, and when, if the body has so many members.
 fn giver(value: &Value, count: usize) -> Result<(StaffNo, Moment), Fault>
     ensures ok { IfOk result (λ giver. giver_at count (view value.now) ≡ Some giver) }
     ensures bad { IfErr result (λ fault. fault ≡ BadBody → giver_at count (view value.now) ≡ None) }

@@ -93,8 +93,8 @@ fn read_body<'b>(
     Reading::Whole(request, head.len + size)
 }
 
-/// What the bytes of a connection so far, from the end of the request before, are: a whole request
-/// at their front, the start of one, or a fault.
+/// Finds out what the bytes of a connection after the last request are so far: a whole request at their front, the
+/// start of one, or a fault.
 ///
 /// A head is one of RFC 9112 as `httparse` reads it in its default configuration, within the limits
 /// of our own profile. It is left open whether bytes that end inside a target that isn't UTF-8, or

@@ -20,8 +20,8 @@ fn phrase_of(status: u16) -> &'static str
     }
 }
 
-/// The head of a reply whose JSON body has `body_len` bytes, with the empty line at its end (RFC 9112,
-/// sections 2.1 and 4).
+/// Returns the head of a reply whose JSON body has `body_len` bytes, with the empty line at its end (RFC 9112, sections
+/// 2.1 and 4).
 ///
 /// By our own profile `content-type` and `content-length` are its only fields. The phrase is the
 /// canonical one by the table of the crate `http` (after RFC 9110, section 15), or empty.

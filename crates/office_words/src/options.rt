@@ -27,7 +27,7 @@ pub(crate) enum Kind {
     Row,
 }
 
-/// `--NAME TEXT`, which may be left out.
+/// Makes the option `--NAME TEXT`, which may be left out.
 pub(crate) fn optional<'a>(alloc: Global, name: &'a str) -> Arg<'a>
     ensures rule { rule_of result ≡ line.optional_rule name.entry.now }
     ensures local { result.global ≡ false }

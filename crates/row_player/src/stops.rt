@@ -32,7 +32,7 @@ struct Stopped<'t> {
     wanted: &'t [u8],
 }
 
-/// The disk of one file fails after so many calls, and the other never.
+/// Makes one file's disk fail after so many calls. The other file's disk never fails.
 fn behind(is_log: bool, calls: u64) -> Calls {
     if is_log {
         Calls {

@@ -32,7 +32,7 @@ abbrev pub IsCount : Count → Type 0
 IsCount OfficeKeys = ⊤
 IsCount (Of b kind) = 1 ≤ b
 
--- what it says of the books
+-- the count that the books give
 abbrev pub counted : Count → Books → ℕ
 counted OfficeKeys books = length books.catalogue.kept
 counted (Of b kind) books = count_in (kind_number kind) b books

@@ -2,7 +2,8 @@
 use Rattle.std.specs.Prelude.{ℕ, nat_lt, ℤ, Bool, false, if◌then◌else◌, List, [], ◌∷◌, ◌++◌, map, Some}
 use Rattle.shop_model.specs.Rows.{at}
 use Rattle.shop_model.specs.Values.{Text, Film, Customer, Arrival, Parcel, Command, OfficeCommand, OfficeAsk, Ask}
-use Rattle.shop_model.specs.Values.{OneCustomer, OneFilm, InStock, HeldBy, FilmInStock, FilmNotInStock, Balance, Overdue, Rewards, Arrivals, SentOff, OneView, Rules}
+use Rattle.shop_model.specs.Values.{OneCustomer, OneFilm, InStock, HeldBy, FilmInStock, FilmNotInStock, Balance, Overdue, Rewards, Arrivals, SentOff, OneView}
+use Rattle.shop_model.specs.Values.{Rules}
 use Rattle.shop_model.specs.Refusals.{Refusal, NoRoute, NoCustomer, NoCopy, NoFilm, BadThreshold}
 use Rattle.shop_model.specs.Json.{object}
 use Rattle.shop_model.specs.Shop.{Catalogue, Shop}

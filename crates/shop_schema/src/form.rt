@@ -26,7 +26,7 @@ pub fn add_number(form: &mut Vec<u8>, number: u32) -> Result<(), NoMemory>
     Ok(())
 }
 
-/// Four bytes tell the length.
+/// Adds the length, as four bytes, and the bytes.
 pub fn add_bytes(form: &mut Vec<u8>, bytes: &[u8]) -> Result<(), NoMemory>
     requires { length bytes.now < 2 ^ 32 }
     ensures { OnOk result (form.new.items ≡ form.old.items ++ text_form bytes.now) }
@@ -54,7 +54,7 @@ pub fn add_person(form: &mut Vec<u8>, person: &Person) -> Result<(), NoMemory>
     add_number(form, person.city.get())
 }
 
-/// How many there are, none or one, and then the number.
+/// Adds how many rentals there are, none or one, and then the number.
 fn add_rental(form: &mut Vec<u8>, rental: Option<RentalNo>) -> Result<(), NoMemory>
     ensures { OnOk result (form.new.items ≡ form.old.items ++ option_form rental) }
 {
@@ -67,7 +67,7 @@ fn add_rental(form: &mut Vec<u8>, rental: Option<RentalNo>) -> Result<(), NoMemo
     }
 }
 
-/// How many there are, and then each.
+/// Adds how many numbers there are, and then each.
 fn add_numbers<const KIND: u8>(
     form: &mut Vec<u8>,
     numbers: &[RowNumber<KIND>],
@@ -82,7 +82,7 @@ fn add_numbers<const KIND: u8>(
     Ok(())
 }
 
-/// The byte that tells the act, and a number.
+/// Adds the act's byte and a number.
 pub fn add_one(form: &mut Vec<u8>, act: u8, number: u32) -> Result<(), NoMemory>
     ensures { OnOk result (form.new.items ≡ form.old.items ++ act ∷ number_form number) }
 {
@@ -90,7 +90,7 @@ pub fn add_one(form: &mut Vec<u8>, act: u8, number: u32) -> Result<(), NoMemory>
     add_number(form, number)
 }
 
-/// The byte that tells the act, and two numbers.
+/// Adds the act's byte and two numbers.
 pub fn add_pair(form: &mut Vec<u8>, act: u8, one: u32, other: u32) -> Result<(), NoMemory>
     ensures { OnOk result (form.new.items ≡ form.old.items ++ act ∷ joined (number_form one ∷ number_form other ∷ [])) }
 {
@@ -98,7 +98,7 @@ pub fn add_pair(form: &mut Vec<u8>, act: u8, one: u32, other: u32) -> Result<(),
     add_number(form, other)
 }
 
-/// By which rental is paid, if by one, and how much.
+/// Adds a payment: the act's byte and the customer, the rental if there is one, and the amount.
 fn add_payment(
     form: &mut Vec<u8>,
     customer: CustomerNo,
@@ -112,7 +112,7 @@ fn add_payment(
     add_number(form, amount.get())
 }
 
-/// The number of a consignment, and the lines that are missing.
+/// Adds a consignment's number and the missing lines.
 fn add_lines(form: &mut Vec<u8>, number: ConsignmentNo, missing: &LineNos) -> Result<(), NoMemory>
     ensures { OnOk result (form.new.items
         ≡ form.old.items ++ joined (number_form number ∷ numbers_form missing.now ∷ [])) }
@@ -187,13 +187,13 @@ pub fn person_values(person: &Person)
     let _city = person.city.get();
 }
 
-/// So many bytes are a stock file, whatever they are.
+/// Shows that any 65,536 bytes or fewer are a stock file.
 fn bytes_values(bytes: &[u8])
     requires { length bytes.now ≤ 65_536 }
     ensures { IsStockFile bytes.now }
 {}
 
-/// So many a command may list, and each is the number of a row.
+/// Shows that 65,536 rows' numbers or fewer are a list that a command may have.
 fn numbers_values<const KIND: u8>(numbers: &[RowNumber<KIND>])
     requires { length numbers.now ≤ 65_536 }
     ensures { IsNumberList numbers.now }
@@ -260,7 +260,7 @@ fn act_values(act: &Act)
     }
 }
 
-/// The values of a command are such as the tables can hold: a law, so that nothing is done.
+/// Shows that tables can hold a command's values. This is a law: it does nothing.
 pub fn command_values(command: &Command)
     ensures { IsCommand (seen_command command.now) }
 {

@@ -13,7 +13,7 @@ use shop_types::{
 use sql_rows::Bytes;
 use std::alloc::Global;
 
-/// How many there are, none or one, and then the minutes.
+/// Adds how many lengths there are, none or one, and then the minutes.
 fn add_minutes(form: &mut Vec<u8>, minutes: Option<Minutes>) -> Result<(), NoMemory>
     ensures { OnOk result (form.new.items ≡ form.old.items ++ option_form minutes) }
 {
@@ -26,7 +26,7 @@ fn add_minutes(form: &mut Vec<u8>, minutes: Option<Minutes>) -> Result<(), NoMem
     }
 }
 
-/// What the film is called, and its language and category.
+/// Adds the film's title and description, its language and its category.
 fn add_heading(form: &mut Vec<u8>, film: &Film) -> Result<(), NoMemory>
     ensures { OnOk result (form.new.items
         ≡ form.old.items ++ joined
@@ -39,7 +39,7 @@ fn add_heading(form: &mut Vec<u8>, film: &Film) -> Result<(), NoMemory>
     add_number(form, film.category.get())
 }
 
-/// On what terms the film is rented.
+/// Adds the film's period, rate and replacement cost.
 fn add_terms(form: &mut Vec<u8>, film: &Film) -> Result<(), NoMemory>
     ensures { OnOk result (form.new.items ≡ form.old.items ++
         joined (number_form film.now.period ∷ number_form film.now.rate ∷ number_form film.now.replacement ∷ [])) }
@@ -49,7 +49,7 @@ fn add_terms(form: &mut Vec<u8>, film: &Film) -> Result<(), NoMemory>
     add_number(form, film.replacement.get())
 }
 
-/// How long the film is, for whom it is meant and what comes with it. A new film isn't withdrawn.
+/// Adds the film's length, rating and features, and that it isn't withdrawn.
 fn add_details(form: &mut Vec<u8>, film: &Film) -> Result<(), NoMemory>
     ensures { OnOk result (form.new.items ≡ form.old.items ++
         joined (option_form film.now.minutes ∷ text_form (rating_text film.now.rating)
@@ -71,7 +71,7 @@ fn add_film(form: &mut Vec<u8>, film: &Film) -> Result<(), NoMemory>
     Ok(())
 }
 
-/// A new branch has no manager.
+/// Adds a new branch, which has no manager.
 fn add_branch(form: &mut Vec<u8>, branch: &Branch) -> Result<(), NoMemory>
     ensures { OnOk result (form.new.items ≡ form.old.items ++ branch_form (seen_branch branch.now)) }
 {
@@ -119,7 +119,7 @@ fn add_office_act(form: &mut Vec<u8>, act: &OfficeAct) -> Result<(), NoMemory>
     }
 }
 
-/// The byte that tells the act, and the rule.
+/// Adds the act's byte and the rule.
 fn add_rule(form: &mut Vec<u8>, rule: Rule) -> Result<(), NoMemory>
     ensures { OnOk result (form.new.items ≡ form.old.items ++ 14 ∷ rule_form (seen_rule rule)) }
 {
@@ -130,7 +130,7 @@ fn add_rule(form: &mut Vec<u8>, rule: Rule) -> Result<(), NoMemory>
     Ok(())
 }
 
-/// The byte that tells the act, and a name.
+/// Adds the act's byte and a name.
 fn add_named(form: &mut Vec<u8>, act: u8, name: &T45) -> Result<(), NoMemory>
     ensures { OnOk result (form.new.items ≡ form.old.items ++ act ∷ text_form name.now) }
 {
@@ -234,7 +234,7 @@ fn office_act_values(act: &OfficeAct)
     }
 }
 
-/// The values of a command of head office are such as the tables can hold: a law, so that nothing is done.
+/// Shows that tables can hold the values of a command of head office. This is a law: it does nothing.
 pub fn office_values(command: &OfficeCommand)
     ensures key { IsKey (seen_office command.now).key }
     ensures act { IsOfficeAct (seen_office command.now).act }

@@ -43,7 +43,7 @@ impl DispatchPlace {
         self.0
     }
 
-    /// As a parameter.
+    /// Returns the place as a parameter.
     pub fn value(self) -> ValueRef<'static>
         ensures { owned result ≡ number_value self }
     {

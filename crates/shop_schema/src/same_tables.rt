@@ -8,7 +8,7 @@ use crate::same_parts::{Same, same_slices};
 use sqlite_schema::code::Terms;
 use sqlite_schema::schema::{Schema, Stamps, Table};
 
-/// An expected table has no CHECK and no default that is computed.
+/// Compares the terms of two tables. An expected table has no CHECK and no computed default.
 fn same_terms(first: &Terms, second: &Terms) -> bool
     ensures { IsTrue result ↔ ((first.now ≡ second.now) × (second.now ≡ [])) }
 {

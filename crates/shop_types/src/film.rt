@@ -85,7 +85,7 @@ pub enum Rating {
 }
 
 impl Rating {
-    /// As the sample database spells it.
+    /// Returns the rating as the sample database spells it.
     pub fn text(self) -> &'static str
         ensures { result.now ≡ rating_text self }
     {
@@ -125,7 +125,7 @@ pub struct Features {
 }
 
 impl Features {
-    /// Their names in the sample database's order, with commas between; nothing where there are none.
+    /// Returns the features' names in the sample database's order, with commas between, or nothing if there are none.
     pub fn text(self) -> &'static str
         ensures { result.now ≡ features_text self }
     {

@@ -166,7 +166,7 @@ impl Moment {
         ]
     }
 
-    /// From 1970 to 9999.
+    /// Returns the year, from 1970 to 9999.
     pub fn year(self) -> u16
         ensures value { result ≡ self.year }
         ensures low { 1970 ≤ result }
@@ -175,7 +175,7 @@ impl Moment {
         self.year
     }
 
-    /// From 1, January, to 12.
+    /// Returns the month, from 1, January, to 12.
     pub fn month(self) -> u8
         ensures value { result ≡ self.month }
         ensures low { 1 ≤ result }

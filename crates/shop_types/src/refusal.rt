@@ -85,7 +85,7 @@ pub enum Refusal {
 }
 
 impl Refusal {
-    /// Its number, from 1 to 42, by which refusals are in order.
+    /// Returns the refusal's number, from 1 to 42. Of several refusals the one with the lowest number is sent.
     pub fn number(&self) -> u8
         ensures { result ≡ problem_number (seen_refusal self.now) }
     {

@@ -156,7 +156,7 @@ pub fn add_returned<S: Alter>(
 
 const SELECT_ENTRY: &str = "SELECT request FROM entry WHERE number = ?1";
 
-/// The bytes in the first row.
+/// Returns the bytes in the first row.
 fn first_bytes(rows: &[Row]) -> Result<Option<Bytes>, StoreFault>
     ensures { IfOk result (λ it. TellsBytes it rows.now) }
 {

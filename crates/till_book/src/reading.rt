@@ -1,4 +1,4 @@
-//! The book read whole, or from a number on, inside a transaction.
+//! Reads the book, whole or from a number on, inside a transaction.
 
 ghost use Rattle.std.specs.Prelude.{◌≡◌, ◌≢◌, ⊤, [], ◌∷◌, drop, IfOk, option_map};
 ghost use Rattle.std.specs.Option.{option_to_list};
