@@ -54,13 +54,13 @@ def read_frame(window):
 
 
 def word_in(frame):
-    """Returns the word of a frame's line: what follows who is asked and who gives it."""
+    """Returns the word of a frame's line: what follows who is asked, who gives it, and options."""
     at, words = BEGINNING + SECRET + 8, []
-    while len(words) < 4:
+    for _ in range(struct.unpack(">I", frame[at - 4 : at])[0]):
         end = at + 4 + struct.unpack(">I", frame[at : at + 4])[0]
         words.append(frame[at + 4 : end].decode())
         at = end
-    return words[3]
+    return next(it for it in words[3:] if not it.startswith("--"))
 
 
 class Frames:
@@ -389,7 +389,7 @@ class Window:
             (["rent", str(number), "1"], f"rent: customer {number}, copy 1"),
             (["pay", str(number), "1.00"], f"pay: customer {number}, $1.00"),
             (["return", "--rental", str(number)], f"return: rental {number}"),
-            (["scrap", str(number)], f"scrap: copy {number}"),
+            (["--yes", "scrap", str(number)], f"scrap: copy {number}"),
             # The book knows no rental of that copy, and nothing is entered.
             (["return", str(number)], None),
         ]
