@@ -9,7 +9,7 @@ use std::alloc::Global;
 use std::cell::RefCell;
 use std::marker::Model;
 use till_client::{ReplyReading, read_reply};
-use till_program::Shelf;
+use till_cashier::Shelf;
 
 const IN_USE: Fault = Fault::Line("the line is in use");
 

@@ -12,7 +12,7 @@ use jiff_tz::TimeZone;
 use shop_types::{Act, LotName, StaffNo, StockFile};
 use sqlite::{Alter, Connection};
 use std::alloc::Global;
-use till_program::{Desk, Quiet, Said, TillFault, do_word, make_sure, read_sheet, said_day};
+use till_cashier::{Desk, Quiet, Said, TillFault, do_word, make_sure, read_sheet, said_day};
 use till_words::{TillAct, TillLine, read_till_words, split_line};
 
 /// Returns the import of the stock file as a lot of that name.
@@ -147,7 +147,7 @@ fn at_desk<'d, 'x, S: Alter, C: Counter>(
         settings: world.settings(),
         sheet,
         wall: TimeZone::UTC,
-        line: till_program::Line::Open,
+        line: till_cashier::Line::Open,
         staff,
         is_json: false,
         is_sure,
