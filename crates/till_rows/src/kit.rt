@@ -10,7 +10,7 @@ use std::alloc::Global;
 use std::cell::{Cell, RefCell};
 use std::marker::Model;
 use till_client::{ReplyReading, read_reply};
-use till_program::{Line, Shelf};
+use till_cashier::{Line, Shelf};
 
 const IN_USE: Fault = Fault::Line("the line is in use");
 

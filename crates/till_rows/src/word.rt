@@ -11,7 +11,7 @@ use crate::world::World;
 use shop_types::{Act, LotName, StaffNo, StockFile};
 use sqlite::{Alter, Connection};
 use std::alloc::Global;
-use till_program::{
+use till_cashier::{
     Desk, Quiet, Said, TillFault, accept_zone, do_word, make_sure, read_sheet, said_day, zone_said,
 };
 use till_words::{TillAct, TillLine, read_till_words, split_line};
@@ -89,7 +89,7 @@ struct Typed {
     act: TillAct,
     staff: Option<StaffNo>,
     is_sure: bool,
-    line: till_program::Line,
+    line: till_cashier::Line,
     zone: usize,
 }
 
@@ -117,7 +117,7 @@ fn typed<C: Counter>(
     } = read(alloc, input.words)?;
     drop(book);
     let (own, line) = match input.typist {
-        Typist::Till => (None, till_program::Line::Open),
+        Typist::Till => (None, till_cashier::Line::Open),
         Typist::Window(staff) => (Some(staff), kit.line()),
     };
     let zone = zone_in(world, kit, &act)?;
@@ -165,8 +165,8 @@ fn done<S: Alter, C: Counter>(
 /// Notes what a word showed of the line to the server, as the program does.
 fn note<C: Counter>(kit: &Kit<C>, is_send: bool, said: &Result<Said, TillFault>) {
     match said {
-        Ok(_) if is_send => kit.notes(till_program::Line::Open),
-        Err(fault) if fault.is_unanswered() => kit.notes(till_program::Line::Down),
+        Ok(_) if is_send => kit.notes(till_cashier::Line::Open),
+        Err(fault) if fault.is_unanswered() => kit.notes(till_cashier::Line::Down),
         Ok(_) | Err(_) => {}
     }
 }
