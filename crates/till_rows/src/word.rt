@@ -82,18 +82,21 @@ pub fn window_of(number: &str) -> Result<Typist, Fault> {
     }
 }
 
-/// What is typed, who types it, if that isn't the member of staff whose till it is, and whether what can't be undone is
-/// to be done. And what is known of the line to the server, and the number of the zone in which the word is done.
+/// A word as it is done.
 #[derive(Drop)]
 struct Typed {
     act: TillAct,
+    /// Who gives it, if that isn't the member of staff whose till it is.
     staff: Option<StaffNo>,
+    /// Whether what can't be undone is to be done.
     is_sure: bool,
+    /// What is known of the line to the server.
     line: till_cashier::Line,
+    /// The number of the till's zone.
     zone: usize,
 }
 
-/// Returns the words' number of a zone: the one that they set, or else the till's.
+/// Returns the number of the zone in which a word is done: the one that the word sets, or else the till's.
 fn zone_in<C: Counter>(world: &World, kit: &Kit<C>, act: &TillAct) -> Result<usize, Fault> {
     if let TillAct::Zone(name) = act {
         return world.zones().number_of(name.as_str());
@@ -101,7 +104,7 @@ fn zone_in<C: Counter>(world: &World, kit: &Kit<C>, act: &TillAct) -> Result<usi
     Ok(kit.zone())
 }
 
-/// Returns what the words ask for, with the stock file instead of its name, and how they are done.
+/// Returns what the words ask for, with the stock file instead of its name.
 fn typed<C: Counter>(
     alloc: Global,
     world: &World,
@@ -190,8 +193,8 @@ fn tell(alloc: Global, said: Result<Said, TillFault>, told: &mut Texts) -> Resul
     }
 }
 
-/// Does what is typed at a desk in the word's zone, and puts what is printed into `told`. A zone that was accepted is the
-/// till's from then on. Returns false if the book's disk has failed.
+/// Does a word at a desk in its zone, and puts what is printed into `told`. A zone that is accepted is the till's from
+/// then on. Returns false if the book's disk has failed.
 fn at_desk<'d, 'x, S: Alter, C: Counter>(
     alloc: Global,
     world: &'d World,
