@@ -75,8 +75,8 @@ abbrev pub IsIn : (ℕ → Type 0) → Text → Text → Result ℕ TillFault �
 IsIn shows mark token giver act said s =
     (answer : Answer) × (staff : ℕ) × (giver ≡ Ok staff) × IsGivenIn shows mark token staff act answer said s
 
--- Whatever words the windows had done, in whatever order: a till's book is one still. What was entered, recorded and settled is a front part of it. The commands
--- are one sequence, with the earlier ones in front. So the laws of a till's book hold of it.
+-- Whatever words the windows had done, in whatever order: a till's book is one still. What was entered, recorded and settled is a front part of it.
+-- The commands are one sequence, with the earlier ones in front. So the laws of a till's book hold of it.
 abbrev pub WindowsShareABook : {S : Type 0} → Ghosts S → (List ℕ → Answer → Type 0) → (ℕ → Type 0) → Type 0
 WindowsShareABook {S} g Tells shows =
     (mark token : Text) (s : Held S) (words : List (Done S))
