@@ -15,7 +15,7 @@ use Rattle.till_book.specs.declared.rents.HeldRental.{HeldRental}
 use Rattle.till_work.specs.Entering.{IsTillsBook}
 use Rattle.till_words.specs.declared.words.TillAct.{TillAct}
 use Rattle.till_words.specs.declared.words.TillAct.TheVariants as typed
-use Rattle.till_program.specs.declared.fault.TillFault.{TillFault}
+use Rattle.till_cashier.specs.declared.fault.TillFault.{TillFault}
 use Rattle.till_cashier.specs.Doing.{DoesWord}
 use Rattle.till_cashier.specs.Giving.{AreTries, IsBack}
 use Rattle.till_cashier.specs.Returns.{IsReturned}
