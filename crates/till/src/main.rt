@@ -26,7 +26,7 @@ fn unread(rt: &HostRuntime, kind: ErrorKind) -> u8 {
 
 fn main(rt: HostRuntime) -> ExitCode {
     let status = match words_of(&rt) {
-        Ok(words) => till_desk::run(&rt, words.as_slice(), &mut rt.stdout(), &mut rt.stderr()),
+        Ok(words) => till_program::run(&rt, words.as_slice(), &mut rt.stdout(), &mut rt.stderr()),
         Err(e) => unread(&rt, e.kind()),
     };
     ExitCode::from(status)

@@ -1,10 +1,7 @@
-pub mod GoingOn
-pub mod Giving
-pub mod Doing
-pub mod Adding
-pub mod Returned
-pub mod LastMoment
-pub mod Marks
+pub mod FieldLaws
+pub mod WordLaws
+pub mod WordLoop
+pub mod Differences
+pub mod FrameLaws
+pub mod WindowLaws
 pub mod StandardLemmas
-pub mod Dates
-pub mod Repeating

@@ -1,13 +1,5 @@
-pub mod Clock
-pub mod Faults
-pub mod Giving
-pub mod LastMoment
+pub mod Frames
+pub mod Reading
+pub mod Settings
+pub mod Windows
 pub mod StandardTime
-pub mod Wall
-pub mod Word
-pub mod Returns
-pub mod Doing
-pub mod Adding
-pub mod Sure
-pub mod Today
-pub mod Again

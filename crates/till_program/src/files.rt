@@ -3,8 +3,6 @@
 
 ghost use Rattle.std.specs.Prelude.{◌≡◌, false, IfOk};
 
-use crate::caches::Shelf;
-use crate::fault::TillFault;
 use counter_routes::Routes;
 use sqlite::{Connection, FileStore, Files};
 use sqlite_disk::Unknown;
@@ -16,6 +14,7 @@ use std::os::unix::fs::{OpenOptionsExt, PermissionsExt};
 use std::thread;
 use std::time::Duration;
 use till_book::read_end;
+use till_cashier::{Shelf, TillFault};
 use till_files::{BookFault, close_book, create_book, migrate_book, open_book};
 
 /// How often a book is asked for that another window has, a tenth of a second apart.

@@ -1,12 +1,11 @@
 //! What the prompt says first: who is at the till, and the date and the time of the clock on the wall.
 
-use crate::fault::TillFault;
 use crate::init::settings_of;
-use crate::wall::on_wall;
 use crate::zones::{rules_for, wall_zone};
 use shop_types::{Moment, StaffNo};
 use std::alloc::Global;
 use std::time::Clock;
+use till_cashier::{TillFault, on_wall};
 use till_requests::{Settings, Zone, moment_at, zone_offset, zone_second};
 use till_shows::moment_words;
 

@@ -1,10 +1,9 @@
 //! Makes a book and its settings.
 
-use crate::fault::TillFault;
 use crate::files::{begin_at, is_there, may_be_book, write_own};
-use crate::said::Said;
 use crate::zones::zone_named;
 use std::fs;
+use till_cashier::{Said, TillFault};
 use till_files::close_book;
 use till_requests::{NoSettings, Settings, Zone, new_mark, read_settings, settings_text};
 use till_words::{Beginning, ZoneText};

@@ -1,67 +1,52 @@
-//! The till's program for one list of words: what a cashier types is entered in the book, sent, and answered in plain
-//! words.
+//! The till's program for one list of words: a till at its own book, a desk that holds a book for windows, or a window.
 #![tactic(auto)]
 
-mod again;
-mod answers;
-mod asked;
-mod book;
-mod caches;
-mod clock;
-mod closings;
-mod commands;
-mod day;
-mod desk;
-mod entries;
+mod beginning;
 mod fault;
+mod faults;
+mod fields;
 mod files;
+mod frames;
+mod given;
 mod greeting;
+mod handling;
 mod init;
 mod input;
-mod line;
-mod lists;
-mod lists_of_entries;
-mod looks;
-mod office;
+mod laws;
+mod lines;
 mod opening;
+mod peers;
+mod probing;
 mod program;
 mod prompt;
-mod refused;
-mod returns;
-mod said;
-mod same_act;
-mod sendings;
-mod settling;
-mod sheet;
-mod slips;
+mod replies;
+mod secret;
+mod serving;
+mod settings;
 mod standard;
-mod sure;
+mod starting;
 mod tcp;
-mod today;
-mod wall;
-mod watch;
-mod word;
-mod zone_word;
+mod way;
+mod window;
+mod window_prompt;
+mod zone_setting;
 mod zones;
 
-pub use book::Book;
-pub use caches::Shelf;
-pub use clock::WallClock;
-pub use desk::Desk;
-pub use fault::TillFault;
+pub use fault::{NoFrame, NoLine};
+pub use faults::ShopFault;
 pub use files::write_own;
+pub use frames::{frame, read_frame};
+pub use handling::{DeskBook, Handled, handle};
 pub use init::{is_free, settings_path};
-pub use line::{Line, Patience, Way};
+pub use laws::windows_share_a_book;
+pub use lines::read_line;
 pub use opening::{OpenBook, close_held, close_if_asked};
 pub use program::{
-    ASKED, Asks, Performed, Standing, Stock, Words, book_of, perform_words, run, says_yes,
+    ASKED, Asks, Performed, Standing, Stock, Words, book_of, perform_words, says_yes,
 };
 pub use prompt::change_staff;
-pub use said::Said;
-pub use settling::make_sure;
-pub use sheet::read_sheet;
-pub use today::said_day;
-pub use wall::on_wall;
-pub use watch::Quiet;
-pub use word::do_word;
-pub use zone_word::{accept_zone, zone_said};
+pub use replies::{Reply, read_reply, reply_text};
+pub use secret::{Secret, is_same};
+pub use settings::{NoWindow, WindowSettings, is_window, read_window, window_text};
+pub use starting::run;
+pub use way::{Patience, Way};

@@ -2,7 +2,6 @@
 
 ghost use Rattle.std.specs.Prelude.{◌≡◌, false, IfOk, IfSome};
 
-use crate::fault::TillFault;
 use crate::files::{is_asked_for, is_there, open_at, unask};
 use crate::init::settings_of;
 use crate::zones::rules_for;
@@ -10,6 +9,7 @@ use counter_routes::Routes;
 use jiff_tz::TimeZoneDatabase;
 use sqlite::{Connection, FileStore};
 use sqlite_std_file::File;
+use till_cashier::TillFault;
 use till_files::close_book;
 use till_requests::Settings;
 

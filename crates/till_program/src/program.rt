@@ -4,28 +4,17 @@ ghost use Rattle.std.specs.Prelude.{◌≡◌, false, IfErr, IfSome};
 ghost use Rattle.sqlite.specs.Held.{state};
 ghost use Rattle.sqlite.specs.State.{HasCleanDisk};
 ghost use Rattle.till_work.specs.Told.{IsTold};
-ghost use Rattle.till_program.specs.Faults.{IsBookKept};
-ghost use Rattle.till_program.specs.Word.{EntersNothing};
+ghost use Rattle.till_cashier.specs.Faults.{IsBookKept};
+ghost use Rattle.till_cashier.specs.Word.{EntersNothing};
 
-use crate::asked::ask_before;
-use crate::caches::Shelf;
-use crate::clock::WallClock;
-use crate::desk::Desk;
-use crate::fault::TillFault;
 use crate::files::FileShelf;
 use crate::greeting::greeting;
 use crate::init::begin;
-use crate::line::{Line, Way};
 use crate::opening::{OpenBook, Tools, close_held, opened};
 use crate::prompt::prompt;
-use crate::said::Said;
-use crate::settling::make_sure;
-use crate::sheet::read_sheet;
-use crate::sure::question;
 use crate::tcp::Tcp;
-use crate::today::said_day;
-use crate::word::do_word;
-use crate::zone_word::set_zone;
+use crate::way::Way;
+use crate::zone_setting::set_zone;
 use crate::zones::wall_zone;
 use shop_types::{Act, Moment, StaffNo, StockFile, Usage};
 use sqlite::{Alter, Connection, FileStore};
@@ -33,6 +22,10 @@ use sqlite_std_file::File;
 use std::fs;
 use std::io::Write;
 use std::time::{Clock, Duration};
+use till_cashier::{
+    Desk, Line, Said, Shelf, TillFault, WallClock, ask_before, do_word, make_sure, question,
+    read_sheet, said_day,
+};
 use till_words::{FileName, TillAct, TillLine, asks_for_help, help_text, read_till_words};
 use till_work::{Server, Watch};
 
@@ -541,10 +534,15 @@ fn perform_once<W: Write, E: Write>(
     performed.status
 }
 
-/// Runs the whole program for its words, without its own name. It prints on `out` what a word resulted in, and on
+/// Does words at a till with a book of its own. It prints on `out` what a word resulted in, and on
 /// `err` why it was refused or not done. Returns the status: 0 done, 1 refused, 2 usage, 3 a fault of the till's own, 4
 /// not answered yet, but in the book. Without a word it reads lines of words from standard input.
-pub fn run<W: Write, E: Write>(rt: &HostRuntime, words: &[String], out: &mut W, err: &mut E) -> u8 {
+pub(crate) fn run_till<W: Write, E: Write>(
+    rt: &HostRuntime,
+    words: &[String],
+    out: &mut W,
+    err: &mut E,
+) -> u8 {
     let is_prompt = matches!(
         read_till_words(rt.alloc(), words),
         Ok(TillLine {

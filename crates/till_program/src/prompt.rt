@@ -2,15 +2,15 @@
 
 ghost use Rattle.std.specs.Prelude.{◌≡◌, false, IfSome};
 
-use crate::fault::TillFault;
 use crate::greeting::greeting;
 use crate::input::has_input;
-use crate::line::{LineNotes, Patience, Way};
 use crate::opening::{OpenBook, close_held, close_if_asked};
 use crate::program::{Asks, Standing, Stock, Words, book_of, perform_words};
+use crate::way::{LineNotes, Patience, Way};
 use shop_types::StaffNo;
 use std::io::{ErrorKind, Write};
 use std::time::{Clock, Duration};
+use till_cashier::TillFault;
 use till_words::{TillLine, read_till_words, split_line};
 
 /// For how many milliseconds a line is waited for before another look at whether another window asks for the book.

@@ -2,12 +2,12 @@
 
 ghost use Rattle.std.specs.Prelude.{pos, ◌≤◌, ◌≤ℤ◌, IfSome};
 
-use crate::fault::TillFault;
 use crate::standard::standard_offset;
 use jiff_core::{Error, Offset, Timestamp};
 use jiff_tz::{TimeZone, TimeZoneDatabase};
 use std::fs;
 use std::time::Clock;
+use till_cashier::TillFault;
 use till_requests::{Zone, ZoneName, ZoneOffset};
 
 /// The folder in which the system has its zones' files.

@@ -6,7 +6,7 @@ use std::cell::{Cell, RefCell};
 use std::io;
 use std::marker::Model;
 use std::time::{Clock, Duration};
-use till_program::{Shelf, WallClock};
+use till_cashier::{Shelf, WallClock};
 
 /// A clock that stands still until a line sets it.
 #[derive(Drop)]

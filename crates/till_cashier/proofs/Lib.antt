@@ -1,0 +1,9 @@
+pub mod GoingOn
+pub mod Giving
+pub mod Doing
+pub mod Adding
+pub mod Returned
+pub mod LastMoment
+pub mod Marks
+pub mod Dates
+pub mod Repeating

@@ -1,0 +1,36 @@
+use Rattle.sqlite.specs.Held.{state}
+use Rattle.shop_types.specs.Seen.{seen_act}
+use Rattle.till_client.specs.Replies.{seen_answer}
+use Rattle.till_requests.specs.declared.settings.Settings.{Settings}
+use Rattle.till_work.specs.Told.{IsTold}
+use Rattle.till_work.specs.Desk.{GoesOn}
+use Rattle.till_cashier.specs.Clock.{local_clock}
+use Rattle.till_cashier.specs.Faults.{giver_of}
+use Rattle.till_cashier.specs.Giving.{GivesAct}
+use Rattle.till_cashier.proofs.GoingOn.{kept_ok, kept_as}
+use Rattle.till_cashier.proofs.Repeating.{by_same}
+use Rattle.till_cashier.proofs.again.give_again.Goals as goal
+
+pub returns-in-Ok-clause-given : goal.returns-in-Ok-clause-given
+returns-in-Ok-clause-given g c clean =
+    by_same
+    (λ clock server (settings : Settings) staff. GivesAct (IsTold (g.V.Server.opens server) g.V.Reader.Read.remaining g.V.Writer.Write.contents)
+    (local_clock (g.K.WallClock.shows clock) settings.zone) settings.mark settings.token (giver_of settings.staff staff) (seen_act c.args.it.now.act)
+    c.args.book.now.place (state g.S.Store c.args.conn.now) c.give-given.new.book.place (state g.S.Store c.give-given.new.conn))
+    c.by-theirs.ensures.clock c.by-theirs.ensures.server c.by-theirs.ensures.settings c.by-theirs.ensures.staff
+    (seen_answer c.in-Ok.told.answer, c.in-Ok.ensures.given clean)
+
+pub returns-in-Ok-clause-keeps : goal.returns-in-Ok-clause-keeps
+returns-in-Ok-clause-keeps g c clean kept =
+    by_same
+    (λ clock server (settings : Settings) staff. GoesOn (IsTold (g.V.Server.opens server) g.V.Reader.Read.remaining g.V.Writer.Write.contents)
+    settings.mark c.args.book.now.place (state g.S.Store c.args.conn.now) c.give-given.new.book.place (state g.S.Store c.give-given.new.conn))
+    c.by-theirs.ensures.clock c.by-theirs.ensures.server c.by-theirs.ensures.settings c.by-theirs.ensures.staff (c.in-Ok.ensures.keeps clean (kept_ok _))
+
+pub returns-in-Err-clause-keeps : goal.returns-in-Err-clause-keeps
+returns-in-Err-clause-keeps g c clean kept =
+    by_same
+    (λ clock server (settings : Settings) staff. GoesOn (IsTold (g.V.Server.opens server) g.V.Reader.Read.remaining g.V.Writer.Write.contents)
+    settings.mark c.args.book.now.place (state g.S.Store c.args.conn.now) c.give-given.new.book.place (state g.S.Store c.give-given.new.conn))
+    c.by-theirs.ensures.clock c.by-theirs.ensures.server c.by-theirs.ensures.settings c.by-theirs.ensures.staff
+    (c.in-Err.ensures.keeps clean (kept_as c.in-Err.fault kept))

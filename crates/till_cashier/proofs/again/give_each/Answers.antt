@@ -1,0 +1,34 @@
+use Rattle.std.proofs.Common.{◌∙◌, Some, ap, sym}
+use Rattle.std.proofs.lemmas.Option.{slice_get-get_or}
+use Rattle.sqlite.specs.Held.{state}
+use Rattle.till_cashier.specs.declared.refused.Repeat.{Repeat}
+use Rattle.till_work.proofs.GoingOn.{goes_then}
+use Rattle.till_cashier.proofs.GoingOn.{kept_ok}
+use Rattle.till_cashier.proofs.Repeating.{book_next, stopped_kept, stopped_then}
+use Rattle.till_cashier.proofs.again.give_each.Goals as goal
+
+pub givings-preserved : goal.givings-preserved
+givings-preserved g c = (
+  c.give_again.ensures.ended,
+  (λ clean. c.givings.invariant.1 (c.give_again.ensures.clean clean)),
+  (λ clean.
+      goes_then _ c.args.desk.now.settings.now.mark c.args.book.now.place c.givings.book.place c.give_again.new.book.place
+      (state g.S.Store c.args.conn.now) (state g.S.Store c.givings.conn)
+      (state g.S.Store c.give_again.new.conn) (c.givings.invariant.2 (c.give_again.ensures.clean clean)) (c.in-Ok.ensures.keeps clean (kept_ok _))),
+  (λ clean.
+      book_next _ _ _ _ _ _ _ _ c.args.book.now.place c.givings.book.place c.give_again.new.book.place
+      (state g.S.Store c.args.conn.now) (state g.S.Store c.givings.conn)
+      (state g.S.Store c.give_again.new.conn) (c.givings.invariant.3 (c.give_again.ensures.clean clean))
+      (slice_get-get_or c.args.acts.now c.givings.it-index c.it-item.result c.givings-test.true ∙ ap (λ (it : Repeat). Some it) (sym c.it-item.is))
+      (c.in-Ok.ensures.given clean)),
+)
+
+pub returns-in-Err-clause-given : goal.returns-in-Err-clause-given
+returns-in-Err-clause-given g c clean = stopped_then _ c.stopped_by.result c.in-Err.fault c.stopped_by.ensures.other
+
+pub returns-in-Err-clause-keeps : goal.returns-in-Err-clause-keeps
+returns-in-Err-clause-keeps g c clean kept =
+    goes_then _ c.args.desk.now.settings.now.mark c.args.book.now.place c.givings.book.place c.give_again.new.book.place
+    (state g.S.Store c.args.conn.now) (state g.S.Store c.givings.conn)
+    (state g.S.Store c.give_again.new.conn) (c.givings.invariant.2 (c.give_again.ensures.clean clean))
+    (c.in-Err.ensures.keeps clean (stopped_kept c.stopped_by.result c.in-Err.fault c.stopped_by.ensures.book kept))

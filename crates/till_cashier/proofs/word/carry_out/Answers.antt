@@ -1,0 +1,122 @@
+use Rattle.sqlite.specs.Held.{state}
+use Rattle.till_work.specs.Told.{IsTold}
+use Rattle.till_cashier.specs.Clock.{local_clock}
+use Rattle.till_cashier.specs.Faults.{giver_of}
+use Rattle.till_cashier.specs.declared.word.Plan.TheVariants as plan
+use Rattle.std.proofs.Common.{sym}
+use Rattle.till_cashier.proofs.Doing.{on_ok, carried_out}
+use Rattle.till_cashier.proofs.Adding.{enters_as}
+use Rattle.till_cashier.proofs.GoingOn.{kept_goes, kept_grows}
+use Rattle.till_cashier.proofs.Repeating.{repeats_as}
+use Rattle.till_cashier.proofs.word.carry_out.Goals as goal
+
+pub returns-in-Give-clause-keeps : goal.returns-in-Give-clause-keeps
+returns-in-Give-clause-keeps g c clean kept branch planned = c.give_and_tell.ensures.keeps clean kept
+
+pub returns-in-Office-clause-grows : goal.returns-in-Office-clause-grows
+returns-in-Office-clause-grows g c clean kept office planned = c.give_office.ensures.grows clean kept
+
+pub returns-in-Send-clause-grows : goal.returns-in-Send-clause-grows
+returns-in-Send-clause-grows g c clean kept office planned = c.send.ensures.grows clean kept
+
+pub returns-in-Give-clause-done : goal.returns-in-Give-clause-done
+returns-in-Give-clause-done g c clean =
+    carried_out c.give_and_tell.result (IsTold (g.V.Server.opens c.args.desk.now.server.now) g.V.Reader.Read.remaining g.V.Writer.Write.contents)
+    (local_clock (g.K.WallClock.shows c.args.desk.now.clock.now) c.args.desk.now.settings.now.zone)
+    c.args.desk.now.settings.now.mark c.args.desk.now.settings.now.token (giver_of c.args.desk.now.settings.now.staff c.args.desk.now.staff) c.args.plan
+    (plan.Give c.in-Give.act c.in-Give.customer) _ _ _ _ c.in-Give.is (c.give_and_tell.ensures.given clean)
+
+pub returns-in-Send-clause-done : goal.returns-in-Send-clause-done
+returns-in-Send-clause-done g c clean =
+    carried_out c.send.result (IsTold (g.V.Server.opens c.args.desk.now.server.now) g.V.Reader.Read.remaining g.V.Writer.Write.contents)
+    (local_clock (g.K.WallClock.shows c.args.desk.now.clock.now) c.args.desk.now.settings.now.zone)
+    c.args.desk.now.settings.now.mark c.args.desk.now.settings.now.token (giver_of c.args.desk.now.settings.now.staff c.args.desk.now.staff) c.args.plan
+    plan.Send _ _ _ _ c.in-Send.is (c.send.ensures.sent clean)
+
+pub returns-in-Waiting-clause-done : goal.returns-in-Waiting-clause-done
+returns-in-Waiting-clause-done g c clean =
+    carried_out c.waiting_entries.result (IsTold (g.V.Server.opens c.args.desk.now.server.now) g.V.Reader.Read.remaining g.V.Writer.Write.contents)
+    (local_clock (g.K.WallClock.shows c.args.desk.now.clock.now) c.args.desk.now.settings.now.zone)
+    c.args.desk.now.settings.now.mark c.args.desk.now.settings.now.token (giver_of c.args.desk.now.settings.now.staff c.args.desk.now.staff) c.args.plan
+    plan.Waiting _ _ _ _ c.in-Waiting.is (on_ok _ (c.waiting_entries.ensures.stays clean))
+
+pub returns-in-Last-clause-done : goal.returns-in-Last-clause-done
+returns-in-Last-clause-done g c clean =
+    carried_out c.last_entries.result (IsTold (g.V.Server.opens c.args.desk.now.server.now) g.V.Reader.Read.remaining g.V.Writer.Write.contents)
+    (local_clock (g.K.WallClock.shows c.args.desk.now.clock.now) c.args.desk.now.settings.now.zone)
+    c.args.desk.now.settings.now.mark c.args.desk.now.settings.now.token (giver_of c.args.desk.now.settings.now.staff c.args.desk.now.staff) c.args.plan
+    (plan.Last c.in-Last.count) _ _ _ _ c.in-Last.is (on_ok _ (c.last_entries.ensures.stays clean))
+
+pub returns-in-Waiting-clause-keeps : goal.returns-in-Waiting-clause-keeps
+returns-in-Waiting-clause-keeps g c clean kept branch planned =
+    kept_goes _ c.args.desk.now.settings.now.mark c.args.book.now.place (state g.S.Store c.args.conn.now)
+    (state g.S.Store c.waiting_entries.new.conn) (c.waiting_entries.ensures.stays clean)
+
+pub returns-in-Waiting-clause-grows : goal.returns-in-Waiting-clause-grows
+returns-in-Waiting-clause-grows g c clean kept office planned =
+    kept_grows _ c.args.book.now.place (state g.S.Store c.args.conn.now) (state g.S.Store c.waiting_entries.new.conn) (c.waiting_entries.ensures.stays clean)
+
+pub returns-in-Last-clause-keeps : goal.returns-in-Last-clause-keeps
+returns-in-Last-clause-keeps g c clean kept branch planned =
+    kept_goes _ c.args.desk.now.settings.now.mark c.args.book.now.place (state g.S.Store c.args.conn.now)
+    (state g.S.Store c.last_entries.new.conn) (c.last_entries.ensures.stays clean)
+
+pub returns-in-Last-clause-grows : goal.returns-in-Last-clause-grows
+returns-in-Last-clause-grows g c clean kept office planned =
+    kept_grows _ c.args.book.now.place (state g.S.Store c.args.conn.now) (state g.S.Store c.last_entries.new.conn) (c.last_entries.ensures.stays clean)
+
+pub returns-in-Day-clause-done : goal.returns-in-Day-clause-done
+returns-in-Day-clause-done g c clean =
+    carried_out c.day.result (IsTold (g.V.Server.opens c.args.desk.now.server.now) g.V.Reader.Read.remaining g.V.Writer.Write.contents)
+    (local_clock (g.K.WallClock.shows c.args.desk.now.clock.now) c.args.desk.now.settings.now.zone)
+    c.args.desk.now.settings.now.mark c.args.desk.now.settings.now.token (giver_of c.args.desk.now.settings.now.staff c.args.desk.now.staff) c.args.plan
+    (plan.Day c.in-Day.asked) _ _ _ _ c.in-Day.is (on_ok _ (c.day.ensures.stays clean))
+
+pub returns-in-Day-clause-keeps : goal.returns-in-Day-clause-keeps
+returns-in-Day-clause-keeps g c clean kept branch planned =
+    kept_goes _ c.args.desk.now.settings.now.mark c.args.book.now.place (state g.S.Store c.args.conn.now)
+    (state g.S.Store c.day.new.conn) (c.day.ensures.stays clean)
+
+pub returns-in-Day-clause-grows : goal.returns-in-Day-clause-grows
+returns-in-Day-clause-grows g c clean kept office planned =
+    kept_grows _ c.args.book.now.place (state g.S.Store c.args.conn.now) (state g.S.Store c.day.new.conn) (c.day.ensures.stays clean)
+
+pub returns-in-Give-clause-enters : goal.returns-in-Give-clause-enters
+returns-in-Give-clause-enters g c clean kept =
+    enters_as (local_clock (g.K.WallClock.shows c.args.desk.now.clock.now) c.args.desk.now.settings.now.zone)
+    c.args.desk.now.settings.now.mark c.args.desk.now.settings.now.token (giver_of c.args.desk.now.settings.now.staff c.args.desk.now.staff)
+    (plan.Give c.in-Give.act c.in-Give.customer) c.args.plan _ _ _ _ (sym c.in-Give.is) (c.give_and_tell.ensures.adds clean kept)
+
+pub returns-in-Send-clause-enters : goal.returns-in-Send-clause-enters
+returns-in-Send-clause-enters g c clean kept =
+    enters_as (local_clock (g.K.WallClock.shows c.args.desk.now.clock.now) c.args.desk.now.settings.now.zone)
+    c.args.desk.now.settings.now.mark c.args.desk.now.settings.now.token (giver_of c.args.desk.now.settings.now.staff c.args.desk.now.staff)
+    plan.Send c.args.plan _ _ _ _ (sym c.in-Send.is) (c.send.ensures.adds clean kept c.args.desk.now.settings.now.mark)
+
+pub returns-in-Waiting-clause-enters : goal.returns-in-Waiting-clause-enters
+returns-in-Waiting-clause-enters g c clean kept =
+    enters_as (local_clock (g.K.WallClock.shows c.args.desk.now.clock.now) c.args.desk.now.settings.now.zone)
+    c.args.desk.now.settings.now.mark c.args.desk.now.settings.now.token (giver_of c.args.desk.now.settings.now.staff c.args.desk.now.staff)
+    plan.Waiting c.args.plan _ _ _ _ (sym c.in-Waiting.is) (c.waiting_entries.ensures.stays clean)
+
+pub returns-in-Last-clause-enters : goal.returns-in-Last-clause-enters
+returns-in-Last-clause-enters g c clean kept =
+    enters_as (local_clock (g.K.WallClock.shows c.args.desk.now.clock.now) c.args.desk.now.settings.now.zone)
+    c.args.desk.now.settings.now.mark c.args.desk.now.settings.now.token (giver_of c.args.desk.now.settings.now.staff c.args.desk.now.staff)
+    (plan.Last c.in-Last.count) c.args.plan _ _ _ _ (sym c.in-Last.is) (c.last_entries.ensures.stays clean)
+
+pub returns-in-Day-clause-enters : goal.returns-in-Day-clause-enters
+returns-in-Day-clause-enters g c clean kept =
+    enters_as (local_clock (g.K.WallClock.shows c.args.desk.now.clock.now) c.args.desk.now.settings.now.zone)
+    c.args.desk.now.settings.now.mark c.args.desk.now.settings.now.token (giver_of c.args.desk.now.settings.now.staff c.args.desk.now.staff)
+    (plan.Day c.in-Day.asked) c.args.plan _ _ _ _ (sym c.in-Day.is) (c.day.ensures.stays clean)
+
+pub returns-in-Again-clause-keeps : goal.returns-in-Again-clause-keeps
+returns-in-Again-clause-keeps g c clean kept branch planned = c.again.ensures.keeps clean kept
+
+pub returns-in-Again-clause-again : goal.returns-in-Again-clause-again
+returns-in-Again-clause-again g c clean =
+    repeats_as c.again.result _ (IsTold (g.V.Server.opens c.args.desk.now.server.now) g.V.Reader.Read.remaining g.V.Writer.Write.contents)
+    (local_clock (g.K.WallClock.shows c.args.desk.now.clock.now) c.args.desk.now.settings.now.zone)
+    c.args.desk.now.settings.now.mark c.args.desk.now.settings.now.token c.args.desk.now.settings.now.staff c.args.plan
+    (plan.Again c.in-Again.late) _ _ _ _ c.in-Again.is (c.again.ensures.given clean)

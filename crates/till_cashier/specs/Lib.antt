@@ -1,0 +1,12 @@
+pub mod Clock
+pub mod Faults
+pub mod Giving
+pub mod LastMoment
+pub mod Wall
+pub mod Word
+pub mod Returns
+pub mod Doing
+pub mod Adding
+pub mod Sure
+pub mod Today
+pub mod Again

@@ -1,0 +1,51 @@
+//! One word of a cashier's at an open book: what is typed is entered, sent, and answered in plain words.
+#![tactic(auto)]
+
+mod again;
+mod answers;
+mod asked;
+mod book;
+mod caches;
+mod clock;
+mod closings;
+mod commands;
+mod day;
+mod desk;
+mod entries;
+mod fault;
+mod line;
+mod lists;
+mod lists_of_entries;
+mod looks;
+mod office;
+mod refused;
+mod returns;
+mod said;
+mod same_act;
+mod sendings;
+mod settling;
+mod sheet;
+mod slips;
+mod sure;
+mod today;
+mod wall;
+mod watch;
+mod word;
+mod zone_word;
+
+pub use asked::{Asked, ask_before};
+pub use book::Book;
+pub use caches::Shelf;
+pub use clock::WallClock;
+pub use desk::Desk;
+pub use fault::TillFault;
+pub use line::Line;
+pub use said::Said;
+pub use settling::make_sure;
+pub use sheet::read_sheet;
+pub use sure::question;
+pub use today::said_day;
+pub use wall::on_wall;
+pub use watch::Quiet;
+pub use word::do_word;
+pub use zone_word::{accept_zone, zone_said};

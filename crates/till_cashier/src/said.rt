@@ -1,0 +1,30 @@
+//! The outcome of a word.
+
+use std::alloc::{AllocError, Global};
+
+/// What is printed of a word, each line of it ended by a line feed, and the program's status: 0 done, 1 refused, 2
+/// usage, 3 a fault of the till's own, 4 not answered yet.
+#[derive(Drop)]
+pub struct Said {
+    pub text: String,
+    pub status: u8,
+}
+
+impl Said {
+    /// Returns that the word is done, with nothing to say yet.
+    pub fn done(alloc: Global) -> Said {
+        Said {
+            text: String::new(alloc),
+            status: 0,
+        }
+    }
+
+    /// Adds one line or more. If the last one doesn't end with a line feed, it gets one.
+    pub fn line(&mut self, line: &str) -> Result<(), AllocError> {
+        self.text.push_str(line)?;
+        if line.ends_with('\n') {
+            return Ok(());
+        }
+        self.text.push_str("\n")
+    }
+}

@@ -1,0 +1,206 @@
+//! The branch's sheet beside the book: which copy is which film, and rentals from before the book began.
+
+ghost use Rattle.std.specs.Prelude.{◌≡◌, Some, None, IfOk, IfSome};
+ghost use Rattle.till_requests.specs.SheetRows.{row_in_sheet};
+ghost use Rattle.till_requests.specs.SheetSeen.{seen_row};
+ghost use Rattle.till_cashier.specs.Returns.{IsOnSheet};
+
+use crate::caches::Shelf;
+use crate::clock::WallClock;
+use crate::desk::Desk;
+use crate::fault::TillFault;
+use serde_json::Value;
+use shop_types::{Act, Ask, BranchNo, CopyNo, CustomerNo, FilmNo, Moment};
+use std::alloc::Global;
+use till_book::HeldRental;
+use till_client::Answer;
+use till_requests::{SheetRow, find_row, look_request, moment_at};
+use till_shows::{day_words, holder};
+use till_work::Server;
+
+/// The name of the file on the shelf.
+const NAME: &str = "sheet";
+
+/// The seconds of a day.
+const DAY: u64 = 86_400;
+
+/// Reads the sheet beside a book. It is empty if there is none, or if it can't be read.
+pub fn read_sheet<L: Shelf>(alloc: Global, shelf: &L) -> Vec<u8> {
+    match shelf.whole(alloc, NAME) {
+        Some(bytes) => bytes,
+        None => Vec::new(alloc),
+    }
+}
+
+/// Returns the branch of a sheet's first row, if it has a row.
+pub(crate) fn branch_of(sheet: &[u8]) -> Option<BranchNo> {
+    let text = std::str::from_utf8(sheet).ok()?;
+    let (_, rows) = text.split_once('\n')?;
+    let (_, fields) = rows.split_once(',')?;
+    let (branch, _) = fields.split_once(',')?;
+    BranchNo::read(branch.as_bytes())
+}
+
+/// Returns the copy's row of the sheet, if the sheet has one.
+fn row_of<K: WallClock, V: Server, L: Shelf>(
+    desk: &Desk<'_, K, V, L>,
+    copy: CopyNo,
+) -> Option<SheetRow>
+    ensures { IfSome result (λ row. row_in_sheet copy desk.now.sheet.now ≡ Some (Some (seen_row row))) }
+{
+    match find_row(desk.alloc, desk.sheet, copy) {
+        Ok(Some(row)) => Some(row),
+        Ok(None) | Err(_) => None,
+    }
+}
+
+/// Returns the server's answer to a look, if there is one.
+fn looked<K: WallClock, V: Server, L: Shelf>(
+    desk: &Desk<'_, K, V, L>,
+    ask: &Ask,
+) -> Option<Answer> {
+    let request = look_request(desk.alloc, desk.routes, &desk.settings.token, ask).ok()?;
+    desk.ask(request.as_slice()).ok()
+}
+
+/// Asks the server whether that customer has the copy.
+fn is_held_by<K: WallClock, V: Server, L: Shelf>(
+    desk: &Desk<'_, K, V, L>,
+    copy: CopyNo,
+    customer: CustomerNo,
+) -> bool {
+    let Some(answer) = looked(desk, &Ask::HeldBy(copy)) else {
+        return false;
+    };
+    match holder(desk.alloc, answer.body.as_slice()) {
+        Ok(Some(it)) => answer.status == 200 && it.get() == customer.get(),
+        Ok(None) | Err(_) => false,
+    }
+}
+
+/// Returns the rental that a row has, with its customer.
+fn rental_in(row: &SheetRow) -> Option<HeldRental>
+    ensures rental { IfSome result (λ held. row.now.rental ≡ Some held.rental) }
+    ensures customer { IfSome result (λ held. row.now.customer ≡ Some held.customer) }
+{
+    match (row.rental, row.customer) {
+        (Some(rental), Some(customer)) => Some(HeldRental { rental, customer }),
+        (Some(_), None) | (None, Some(_)) | (None, None) => None,
+    }
+}
+
+/// Returns the rental that the sheet has of a copy, if the server says that its customer still has the copy. Fails with
+/// `NoRental` otherwise.
+pub(crate) fn rental_on_sheet<K: WallClock, V: Server, L: Shelf>(
+    desk: &Desk<'_, K, V, L>,
+    copy: CopyNo,
+) -> Result<HeldRental, TillFault>
+    ensures { IfOk result (IsOnSheet desk.now.sheet.now copy) }
+{
+    let Some(row) = row_of(desk, copy) else {
+        return Err(TillFault::NoRental);
+    };
+    let Some(held) = rental_in(&row) else {
+        return Err(TillFault::NoRental);
+    };
+    if is_held_by(desk, copy, held.customer) {
+        Ok(held)
+    } else {
+        Err(TillFault::NoRental)
+    }
+}
+
+/// What is known of the film of a rent, and the rental's last day.
+#[derive(Drop)]
+pub(crate) struct Rented {
+    pub(crate) title: Option<String>,
+    pub(crate) due: Option<Moment>,
+}
+
+/// Asks the server for how many days a film is rented out.
+fn period_of<K: WallClock, V: Server, L: Shelf>(
+    desk: &Desk<'_, K, V, L>,
+    film: FilmNo,
+) -> Option<u64> {
+    let answer = looked(desk, &Ask::Film(film))?;
+    match Value::from_slice(desk.alloc, answer.body.as_slice()) {
+        Ok(body) => body.get("period")?.as_u64(),
+        Err(_) => None,
+    }
+}
+
+/// Returns the last day of a film's rental that begins at that moment.
+fn due_of<K: WallClock, V: Server, L: Shelf>(
+    desk: &Desk<'_, K, V, L>,
+    film: Option<FilmNo>,
+    at: &Option<Moment>,
+) -> Option<Moment> {
+    let (Some(film), Some(at)) = (film, at) else {
+        return None;
+    };
+    let days = period_of(desk, film)?;
+    moment_at(at.seconds().saturating_add(days.saturating_mul(DAY)))
+}
+
+/// Returns what is known of a rent's film, and of its last day. Of another act it is nothing. Without a sheet nothing is
+/// asked.
+pub(crate) fn about_rent<K: WallClock, V: Server, L: Shelf>(
+    desk: &Desk<'_, K, V, L>,
+    act: &Act,
+    at: &Option<Moment>,
+) -> Rented {
+    let row = match act {
+        Act::Rent { copy, .. } => row_of(desk, *copy),
+        Act::Customer(_) | Act::Active { .. } | Act::TakeBack(_) | Act::Pay { .. } => None,
+        Act::Import { .. } | Act::Dispatch { .. } | Act::Receive { .. } | Act::Scrap(_) => None,
+    };
+    match row {
+        Some(row) => Rented {
+            due: due_of(desk, row.film, at),
+            title: Some(row.title),
+        },
+        None => Rented::nothing(),
+    }
+}
+
+/// Returns the name of the moment's day of the week.
+fn weekday(at: Moment) -> &'static str {
+    match at.seconds() / DAY % 7 {
+        0 => "Thursday",
+        1 => "Friday",
+        2 => "Saturday",
+        3 => "Sunday",
+        4 => "Monday",
+        5 => "Tuesday",
+        _ => "Wednesday",
+    }
+}
+
+impl Rented {
+    /// Returns that nothing is known.
+    pub(crate) fn nothing() -> Rented {
+        Rented {
+            title: None,
+            due: None,
+        }
+    }
+
+    /// Returns the title as a rent's line has it: ` (RIVER DAWN)`, or nothing.
+    pub(crate) fn title_text(&self, alloc: Global) -> Result<String, TillFault> {
+        match &self.title {
+            Some(title) => Ok(format!(in alloc; " ({title})")?),
+            None => Ok(String::new(alloc)),
+        }
+    }
+
+    /// Returns the last day as a rent's line has it: `, due Thursday 12 March 2026`, or nothing.
+    pub(crate) fn due_text(&self, alloc: Global) -> Result<String, TillFault> {
+        match self.due {
+            Some(due) => {
+                let (weekday, day) = (weekday(due), day_words(alloc, due)?);
+                Ok(format!(in alloc; ", due {weekday} {day}")?)
+            }
+            None => Ok(String::new(alloc)),
+        }
+    }
+}

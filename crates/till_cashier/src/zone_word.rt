@@ -1,0 +1,71 @@
+//! Another zone for an open book, and what is said of it.
+
+ghost use Rattle.std.specs.Prelude.{◌<◌, false, IfOk, IfErr, IfSome, OnOk, ◌≡◌};
+ghost use Rattle.sqlite.specs.Held.{state};
+ghost use Rattle.sqlite.specs.State.{HasCleanDisk};
+ghost use Rattle.shop_model.specs.Calendar.{seconds_of};
+ghost use Rattle.till_book.specs.Steps.{Stays};
+ghost use Rattle.till_cashier.specs.Clock.{local_clock};
+ghost use Rattle.till_cashier.specs.LastMoment.{PassesLast};
+
+use crate::book::Book;
+use crate::caches::Shelf;
+use crate::clock::WallClock;
+use crate::desk::Desk;
+use crate::fault::TillFault;
+use crate::said::Said;
+use shop_types::Moment;
+use sqlite::{Alter, Connection};
+use std::alloc::Global;
+use till_requests::{Settings, zone_offset};
+use till_work::Server;
+
+/// Tests that the moment is later than the last entry's.
+fn passes(now: Moment, last: Option<Moment>) -> Result<(), TillFault>
+    ensures passed { OnOk result (IfSome last (λ it. seconds_of it < seconds_of now)) }
+    ensures behind { IfErr result (λ fault. fault ≡ TillFault.ZoneBehind) }
+{
+    match last {
+        Some(last) if !last.is_earlier(now) => Err(TillFault::ZoneBehind),
+        Some(_) | None => Ok(()),
+    }
+}
+
+/// Accepts the zone of the desk's settings for the book, and returns the clock's moment in that zone. If that isn't later
+/// than the last entry's moment, fails with `ZoneBehind`. The book stays.
+pub fn accept_zone<S: Alter, K: WallClock, V: Server, L: Shelf>(
+    desk: &Desk<'_, K, V, L>,
+    conn: &mut Connection<S>,
+) -> Result<Moment, TillFault>
+    requires { conn.old.in_transaction ≡ false }
+    ensures ended { conn.new.in_transaction ≡ false }
+    ensures clean { HasCleanDisk (state S.Store conn.new) → HasCleanDisk (state S.Store conn.old) }
+    ensures stays { HasCleanDisk (state S.Store conn.new) → Stays (state S.Store conn.old) (state S.Store conn.new) }
+    ensures shown { IfOk result (λ now. local_clock (K.shows desk.now.clock.now) desk.now.settings.now.zone
+        (seconds_of now)) }
+    ensures later { HasCleanDisk (state S.Store conn.new)
+        → IfOk result (λ now. PassesLast (seconds_of now) (state S.Store conn.old)) }
+{
+    let book = Book::read(desk.alloc, desk.routes, &desk.settings.mark, conn)?;
+    let now = desk.now()?;
+    passes(now, book.last)?;
+    Ok(now)
+}
+
+/// Says the settings' zone, and its standard time.
+pub fn zone_said(alloc: Global, settings: &Settings) -> Result<Said, TillFault> {
+    let name = match &settings.zone {
+        Some(zone) => zone.name.as_str(),
+        None => "UTC",
+    };
+    let seconds = zone_offset(&settings.zone);
+    let sign = if seconds < 0 { "-" } else { "+" };
+    let minutes = seconds.unsigned_abs() / 60;
+    let (hours, minutes) = (minutes / 60, minutes % 60);
+    let mut said = Said::done(alloc);
+    let line = format!(in alloc;
+        "the till's zone is {name}: entries have its standard time, UTC{sign}{hours:02}:{minutes:02}"
+    )?;
+    said.line(line.as_str())?;
+    Ok(said)
+}

@@ -1,7 +1,0 @@
-use Rattle.std.proofs.Common.{◌≡◌, ◌-◌, map}
-use Rattle.till_desk.specs.Reading.{words_at}
-use Rattle.till_desk.proofs.WordLoop.{with_front}
-use Rattle.till_desk.proofs.lines.words_of.Given as goal
-
-abbrev pub invariant-loop : goal.invariant-loop
-invariant-loop l = with_front (map (λ v. v.items) l.words.items) (words_at (l.count - l.counter) l.rest) ≡ words_at l.count l.bytes

@@ -1,6 +1,0 @@
-use Rattle.std.specs.List.{All}
-use Rattle.till_program.specs.Again.{IsRefused}
-use Rattle.till_program.proofs.refused.repeats_in.Given as goal
-
-abbrev pub invariant-loop-at : goal.invariant-loop-at
-invariant-loop-at g l = All (IsRefused l.entries.rows.entries l.entries.rows.replies) l.repeats.acts.items

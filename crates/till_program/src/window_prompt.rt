@@ -1,0 +1,124 @@
+//! A window's prompt, which reads lines of words.
+
+use crate::faults::ShopFault;
+use crate::program::{Asks, Standing};
+use crate::prompt::change_staff;
+use crate::settings::WindowSettings;
+use crate::window::perform;
+use std::io::{ErrorKind, Write};
+use till_cashier::TillFault;
+use till_words::split_line;
+
+/// Tests whether the words end the prompt.
+fn is_end(words: &[String]) -> bool {
+    match words {
+        [word] => word.as_str() == "exit" || word.as_str() == "quit",
+        _ => false,
+    }
+}
+
+/// Does what words ask for, and says what keeps the window from it.
+fn perform_said<W: Write, E: Write>(
+    rt: &HostRuntime,
+    window: &WindowSettings,
+    words: &[String],
+    standing: Standing,
+    out: &mut W,
+    err: &mut E,
+) -> Result<(), ShopFault> {
+    if let Err(fault) = perform(rt, window, words, standing, out, err) {
+        writeln!(err, "{fault}")?;
+    }
+    Ok(())
+}
+
+/// Does what the words of a line ask for. `staff N` changes who stands at the window.
+fn perform_more<W: Write, E: Write>(
+    rt: &HostRuntime,
+    window: &WindowSettings,
+    before: &[String],
+    more: Vec<String>,
+    standing: &mut Standing,
+    out: &mut W,
+    err: &mut E,
+) -> Result<(), ShopFault> {
+    if let [word, number] = more.as_slice() {
+        if word.as_str() == "staff" {
+            change_staff(number.as_str(), standing, out, err)?;
+            return Ok(());
+        }
+    }
+    let mut words = Vec::new(rt.alloc());
+    for word in before {
+        words.push(word.clone()?)?;
+    }
+    words.extend(more)?;
+    perform_said(rt, window, words.as_slice(), *standing, out, err)
+}
+
+/// Does what a line asks for, and returns whether the prompt goes on.
+fn perform_line<W: Write, E: Write>(
+    rt: &HostRuntime,
+    window: &WindowSettings,
+    before: &[String],
+    line: &str,
+    standing: &mut Standing,
+    out: &mut W,
+    err: &mut E,
+) -> Result<bool, ShopFault> {
+    let alloc = rt.alloc();
+    let Ok(more) = split_line(alloc, line) else {
+        writeln!(
+            err,
+            "A quotation mark is open. Close it, and say the line again."
+        )?;
+        return Ok(true);
+    };
+    if is_end(more.as_slice()) {
+        return Ok(false);
+    }
+    if !more.is_empty() {
+        perform_more(rt, window, before, more, standing, out, err)?;
+    }
+    Ok(true)
+}
+
+/// Prints that a line is wanted.
+fn invite<W: Write>(out: &mut W) -> Result<(), ShopFault> {
+    write!(out, "till> ")?;
+    out.flush()?;
+    Ok(())
+}
+
+/// Reads lines of words to the end of the input, or to `exit` or `quit`, and has the desk do what each asks for. The
+/// words before the prompt's own are put before each line. First the desk says who is at the window, and when.
+pub(crate) fn prompt<W: Write, E: Write>(
+    rt: &HostRuntime,
+    window: &WindowSettings,
+    before: &[String],
+    out: &mut W,
+    err: &mut E,
+) -> Result<u8, ShopFault> {
+    let mut standing = Standing {
+        staff: None,
+        asks: Asks::Prompt,
+    };
+    perform_said(rt, window, before, standing, out, err)?;
+    invite(out)?;
+    'lines: for line in rt.lines(rt.alloc()) {
+        let goes_on = match line {
+            Ok(line) => perform_line(rt, window, before, line.as_str(), &mut standing, out, err)?,
+            Err(error) if error.kind() == ErrorKind::InvalidData => {
+                writeln!(err, "That line isn't UTF-8. Say it again in other letters.")?;
+                true
+            }
+            Err(_) => return Err(ShopFault::Till(TillFault::System)),
+        };
+        if !goes_on {
+            return Ok(0);
+        }
+        invite(out)?;
+    }
+    writeln!(out)?;
+    Ok(0)
+}
