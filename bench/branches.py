@@ -1,5 +1,5 @@
-"""Branches with several tills, over a chain that is served: real tills at their prompts, and tills of this file's, which send the same bytes and keep books of the journal alone, as a
-program did that made no tables beside it. So whatever reads tills' books here has both kinds."""
+"""Branches with several tills, over a chain that is served: real tills at their prompts, a real desk with two windows, and tills of this file's, which send the same bytes and keep books of the
+journal alone, as a program did that made no tables beside it. So whatever reads tills' books here has all kinds."""
 import contextlib
 import datetime
 import json
@@ -235,7 +235,20 @@ class RealTill:
         self.opens()
 
     def opens(self):
-        self.program = subprocess.Popen([TILL, "--book", self.path], stdin=subprocess.PIPE, stdout=subprocess.PIPE, stderr=subprocess.STDOUT, cwd=self.folder)
+        self.prompt = Prompt(self.path, self.folder)
+
+    def says(self, line):
+        return self.prompt.says(line)
+
+    def closes(self):
+        self.prompt.closes()
+
+
+class Prompt:
+    """`till` at its prompt, beside a book's settings or a window's."""
+
+    def __init__(self, path, folder):
+        self.program = subprocess.Popen([TILL, "--book", path], stdin=subprocess.PIPE, stdout=subprocess.PIPE, stderr=subprocess.STDOUT, cwd=folder)
         self.reads()
 
     def reads(self):
@@ -256,3 +269,34 @@ class RealTill:
         self.program.stdin.close()
         self.program.wait()
         self.program.stdout.close()
+
+
+class DeskTill(RealTill):
+    """A desk that holds a book, and two windows, which give its lines by turns."""
+
+    def opens(self):
+        self.windows = [f"{self.path}.window{n}" for n in (1, 2)]
+        with socket.socket() as it:
+            it.bind(("127.0.0.1", 0))
+            port = it.getsockname()[1]
+        self.desk = subprocess.Popen([TILL, "--book", self.path, "desk", "--port", str(port)], stdout=subprocess.PIPE, text=True, cwd=self.folder)
+        while not (told := self.desk.stdout.readline()).startswith("the desk is open"):
+            if not told:
+                sys.exit("bench: the desk doesn't open")
+        for it in self.windows:
+            if os.path.exists(it + ".conf"):
+                os.unlink(it + ".conf")
+            subprocess.run([TILL, "--book", it, "window", f"127.0.0.1:{port}", "--staff", "1", "--secret-file", self.path + ".desk"], check=True, stdout=subprocess.DEVNULL, cwd=self.folder)
+        self.prompts = [Prompt(it, self.folder) for it in self.windows]
+
+    def says(self, line):
+        self.prompts.reverse()
+        return self.prompts[0].says(line)
+
+    def closes(self):
+        """The windows are closed, and the desk is killed, as a machine is that is switched off."""
+        for it in self.prompts:
+            it.closes()
+        self.desk.kill()
+        self.desk.wait()
+        self.desk.stdout.close()

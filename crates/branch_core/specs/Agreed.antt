@@ -113,13 +113,13 @@ abbrev pub nothing : Named
 nothing = record { city = None; customer = None; copy = None; rental = None }
 
 -- the single rows that an act names, if it names no other rows
-abbrev pub named : Act → Named
-named (model.AddCustomer who) = record nothing { city = Some who.person.city }
-named (model.SetActive c active) = record nothing { customer = Some c }
-named (model.TakeBack r) = record nothing { rental = Some r }
-named (model.Pay c rental amount) = record nothing { customer = Some c; rental = rental }
-named (model.Scrap x) = record nothing { copy = Some x }
-named act = nothing
+abbrev pub named_rows : Act → Named
+named_rows (model.AddCustomer who) = record nothing { city = Some who.person.city }
+named_rows (model.SetActive c active) = record nothing { customer = Some c }
+named_rows (model.TakeBack r) = record nothing { rental = Some r }
+named_rows (model.Pay c rental amount) = record nothing { customer = Some c; rental = rental }
+named_rows (model.Scrap x) = record nothing { copy = Some x }
+named_rows act = nothing
 
 pub record NamedAgree (catalogue : Catalogue) (shop : Shop) (names : Named) (it : RowsFound) : Type 0 where
   pub city : IfSome names.city (λ n. it.has_city ≡ not (lacks catalogue.cities n))
@@ -133,7 +133,7 @@ ActAgrees rules catalogue shop moment (model.Rent c x) it = RentAgrees catalogue
 ActAgrees rules catalogue shop moment (model.Import lot file) it = ImportAgrees rules catalogue shop lot file it
 ActAgrees rules catalogue shop moment (model.Dispatch to xs) it = DispatchAgrees catalogue shop to xs it
 ActAgrees rules catalogue shop moment (model.Receive source number missing) it = ReceiveAgrees shop source number it
-ActAgrees rules catalogue shop moment act it = NamedAgree catalogue shop (named act) it
+ActAgrees rules catalogue shop moment act it = NamedAgree catalogue shop (named_rows act) it
 
 -- ---- all that was found
 

@@ -4,7 +4,7 @@
 ghost use Rattle.std.specs.Prelude.{◌≡◌, ℕ, true, Some};
 ghost use Rattle.shop_model.specs.Values as model;
 ghost use Rattle.shop_types.specs.Seen.{seen_act};
-ghost use Rattle.branch_core.specs.Agreed.{named};
+ghost use Rattle.branch_core.specs.Agreed.{named_rows};
 ghost use Rattle.branch_core.specs.Decided.{IsRefusal};
 
 use crate::consignments::{dispatch_refusal, receive_refusal};
@@ -14,8 +14,8 @@ use shop_types::{Act, BranchNo, CustomerNo, Refusal, RentalNo};
 
 /// Returns the single rows that an act names. Some acts name other rows, which are found in other ways.
 #[tactic(auto)]
-pub fn named(act: &Act) -> Named
-    ensures { result ≡ named (seen_act act.now) }
+pub fn named_rows(act: &Act) -> Named
+    ensures { result ≡ named_rows (seen_act act.now) }
 {
     let nothing = Named::nothing();
     match act {

@@ -11,7 +11,7 @@ mod found;
 mod rentals;
 mod stock;
 
-pub use acts::named;
+pub use acts::named_rows;
 pub use arrived::arrived_lines;
 pub use consignments::has_unknown_copy;
 pub use decision::decide;

@@ -10,13 +10,13 @@ use Rattle.branch_core.specs.Agreed.{RowAgrees}
 use Rattle.shop_store.specs.SharedSeen.{withdrawn_of}
 use Rattle.branch_finds.proofs.Readings.{at_most_one}
 use Rattle.consign_finds.proofs.Readings.{some_there}
-use Rattle.branch_finds.specs.Commands.{as_listed, found_row, told_row}
+use Rattle.branch_finds.specs.Commands.{as_listed, found_row, stock_found}
 
 -- what the store returned for a row's film is what the catalogue has of the film
 pub film_found : (catalogue : Catalogue) (row : StockRow) (withdrawn : Option Bool) → withdrawn ≡ head (map withdrawn_of (at row.film catalogue.films))
-    → told_row row withdrawn ≡ found_row catalogue row
+    → stock_found row withdrawn ≡ found_row catalogue row
 film_found catalogue row withdrawn told =
-    (λ i. told_row row (told i))
+    (λ i. stock_found row (told i))
     ∙ (λ i.
     record {
       film = row.film;
@@ -29,16 +29,16 @@ film_found catalogue row withdrawn told =
 pub row_found : (catalogue : Catalogue) (rows : List StockRow) (i : ℕ) (row : StockRow) (found : List StockFound) (withdrawn : Option Bool)
     → i < length rows → row ≡ get_or rows i row
     → withdrawn ≡ head (map withdrawn_of (at row.film catalogue.films)) → found ≡ map (found_row catalogue) (take i rows)
-    → found ++ told_row row withdrawn ∷ [] ≡ map (found_row catalogue) (take (i + 1) rows)
+    → found ++ stock_found row withdrawn ∷ [] ≡ map (found_row catalogue) (take (i + 1) rows)
 row_found catalogue rows i row found withdrawn lt is told before =
     (λ i. before i ++ film_found catalogue row withdrawn told i ∷ [])
     ∙ ap (λ (r : StockRow). map (found_row catalogue) (take i rows) ++ found_row catalogue r ∷ []) is
     ∙ sym (map_more (found_row catalogue) rows i row lt)
 
 pub row_listed : (rows : List StockRow) (i : ℕ) (row : StockRow) (found : List StockFound) (withdrawn : Option Bool) → i < length rows → row ≡ get_or rows i row
-    → map as_listed found ≡ take i rows → map as_listed (found ++ told_row row withdrawn ∷ []) ≡ take (i + 1) rows
+    → map as_listed found ≡ take i rows → map as_listed (found ++ stock_found row withdrawn ∷ []) ≡ take (i + 1) rows
 row_listed rows i row found withdrawn lt is before =
-    map_push as_listed found (told_row row withdrawn) ∙ (λ i. before i ++ is i ∷ []) ∙ sym (take_more rows i row lt)
+    map_push as_listed found (stock_found row withdrawn) ∙ (λ i. before i ++ is i ∷ []) ∙ sym (take_more rows i row lt)
 
 -- ---- a whole file
 

@@ -23,8 +23,8 @@ found_row catalogue row = record {
 }
 
 -- the row, made from whether its film is withdrawn, if there is such a film
-abbrev pub told_row : StockRow → Option Bool → StockFound
-told_row row withdrawn = record { film = row.film; copies = row.copies; is_there = is_some withdrawn; is_withdrawn = is_yes withdrawn }
+abbrev pub stock_found : StockRow → Option Bool → StockFound
+stock_found row withdrawn = record { film = row.film; copies = row.copies; is_there = is_some withdrawn; is_withdrawn = is_yes withdrawn }
 
 -- the row alone
 abbrev pub as_listed : StockFound → StockRow

@@ -11,13 +11,13 @@ ghost use Rattle.stock_csv.specs.Stock.{stock_of};
 ghost use Rattle.branch_core.specs.Agreed.{Agrees, RowAgrees, seen_stock, NamedAgree};
 ghost use Rattle.branch_core.specs.Marked.{AreMarked};
 ghost use Rattle.branch_finds.specs.Finds.{Knows};
-ghost use Rattle.branch_finds.specs.Commands.{as_listed, found_row, told_row, IsKeptFor};
+ghost use Rattle.branch_finds.specs.Commands.{as_listed, found_row, stock_found, IsKeptFor};
 ghost use Rattle.consign_finds.specs.Finds.{AgreesAt};
 ghost use Rattle.shop_model.specs.Values as model;
 
 use crate::finds::{find_city, find_copy, find_customer, find_rental};
 use crate::known::find_withdrawn;
-use branch_core::{Found, Named, RowsFound, StockFound, StockRows, named};
+use branch_core::{Found, Named, RowsFound, StockFound, StockRows, named_rows};
 use chain_caches::FilmCache;
 use consign_finds::{find_for_dispatch, find_for_receipt};
 use shop_ledger::{Count, CountKind, Standing, count_of};
@@ -80,7 +80,7 @@ fn find_rows<S: Alter>(
         Act::Import { lot, file } => find_for_import(alloc, tx, films, branch, lot, file),
         Act::Dispatch { to, copies } => find_for_dispatch(alloc, tx, branch, *to, copies),
         Act::Receive { from, number, .. } => find_for_receipt(alloc, tx, branch, *from, *number),
-        act => find_named(alloc, tx, films, branch, named(act)),
+        act => find_named(alloc, tx, films, branch, named_rows(act)),
     }
 }
 
@@ -193,14 +193,14 @@ fn find_films<S: Alter>(
     let mut found = Vec::new(alloc);
     for row in rows {
         let withdrawn = find_withdrawn(tx, films, row.film)?;
-        found.push(told_row(*row, withdrawn))?;
+        found.push(stock_found(*row, withdrawn))?;
     }
     Ok(found)
 }
 
 /// Returns the row of a stock file. `withdrawn` says whether its film is withdrawn, if there is such a film.
-fn told_row(row: StockRow, withdrawn: Option<bool>) -> StockFound
-    ensures { result ≡ told_row row withdrawn }
+fn stock_found(row: StockRow, withdrawn: Option<bool>) -> StockFound
+    ensures { result ≡ stock_found row withdrawn }
 {
     StockFound {
         film: row.film,

@@ -40,7 +40,7 @@ pub fn dispatch<S: Alter>(
         return Err(StoreFault::Failed);
     };
     let last = last_place(tx)?;
-    let place = place_behind(last)?;
+    let place = next_place(last)?;
     let number = take_pair(tx, branch, to)?;
     let key = ConsignmentKey {
         source: branch,
@@ -57,7 +57,7 @@ pub fn dispatch<S: Alter>(
 }
 
 /// Returns the place after the place of the last consignment. `last` is 0 if there is no consignment.
-fn place_behind(last: u64) -> Result<DispatchPlace, StoreFault>
+fn next_place(last: u64) -> Result<DispatchPlace, StoreFault>
     ensures { IfOk result (λ place. place ≡ last + 1) }
 {
     let Some(next) = last.checked_add(1) else {

@@ -10,7 +10,7 @@ ghost use Rattle.shop_schema.specs.Shop.{Holds};
 ghost use Rattle.chain_requests.specs.Chains.{Rests};
 ghost use Rattle.chain_files.specs.Making.{LeavesMade, books_with};
 
-use crate::faults::{OpenFault, named};
+use crate::faults::{OpenFault, open_fault};
 use shop_schema::create_tables;
 use shop_store::opening::{put_opening, put_token};
 use shop_types::Token;
@@ -94,7 +94,7 @@ pub fn create<S: Alter>(conn: &mut Connection<S>, first: &FirstRows<'_>) -> Resu
     }
     match make(conn, first) {
         Ok(()) => Ok(()),
-        Err(fault) => Err(named(fault)),
+        Err(fault) => Err(open_fault(fault)),
     }
 }
 
@@ -110,6 +110,6 @@ pub fn in_memory(alloc: Global, first: &FirstRows<'_>) -> Result<Connection<MemS
     };
     match make(&mut conn, first) {
         Ok(()) => Ok(conn),
-        Err(fault) => Err(named(fault)),
+        Err(fault) => Err(open_fault(fault)),
     }
 }

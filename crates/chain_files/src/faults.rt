@@ -44,7 +44,7 @@ impl fmt::Display for OpenFault {
 }
 
 /// Returns the fault of opening for a fault of the store.
-pub fn named(fault: StoreFault) -> OpenFault
+pub fn open_fault(fault: StoreFault) -> OpenFault
     ensures told { result ≡ open_fault_for fault }
     ensures store { is_store_fault result ≡ true }
     ensures chain { result ≢ OpenFault.NotAChain }

@@ -11,7 +11,7 @@ ghost use Rattle.shop_schema.specs.Versions.{version_of};
 ghost use Rattle.chain_requests.specs.Chains.{Rests, StaysAsFound};
 ghost use Rattle.sql_rows.specs.Files.{OpenFailed};
 
-use crate::faults::{OpenFault, named};
+use crate::faults::{OpenFault, open_fault};
 use shop_schema::{KnownVersion, version};
 use sql_rows::StoreFault;
 use sqlite::{Alter, Connection, FileStore, Files};
@@ -34,7 +34,7 @@ pub fn connect<D: Disk + Drop>(
 {
     match sql_files::connect(alloc, files) {
         Ok(conn) => Ok(conn),
-        Err((fault, left)) => Err((named(fault), left)),
+        Err((fault, left)) => Err((open_fault(fault), left)),
     }
 }
 
@@ -69,7 +69,7 @@ pub fn verdict(known: Result<KnownVersion, StoreFault>) -> Result<(), OpenFault>
         Ok(KnownVersion::This) => Ok(()),
         Ok(KnownVersion::Missing) => Err(OpenFault::NotAChain),
         Ok(KnownVersion::First) | Ok(KnownVersion::Other) => Err(OpenFault::OtherVersion),
-        Err(fault) => Err(named(fault)),
+        Err(fault) => Err(open_fault(fault)),
     }
 }
 
@@ -90,11 +90,11 @@ pub fn first_verdict(
         Ok(KnownVersion::First) => match is_first {
             Ok(true) => Ok(()),
             Ok(false) => Err(OpenFault::NotAChain),
-            Err(fault) => Err(named(fault)),
+            Err(fault) => Err(open_fault(fault)),
         },
         Ok(KnownVersion::This) => Err(OpenFault::Already),
         Ok(KnownVersion::Missing) => Err(OpenFault::NotAChain),
         Ok(KnownVersion::Other) => Err(OpenFault::OtherVersion),
-        Err(fault) => Err(named(fault)),
+        Err(fault) => Err(open_fault(fault)),
     }
 }

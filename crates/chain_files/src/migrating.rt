@@ -9,7 +9,7 @@ ghost use Rattle.chain_files.specs.Migrations.{MigratesInside, IsMigration, IsUn
 ghost use Rattle.chain_requests.specs.Chains.{StaysAsFound};
 ghost use Rattle.chain_files.specs.Files.{IsFirst, IsNeither, Knows};
 
-use crate::faults::{OpenFault, named};
+use crate::faults::{OpenFault, open_fault};
 use crate::files::first_verdict;
 use crate::versions::chain_version;
 use books_audit::audit_books;
@@ -52,7 +52,7 @@ pub fn migrate<S: Alter>(alloc: Global, conn: &mut Connection<S>) -> Result<(), 
     match migrate_inside(alloc, &mut tx) {
         Ok(true) => match tx.commit() {
             Ok(()) => Ok(()),
-            Err(error) => Err(named(fault_of(error))),
+            Err(error) => Err(open_fault(fault_of(error))),
         },
         Ok(false) => {
             tx.rollback();
@@ -60,7 +60,7 @@ pub fn migrate<S: Alter>(alloc: Global, conn: &mut Connection<S>) -> Result<(), 
         }
         Err(fault) => {
             tx.rollback();
-            Err(named(fault))
+            Err(open_fault(fault))
         }
     }
 }

@@ -7,7 +7,7 @@ ghost use Rattle.shop_model.specs.Books.{Books};
 ghost use Rattle.chain_requests.specs.Chains.{Rests, StaysAsFound, StandsSoundly};
 ghost use Rattle.chain_files.specs.Files.{Knows};
 
-use crate::faults::{OpenFault, named};
+use crate::faults::{OpenFault, open_fault};
 use crate::files::{verdict, version_in};
 use chain_requests::tables_are_sound;
 use shop_schema::{KnownVersion, has_version, is_shop};
@@ -69,6 +69,6 @@ pub fn examine<S: Alter>(alloc: Global, conn: &mut Connection<S>) -> Result<(), 
     match tables_are_sound(alloc, conn) {
         Ok(true) => Ok(()),
         Ok(false) => Err(OpenFault::Damaged),
-        Err(fault) => Err(named(fault)),
+        Err(fault) => Err(open_fault(fault)),
     }
 }

@@ -41,7 +41,8 @@ pub enters_try :
 enters_try shows mark token own_mark own_token giver act request before after old new same_mark same_token says enters =
     let marked : EntersOne mark own_token request before old after new =
     subst (λ (it : Text). EntersOne it own_token request before old after new) same_mark enters in
-    let entered : EntersOne mark token request before old after new = subst (λ (it : Text). EntersOne mark it request before old after new) same_token marked in (
+    let entered : EntersOne mark token request before old after new =
+    subst (λ (it : Text). EntersOne mark it request before old after new) same_token marked in (
       says.0,
       says.1,
       (λ journal commands at.

@@ -78,7 +78,8 @@ KeepsEntries mark old new =
     → (place : Place) × (next : Journal) × (next.entries ≡ journal.entries) × IsAt mark place new next commands
 
 -- What a word enters, whatever its outcome: tries of the act that was typed, and nothing else. For a copy that comes back they are tries of the return of the
--- register's rental, or of the sheet's, or there are none. No other word of a branch enters anything, except `again`. Of `again`, and of head office's commands, nothing is said here.
+-- register's rental, or of the sheet's, or there are none. No other word of a branch enters anything, except `again`.
+-- Of `again`, and of head office's commands, nothing is said here.
 abbrev pub EntersWord : (ℕ → Type 0) → Text → Text → Result ℕ TillFault → Text → TillAct → State → State → Type 0
 EntersWord shows mark token giver sheet (typed.Do what) old new = AddsWord shows mark token giver (seen_act what) old new
 EntersWord shows mark token giver sheet (typed.ReturnCopy copy) old new =

@@ -9,7 +9,7 @@ ghost use Rattle.till_book.specs.Steps.{Rests};
 ghost use Rattle.till_files.specs.Files.{LeavesMade, empty_journal};
 ghost use Rattle.till_files.specs.Openings.{IsBookMade, IsNotMade};
 
-use crate::faults::{BookFault, named};
+use crate::faults::{BookFault, book_fault};
 use crate::files::{close_book, connect};
 use sql_files::has_no_table;
 use sql_rows::{StoreFault, fault_of};
@@ -54,7 +54,7 @@ fn create<S: Alter>(conn: &mut Connection<S>) -> Result<(), BookFault>
     }
     match make(conn) {
         Ok(()) => Ok(()),
-        Err(fault) => Err(named(fault)),
+        Err(fault) => Err(book_fault(fault)),
     }
 }
 

@@ -21,7 +21,7 @@ pub enum BookFault {
 }
 
 /// Returns the fault of a book for a fault of the store.
-pub fn named(fault: StoreFault) -> BookFault
+pub fn book_fault(fault: StoreFault) -> BookFault
     ensures told { result ≡ book_fault_for fault }
     ensures book { result ≢ BookFault.NotABook }
     ensures already { result ≢ BookFault.Already }

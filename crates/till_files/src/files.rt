@@ -11,7 +11,7 @@ ghost use Rattle.till_book.specs.Steps.{Rests};
 ghost use Rattle.till_files.specs.Files.{KeepsBook, KeepsEither, LeavesEither};
 ghost use Rattle.sql_rows.specs.Files.{HoldsOne, OpenFailed};
 
-use crate::faults::{BookFault, named};
+use crate::faults::{BookFault, book_fault};
 use sqlite::{Connection, FileStore, Files};
 use sqlite_disk::Disk;
 use std::alloc::Global;
@@ -30,7 +30,7 @@ pub fn connect<D: Disk + Drop>(
 {
     match sql_files::connect(alloc, files) {
         Ok(conn) => Ok(conn),
-        Err((fault, left)) => Err((named(fault), left)),
+        Err((fault, left)) => Err((book_fault(fault), left)),
     }
 }
 

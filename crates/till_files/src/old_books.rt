@@ -8,7 +8,7 @@ ghost use Rattle.sql_rows.specs.Books.{no_schema};
 ghost use Rattle.till_files.specs.Migrations.{first_schema};
 ghost use Rattle.till_files.specs.Openings.{IsBookMigrated, IsNotMigrated};
 
-use crate::faults::{BookFault, named};
+use crate::faults::{BookFault, book_fault};
 use crate::files::{close_book, connect};
 use crate::migrating::fill;
 use counter_routes::Routes;
@@ -72,9 +72,9 @@ pub fn migrate_book<D: Disk + Drop>(
     match is_first(alloc, conn.schema()) {
         Ok(true) => match fill(alloc, routes, &mut conn) {
             Ok(()) => Ok(conn),
-            Err(fault) => Err((named(fault), close_book(conn))),
+            Err(fault) => Err((book_fault(fault), close_book(conn))),
         },
         Ok(false) => Err((BookFault::NotABook, close_book(conn))),
-        Err(fault) => Err((named(fault), close_book(conn))),
+        Err(fault) => Err((book_fault(fault), close_book(conn))),
     }
 }

@@ -7,7 +7,7 @@ ghost use Rattle.till_book.specs.Tables.{book_schema};
 ghost use Rattle.till_files.specs.Openings.{IsBookOpened, IsNotOpened};
 
 use crate::creation::make;
-use crate::faults::{BookFault, named};
+use crate::faults::{BookFault, book_fault};
 use crate::files::{close_book, connect};
 use shop_schema::same_schema;
 use sql_rows::StoreFault;
@@ -46,6 +46,6 @@ pub fn open_book<D: Disk + Drop>(
     match is_book(alloc, conn.schema()) {
         Ok(true) => Ok(conn),
         Ok(false) => Err((BookFault::NotABook, close_book(conn))),
-        Err(fault) => Err((named(fault), close_book(conn))),
+        Err(fault) => Err((book_fault(fault), close_book(conn))),
     }
 }

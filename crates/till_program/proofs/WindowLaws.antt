@@ -15,7 +15,7 @@ use Rattle.till_work.specs.Entering.{IsTillsBook}
 use Rattle.till_work.proofs.GoingOn.{extends_then, extends_same, more_then}
 use Rattle.till_words.specs.declared.words.TillAct.{TillAct}
 use Rattle.till_words.specs.declared.words.TillAct.TheVariants as typed
-use Rattle.till_program.specs.declared.fault.TillFault.{TillFault}
+use Rattle.till_cashier.specs.declared.fault.TillFault.{TillFault}
 use Rattle.till_cashier.specs.Doing.{DoesWord, GivesWord}
 use Rattle.till_cashier.specs.Returns.{IsReturned}
 use Rattle.till_cashier.specs.Word.{KeepsATillsBook, IsBehind}

@@ -15,7 +15,7 @@ use Rattle.till_book.specs.declared.rents.HeldRental.{HeldRental}
 use Rattle.till_work.specs.Entering.{IsTillsBook}
 use Rattle.till_words.specs.declared.words.TillAct.{TillAct}
 use Rattle.till_words.specs.declared.words.TillAct.TheVariants as typed
-use Rattle.till_program.specs.declared.fault.TillFault.{TillFault}
+use Rattle.till_cashier.specs.declared.fault.TillFault.{TillFault}
 use Rattle.till_cashier.specs.Doing.{DoesWord}
 use Rattle.till_cashier.specs.Giving.{AreTries, IsBack}
 use Rattle.till_cashier.specs.Returns.{IsReturned}
@@ -75,8 +75,8 @@ abbrev pub IsIn : (ℕ → Type 0) → Text → Text → Result ℕ TillFault �
 IsIn shows mark token giver act said s =
     (answer : Answer) × (staff : ℕ) × (giver ≡ Ok staff) × IsGivenIn shows mark token staff act answer said s
 
--- Whatever words the windows had done, in whatever order: a till's book is one still. What was entered, recorded and settled is a front part of it. The commands
--- are one sequence, with the earlier ones in front. So the laws of a till's book hold of it.
+-- Whatever words the windows had done, in whatever order: a till's book is one still. What was entered, recorded and settled is a front part of it.
+-- The commands are one sequence, with the earlier ones in front. So the laws of a till's book hold of it.
 abbrev pub WindowsShareABook : {S : Type 0} → Ghosts S → (List ℕ → Answer → Type 0) → (ℕ → Type 0) → Type 0
 WindowsShareABook {S} g Tells shows =
     (mark token : Text) (s : Held S) (words : List (Done S))

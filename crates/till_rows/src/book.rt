@@ -4,7 +4,7 @@ use crate::fault::Fault;
 use crate::kit::Kit;
 use crate::line::Counter;
 use crate::texts::Texts;
-use crate::word::type_at;
+use crate::word::{Input, Typist, type_at};
 use crate::world::World;
 use sqlite::{Alter, Connection, FileStore, Files};
 use std::alloc::{AllocError, Global};
@@ -185,17 +185,17 @@ impl<D: InMemory> Book<D> {
         }
     }
 
-    /// Types the line at the open book. Returns false if the book's disk has failed.
+    /// Types the words at the open book. Returns false if the book's disk has failed.
     fn does<C: Counter>(
         &mut self,
         world: &World,
         kit: &Kit<C>,
-        line: &str,
+        input: Input<'_>,
         told: &mut Texts,
     ) -> Result<bool, Fault> {
         let alloc = self.alloc;
         match &mut self.conn {
-            Some(conn) => type_at(alloc, world, kit, conn, line, told),
+            Some(conn) => type_at(alloc, world, kit, conn, input, told),
             None => Err(NO_BOOK),
         }
     }
@@ -212,15 +212,15 @@ impl<D: InMemory> Book<D> {
         Ok(())
     }
 
-    /// Types the line. Returns whether the book's disk still works after it.
+    /// Types the words. Returns whether the book's disk still works after them.
     fn tries<C: Counter>(
         &mut self,
         world: &World,
         kit: &Kit<C>,
-        line: &str,
+        input: Input<'_>,
         told: &mut Texts,
     ) -> Result<bool, Fault> {
-        let is_heard = self.does(world, kit, line, told)?;
+        let is_heard = self.does(world, kit, input, told)?;
         match self.count() {
             Some(rows) if is_heard => {
                 self.rows = rows;
@@ -230,37 +230,41 @@ impl<D: InMemory> Book<D> {
         }
     }
 
-    /// Opens the book anew after its disk failed at the line. If the book has no new row, types the line again. If it
-    /// has one, types `send`, and the outcome of the line isn't heard. Returns whether the outcome was heard.
+    /// Opens the book anew after its disk failed at the words. If the book has no new row, types them again. If it has
+    /// one, types `send`, and the outcome of the words isn't heard. Returns whether the outcome was heard.
     fn tries_again<C: Counter>(
         &mut self,
         world: &World,
         kit: &Kit<C>,
-        line: &str,
+        input: Input<'_>,
         told: &mut Texts,
     ) -> Result<bool, Fault> {
         let before = self.rows;
         self.restart()?;
         if self.count() == Some(before) {
-            return self.tries(world, kit, line, told);
+            return self.tries(world, kit, input, told);
         }
-        match self.tries(world, kit, "send", told) {
+        let send = Input {
+            typist: Typist::Till,
+            words: "send",
+        };
+        match self.tries(world, kit, send, told) {
             Ok(_) => Ok(false),
             Err(fault) => Err(fault),
         }
     }
 
-    /// Types the line, also if the book's disk fails, and puts what is printed into `told`. Returns whether the outcome
+    /// Types the words, also if the book's disk fails, and puts what is printed into `told`. Returns whether the outcome
     /// was heard.
     pub fn types<C: Counter>(
         &mut self,
         world: &World,
         kit: &Kit<C>,
-        line: &str,
+        input: Input<'_>,
         told: &mut Texts,
     ) -> Result<bool, Fault> {
-        match self.tries(world, kit, line, told) {
-            Ok(false) => self.tries_again(world, kit, line, told),
+        match self.tries(world, kit, input, told) {
+            Ok(false) => self.tries_again(world, kit, input, told),
             heard => heard,
         }
     }

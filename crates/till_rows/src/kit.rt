@@ -4,19 +4,24 @@ use crate::fault::Fault;
 use crate::line::{Counter, Cut, Wire};
 use crate::shelf::{Board, Hands};
 use crate::texts::Texts;
+use crate::zones::NO_ZONE;
 use shop_types::Moment;
 use std::alloc::Global;
-use std::cell::RefCell;
+use std::cell::{Cell, RefCell};
 use std::marker::Model;
 use till_client::{ReplyReading, read_reply};
-use till_cashier::Shelf;
+use till_cashier::{Line, Shelf};
 
 const IN_USE: Fault = Fault::Line("the line is in use");
 
-/// A clock, a shelf, and the line to the server.
+/// A clock, a shelf, the line to the server, and what is known of that line.
 #[derive(Drop)]
 pub struct Kit<C: Counter> {
     clock: Hands,
+    /// The number of the till's zone.
+    zone: Cell<usize>,
+    /// What the last words showed of the line, by which a desk's windows go.
+    line: Cell<Line>,
     shelf: Board,
     wire: RefCell<Wire<C>>,
 }
@@ -60,6 +65,8 @@ impl<C: Counter> Kit<C> {
     pub fn new(alloc: Global, counter: C, repeats: bool) -> Kit<C> {
         Kit {
             clock: Hands::new(),
+            zone: Cell::new(NO_ZONE),
+            line: Cell::new(Line::Open),
             shelf: Board::new(alloc),
             wire: RefCell::new(Wire::new(alloc, counter, repeats)),
         }
@@ -67,6 +74,26 @@ impl<C: Counter> Kit<C> {
 
     pub fn clock(&self) -> &Hands {
         &self.clock
+    }
+
+    /// Returns the number of the till's zone.
+    pub fn zone(&self) -> usize {
+        self.zone.get()
+    }
+
+    /// Sets the till's zone by its number.
+    pub fn sets_zone(&self, number: usize) {
+        self.zone.set(number);
+    }
+
+    /// Returns what is known of the line.
+    pub fn line(&self) -> Line {
+        self.line.get()
+    }
+
+    /// Notes what a word showed of the line.
+    pub fn notes(&self, line: Line) {
+        self.line.set(line);
     }
 
     pub fn shelf(&self) -> &Board {

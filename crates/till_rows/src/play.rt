@@ -7,6 +7,7 @@ use crate::fault::Fault;
 use crate::kit::Kit;
 use crate::line::{Counter, Cut};
 use crate::texts::{Texts, settle, settle_sure};
+use crate::word::{Input, Typist, window_of};
 use crate::world::World;
 use std::alloc::Global;
 use std::mem;
@@ -105,11 +106,11 @@ impl<'x, D: InMemory, C: Counter> Play<'x, D, C> {
     }
 
     /// Types words.
-    fn types(&mut self, words: &str) -> Result<(), Fault> {
+    fn types(&mut self, input: Input<'_>) -> Result<(), Fault> {
         let before = self.kit.begins(self.cut)?;
         self.is_heard = self
             .book
-            .types(self.world, self.kit, words, &mut self.told)?;
+            .types(self.world, self.kit, input, &mut self.told)?;
         self.kit.repeats(before);
         Ok(())
     }
@@ -135,22 +136,34 @@ impl<'x, D: InMemory, C: Counter> Play<'x, D, C> {
         }
     }
 
+    /// Types words at a window of the desk, which says who stands there and the wanted status.
+    fn types_at(&mut self, window: &str, words: &str) -> Result<(), Fault> {
+        let (staff, status) = window.split_once(' ').unwrap_or((window, ""));
+        self.begins(status)?;
+        let typist = window_of(staff)?;
+        self.types(Input { typist, words })
+    }
+
     /// Plays a line that begins a word or a request.
-    fn speaks(&mut self, status: &str, words: &str) -> Result<(), Fault> {
-        match status.strip_prefix("till") {
+    fn speaks(&mut self, who: &str, words: &str) -> Result<(), Fault> {
+        if let Some(window) = who.strip_prefix("window ") {
+            return self.types_at(window, words);
+        }
+        match who.strip_prefix("till") {
             Some(status) => {
                 self.begins(status.trim_start())?;
-                self.types(words)
+                let typist = Typist::Till;
+                self.types(Input { typist, words })
             }
             None => {
-                self.begins(status)?;
+                self.begins(who)?;
                 self.asks(words)
             }
         }
     }
 
-    /// Plays the next line: `till> WORDS` or `till STATUS> WORDS`, `STATUS> WHO METHOD PATH BODY`, `: at MOMENT`,
-    /// `: sheet ROW`, `: WHAT`, or one more line of the wanted text.
+    /// Plays the next line: `till> WORDS` or `till STATUS> WORDS`, `window STAFF> WORDS` or `window STAFF STATUS> WORDS`,
+    /// `STATUS> WHO METHOD PATH BODY`, `: at MOMENT`, `: sheet ROW`, `: WHAT`, or one more line of the wanted text.
     pub fn plays(&mut self, line: &str) -> Result<(), Fault> {
         self.line = self.line.saturating_add(1);
         if line.is_empty() || line.starts_with("#") {
@@ -161,7 +174,7 @@ impl<'x, D: InMemory, C: Counter> Play<'x, D, C> {
             return self.happens(what);
         }
         match line.split_once("> ") {
-            Some((status, words)) => self.speaks(status, words),
+            Some((who, words)) => self.speaks(who, words),
             None => Ok(self.wanted.line(line)?),
         }
     }

@@ -244,11 +244,11 @@ fn play_files(rt: &HostRuntime, world: &World, paths: &[String]) -> bool {
 }
 
 /// Plays the files in this order, the first one disturbed too, and prints the outcome of each row. The days import
-/// `stock.csv` from the folder of the first file. Returns true if every row agrees, except that a file whose name
-/// begins with `wrong` has to disagree.
+/// `stock.csv` from the folder of the first file. Returns true if there is a file and every row agrees, except that a
+/// file whose name begins with `wrong` has to disagree.
 pub fn play_days(rt: &HostRuntime, paths: &[String]) -> bool {
     let Some(first) = paths.first() else {
-        return true;
+        return false;
     };
     match beginning(rt, first.as_str()) {
         Ok(world) => {

@@ -8,11 +8,12 @@ use crate::line::{Counter, Line};
 use crate::shelf::{Board, Hands};
 use crate::texts::Texts;
 use crate::world::World;
-use jiff_tz::TimeZone;
 use shop_types::{Act, LotName, StaffNo, StockFile};
 use sqlite::{Alter, Connection};
 use std::alloc::Global;
-use till_cashier::{Desk, Quiet, Said, TillFault, do_word, make_sure, read_sheet, said_day};
+use till_cashier::{
+    Desk, Quiet, Said, TillFault, accept_zone, do_word, make_sure, read_sheet, said_day, zone_said,
+};
 use till_words::{TillAct, TillLine, read_till_words, split_line};
 
 /// Returns the import of the stock file as a lot of that name.
@@ -42,45 +43,106 @@ fn words_in(alloc: Global, line: &str) -> Result<Vec<String>, Fault> {
     }
 }
 
-/// What is typed, and who types it, if that isn't the member of staff whose till it is. And whether what can't be undone
-/// is to be done.
-#[derive(Drop)]
-struct TypedLine {
-    act: TillAct,
-    staff: Option<StaffNo>,
-    is_sure: bool,
-}
-
-/// Reads what the words ask for, with the stock file instead of its name.
-fn typed(alloc: Global, stock: &[u8], line: &str) -> Result<TypedLine, Fault> {
+/// Reads what the words ask for.
+fn read(alloc: Global, line: &str) -> Result<TillLine, Fault> {
     let words = words_in(alloc, line)?;
     let read = read_till_words(alloc, words.as_slice());
     drop(words);
     match read {
-        Ok(
-            TillLine {
-                book,
-                staff,
-                act,
-                is_sure,
-                ..
-            },
-        ) => {
-            drop(book);
-            match with_stock(alloc, act, stock) {
-                Ok(act) => Ok(TypedLine {
-                    act,
-                    staff,
-                    is_sure,
-                }),
-                Err(fault) => Err(fault),
-            }
-        }
+        Ok(line) => Ok(line),
         Err(usage) => {
             drop(usage);
             Err(Fault::Line("these are no words of a till"))
         }
     }
+}
+
+/// Who types words, and where.
+#[derive(Clone, Copy)]
+pub enum Typist {
+    /// The member of staff whose till it is, at the book. Each word tries the line to the server.
+    Till,
+    /// A member of staff at a window of the desk that holds the book. While the line is known to be down, no word but
+    /// `send` tries it.
+    Window(StaffNo),
+}
+
+/// Words as they are typed, and who types them.
+#[derive(Clone, Copy)]
+pub struct Input<'w> {
+    pub typist: Typist,
+    pub words: &'w str,
+}
+
+/// Returns the window of the member of staff with that number.
+pub fn window_of(number: &str) -> Result<Typist, Fault> {
+    match StaffNo::read(number.as_bytes()) {
+        Some(staff) => Ok(Typist::Window(staff)),
+        None => Err(Fault::Line("a member of staff is wanted")),
+    }
+}
+
+/// A word as it is done.
+#[derive(Drop)]
+struct Typed {
+    act: TillAct,
+    /// Who gives it, if that isn't the member of staff whose till it is.
+    staff: Option<StaffNo>,
+    /// Whether what can't be undone is to be done.
+    is_sure: bool,
+    /// What is known of the line to the server.
+    line: till_cashier::Line,
+    /// The number of the till's zone.
+    zone: usize,
+}
+
+/// Returns the number of the zone in which a word is done: the one that the word sets, or else the till's.
+fn zone_in<C: Counter>(world: &World, kit: &Kit<C>, act: &TillAct) -> Result<usize, Fault> {
+    if let TillAct::Zone(name) = act {
+        return world.zones().number_of(name.as_str());
+    }
+    Ok(kit.zone())
+}
+
+/// Returns what the words ask for, with the stock file instead of its name.
+fn typed<C: Counter>(
+    alloc: Global,
+    world: &World,
+    kit: &Kit<C>,
+    input: Input<'_>,
+) -> Result<Typed, Fault> {
+    let TillLine {
+        book,
+        staff,
+        act,
+        is_sure,
+        ..
+    } = read(alloc, input.words)?;
+    drop(book);
+    let (own, line) = match input.typist {
+        Typist::Till => (None, till_cashier::Line::Open),
+        Typist::Window(staff) => (Some(staff), kit.line()),
+    };
+    let zone = zone_in(world, kit, &act)?;
+    let act = with_stock(alloc, act, world.stock())?;
+    Ok(Typed {
+        act,
+        staff: staff.or(own),
+        is_sure,
+        line,
+        zone,
+    })
+}
+
+/// Sets the zone of the desk's settings for the book.
+fn set_zone<S: Alter, C: Counter>(
+    desk: &Desk<'_, Hands, Line<'_, C>, Board>,
+    conn: &mut Connection<S>,
+) -> Result<Said, TillFault>
+    requires { conn.old.in_transaction ≡ false }
+{
+    accept_zone(desk, conn)?;
+    zone_said(desk.alloc, desk.settings)
 }
 
 /// Does a word at an open book, and then settles refused entries with `make_sure`, as the program does.
@@ -91,6 +153,9 @@ fn done<S: Alter, C: Counter>(
 ) -> Result<Said, TillFault>
     requires { conn.old.in_transaction ≡ false }
 {
+    if matches!(act, TillAct::Zone(_)) {
+        return set_zone(desk, conn);
+    }
     let mut said = do_word(desk, conn, act, &mut Quiet)?;
     if said.status == 0 {
         if let Err(TillFault::Book) = make_sure(desk, conn, &mut said) {
@@ -98,6 +163,15 @@ fn done<S: Alter, C: Counter>(
         }
     }
     Ok(said)
+}
+
+/// Notes what a word showed of the line to the server, as the program does.
+fn note<C: Counter>(kit: &Kit<C>, is_send: bool, said: &Result<Said, TillFault>) {
+    match said {
+        Ok(_) if is_send => kit.notes(till_cashier::Line::Open),
+        Err(fault) if fault.is_unanswered() => kit.notes(till_cashier::Line::Down),
+        Ok(_) | Err(_) => {}
+    }
 }
 
 /// Puts the fault of a word into `told`, as it is printed.
@@ -119,8 +193,8 @@ fn tell(alloc: Global, said: Result<Said, TillFault>, told: &mut Texts) -> Resul
     }
 }
 
-/// Does what is typed at a desk without a zone, and puts what is printed into `told`. Returns false if the book's disk has
-/// failed.
+/// Does a word at a desk in its zone, and puts what is printed into `told`. A zone that is accepted is the till's from
+/// then on. Returns false if the book's disk has failed.
 fn at_desk<'d, 'x, S: Alter, C: Counter>(
     alloc: Global,
     world: &'d World,
@@ -128,50 +202,56 @@ fn at_desk<'d, 'x, S: Alter, C: Counter>(
     server: &'d Line<'x, C>,
     sheet: &'d [u8],
     conn: &mut Connection<S>,
-    typed: TypedLine,
+    typed: Typed,
     told: &mut Texts,
 ) -> Result<bool, Fault>
     requires { conn.old.in_transaction ≡ false }
 {
-    let TypedLine {
+    let Typed {
         act,
         staff,
         is_sure,
+        line,
+        zone,
     } = typed;
+    let till = world.zones().at(zone)?;
     let desk = Desk {
         alloc,
         clock: kit.clock(),
         server,
         shelf: kit.shelf(),
         routes: world.routes(),
-        settings: world.settings(),
+        settings: till.settings(),
         sheet,
-        wall: TimeZone::UTC,
-        line: till_cashier::Line::Open,
+        wall: till.wall(),
+        line,
         staff,
         is_json: false,
         is_sure,
         said_day: said_day(alloc, kit.shelf()),
     };
-    tell(alloc, done(&desk, conn, act), told)
+    let is_send = matches!(act, TillAct::Send);
+    let said = done(&desk, conn, act);
+    note(kit, is_send, &said);
+    if said.is_ok() {
+        kit.sets_zone(zone);
+    }
+    tell(alloc, said, told)
 }
 
-/// Types the line at a till's book, and puts what is printed into `told`. Returns false if the book's disk has failed.
+/// Types words at a till's book, and puts what is printed into `told`. Returns false if the book's disk has failed.
 pub fn type_at<'x, S: Alter, C: Counter>(
     alloc: Global,
     world: &'x World,
     kit: &'x Kit<C>,
     conn: &mut Connection<S>,
-    line: &str,
+    input: Input<'_>,
     told: &mut Texts,
 ) -> Result<bool, Fault> {
     if !conn.is_autocommit() {
         return Err(NO_BOOK);
     }
-    let typed = match typed(alloc, world.stock(), line) {
-        Ok(it) => it,
-        Err(fault) => return Err(fault),
-    };
+    let typed = typed(alloc, world, kit, input)?;
     let server = Line { wire: kit.wire() };
     let sheet = read_sheet(alloc, kit.shelf());
     at_desk(

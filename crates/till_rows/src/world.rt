@@ -3,20 +3,16 @@ use crate::book::new_book;
 use crate::disks::{Image, Ram};
 use crate::fault::Fault;
 use crate::shop::new_chain;
+use crate::zones::Zones;
 use counter_routes::Routes;
 use std::alloc::Global;
 use std::marker::Model;
-use till_requests::{Settings, read_settings};
-
-/// The till's settings: the till is branch 1's, and IDA LUND works at it.
-const SETTINGS: &[u8] =
-    b"address row:1\ntoken 11111111111111111111111111111111\nstaff 1\nmark tabcdefghij\n";
 
 /// A till that was never used, and a chain with the opening rows.
 #[derive(Drop)]
 pub struct World {
     routes: Routes,
-    settings: Settings,
+    zones: Zones,
     stock: Vec<u8>,
     book: Image,
     chain: Image,
@@ -31,24 +27,16 @@ impl Model for World {
     ghost view = { λ _. tt };
 }
 
-/// Returns the till's settings.
-fn own_settings(alloc: Global) -> Result<Settings, Fault> {
-    match read_settings(alloc, SETTINGS) {
-        Ok(settings) => Ok(settings),
-        Err(_) => Err(Fault::Line("no settings are read")),
-    }
-}
-
 impl World {
     /// Makes what all days begin with. The stock file is imported whatever name is typed.
     pub fn new(alloc: Global, stock: Vec<u8>) -> Result<World, Fault> {
         let book = new_book::<Ram>(alloc)?;
         let chain = new_chain::<Ram>(alloc)?;
-        let settings = own_settings(alloc)?;
+        let zones = Zones::new(alloc)?;
         match Routes::new(alloc) {
             Ok(routes) => Ok(World {
                 routes,
-                settings,
+                zones,
                 stock,
                 book,
                 chain,
@@ -62,8 +50,9 @@ impl World {
         &self.routes
     }
 
-    pub fn settings(&self) -> &Settings {
-        &self.settings
+    /// Returns the till in each of its zones.
+    pub fn zones(&self) -> &Zones {
+        &self.zones
     }
 
     /// Returns the stock file that is imported.

@@ -1,4 +1,4 @@
-//! Plays files of rows: each request and the bytes of its reply, and a till's days.
+//! Plays files of rows: each request and the bytes of its reply.
 #![tactic(auto)]
 
 mod calls;
@@ -14,33 +14,13 @@ use row_player::play_all;
 use sqlite_disk::{Fuse, Memory};
 use std::process::ExitCode;
 use std::{env, io};
-use till_rows::play_days;
 
-/// Plays the files of exchanges.
-fn play_talks(rt: &HostRuntime, paths: &[String]) -> ExitCode {
-    let counter: Counter<Fuse<Memory>> = Counter::new(rt.alloc());
-    play_all(rt, counter, paths)
-}
-
-/// Plays all files. Plays a till's days last: their names end in `.till`.
+/// Plays the files that the arguments name.
 fn main(rt: HostRuntime) -> io::Result<ExitCode> {
-    let mut talks = Vec::new(rt.alloc());
-    let mut days = Vec::new(rt.alloc());
+    let mut paths = Vec::new(rt.alloc());
     for path in env::args(&rt)?.skip(1) {
-        if path.as_str().ends_with(".till") {
-            days.push(path)?;
-        } else {
-            talks.push(path)?;
-        }
+        paths.push(path)?;
     }
-    let talked = if talks.is_empty() && !days.is_empty() {
-        ExitCode::SUCCESS
-    } else {
-        play_talks(&rt, talks.as_slice())
-    };
-    if play_days(&rt, days.as_slice()) {
-        Ok(talked)
-    } else {
-        Ok(ExitCode::FAILURE)
-    }
+    let counter: Counter<Fuse<Memory>> = Counter::new(rt.alloc());
+    Ok(play_all(&rt, counter, paths.as_slice()))
 }

@@ -1,7 +1,7 @@
 use Rattle.shop_schema.proofs.Common.{◌≡◌, ◌∙◌, ◌++◌, ◌∷◌, [], ap, map, List, take_all, and_then, done, some_calls, within_none}
 use Rattle.stock_csv.specs.declared.StockRow.{StockRow}
 use Rattle.branch_core.specs.declared.found.StockFound.{StockFound}
-use Rattle.branch_finds.specs.Commands.{as_listed, found_row, told_row}
+use Rattle.branch_finds.specs.Commands.{as_listed, found_row, stock_found}
 use Rattle.branch_finds.proofs.Stocks.{row_found, row_listed}
 use Rattle.branch_finds.proofs.commands.find_films.Goals as goal
 
@@ -18,8 +18,8 @@ loop-row-preserved g c =
     let before = c.loop-row.found.items in
     let row = c.row-item.result in
     let withdrawn = c.in_ok-withdrawn.withdrawn in
-    let pushed : c.push.new.self.items ≡ before ++ told_row row withdrawn ∷ [] =
-    c.in_ok-push.ensures.items ∙ ap (λ (r : StockFound). before ++ r ∷ []) c.told_row.ensures in (
+    let pushed : c.push.new.self.items ≡ before ++ stock_found row withdrawn ∷ [] =
+    c.in_ok-push.ensures.items ∙ ap (λ (r : StockFound). before ++ r ∷ []) c.stock_found.ensures in (
       done (and_then (some_calls c.loop-row.invariant.0) (some_calls c.in_ok-withdrawn.ensures)) (λ said books holds held.
           let first = said.0 books holds held in
           let next = said.1 books first.0 held in (

@@ -27,7 +27,7 @@ returns-in_default g c = does_such c.find_named.ensures (λ found old new reads 
       λ known.
           let rows = it.1 known in (
             singles_agree c.args.command.now.act c.in_default.not-Rent c.in_default.not-Import c.in_default.not-Dispatch
-                c.in_default.not-Receive c.args.branch c.args.command.now.at found books (rw c.named.ensures at rows.0),
+                c.in_default.not-Receive c.args.branch c.args.command.now.at found books (rw c.named_rows.ensures at rows.0),
             rows.1,
           ),
     ))

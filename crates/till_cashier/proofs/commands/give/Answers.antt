@@ -46,7 +46,8 @@ tries-preserved g c = (
   (λ clean. adds_then (local_clock (g.K.WallClock.shows c.args.desk.now.clock.now) c.args.desk.now.settings.now.zone) c.args.desk.now.settings.now.mark
       c.args.desk.now.settings.now.token (giver_of c.args.desk.now.settings.now.staff c.args.desk.now.staff) (seen_act c.args.act.now)
       c.args.book.now.place c.tries.book.place c.give_once.new.book.place (state g.S.Store c.args.conn.now)
-      (state g.S.Store c.tries.conn) (state g.S.Store c.give_once.new.conn) (c.tries.invariant.4 (c.give_once.ensures.clean clean)) (c.in-Ok.ensures.adds clean (kept_ok _))),
+      (state g.S.Store c.tries.conn) (state g.S.Store c.give_once.new.conn) (c.tries.invariant.4 (c.give_once.ensures.clean clean))
+      (c.in-Ok.ensures.adds clean (kept_ok _))),
 )
 
 pub returns-clause-given : goal.returns-clause-given
@@ -76,14 +77,16 @@ returns-in-Err-clause-adds g c clean kept =
     adds_then (local_clock (g.K.WallClock.shows c.args.desk.now.clock.now) c.args.desk.now.settings.now.zone) c.args.desk.now.settings.now.mark
     c.args.desk.now.settings.now.token (giver_of c.args.desk.now.settings.now.staff c.args.desk.now.staff) (seen_act c.args.act.now)
     c.args.book.now.place c.tries.book.place c.give_once.new.book.place (state g.S.Store c.args.conn.now)
-    (state g.S.Store c.tries.conn) (state g.S.Store c.give_once.new.conn) (c.tries.invariant.4 (c.give_once.ensures.clean clean)) (c.in-Err.ensures.adds clean kept)
+    (state g.S.Store c.tries.conn) (state g.S.Store c.give_once.new.conn) (c.tries.invariant.4 (c.give_once.ensures.clean clean))
+    (c.in-Err.ensures.adds clean kept)
 
 pub returns-then-not-is_back-clause-adds : goal.returns-then-not-is_back-clause-adds
 returns-then-not-is_back-clause-adds g c clean kept =
     adds_then (local_clock (g.K.WallClock.shows c.args.desk.now.clock.now) c.args.desk.now.settings.now.zone) c.args.desk.now.settings.now.mark
     c.args.desk.now.settings.now.token (giver_of c.args.desk.now.settings.now.staff c.args.desk.now.staff) (seen_act c.args.act.now)
     c.args.book.now.place c.tries.book.place c.give_once.new.book.place (state g.S.Store c.args.conn.now)
-    (state g.S.Store c.tries.conn) (state g.S.Store c.give_once.new.conn) (c.tries.invariant.4 (c.give_once.ensures.clean clean)) (c.in-Ok.ensures.adds clean (kept_ok _))
+    (state g.S.Store c.tries.conn) (state g.S.Store c.give_once.new.conn) (c.tries.invariant.4 (c.give_once.ensures.clean clean))
+    (c.in-Ok.ensures.adds clean (kept_ok _))
 
 pub returns-clause-adds : goal.returns-clause-adds
 returns-clause-adds g c clean kept = c.tries.invariant.4 clean

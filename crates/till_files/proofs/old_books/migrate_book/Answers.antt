@@ -45,7 +45,7 @@ returns-in-Err-fill-clause-refused g c =
     let before =
     λ (clean : HasCleanDisk (file_state c.fill.new.conn)). let r : HasCleanDisk (file_state conn) = omega (arith, clean, c.fill.ensures.crash.clean) in r in
     record {
-      no_book = λ honest is. absurd (c.named.ensures.book is);
+      no_book = λ honest is. absurd (c.book_fault.ensures.book is);
       kept = λ honest.
           let clean = back.ensures.clean honest in
           let k = before clean in
@@ -54,7 +54,7 @@ returns-in-Err-fill-clause-refused g c =
             shows_what_is_found conn files (opened k) (found k),
             first_or_filled conn files (opened k) (found k) stays schema c.fill.new.conn back.result c.fill.ensures.crash clean (back.ensures.left honest),
           );
-      already = c.named.ensures.already;
+      already = c.book_fault.ensures.already;
     }
 
 pub returns-in-Ok-false-clause-refused : goal.returns-in-Ok-false-clause-refused
@@ -90,7 +90,7 @@ returns-in-Err-clause-refused g c =
     let found = c.in_ok-conn.ensures.found in
     let back = c.close_book-in-Err in
     record {
-      no_book = λ honest is. absurd (c.named-in-Err.ensures.book is);
+      no_book = λ honest is. absurd (c.book_fault-in-Err.ensures.book is);
       kept = λ honest.
           let clean = back.ensures.clean honest in
           inr (
@@ -98,5 +98,5 @@ returns-in-Err-clause-refused g c =
             shows_what_is_found conn files (opened clean) (found clean),
             left_alone conn files (opened clean) (found clean) g.met.D.Disk.seen_may_stay back.result (back.ensures.left honest),
           );
-      already = c.named-in-Err.ensures.already;
+      already = c.book_fault-in-Err.ensures.already;
     }

@@ -58,7 +58,7 @@ returns-in-Err-clause-refused g c =
     let found = c.in_ok-conn.ensures.found in
     let back = c.close_book-in-Err in
     record {
-      no_book = λ honest is. absurd (c.named.ensures.book is);
+      no_book = λ honest is. absurd (c.book_fault.ensures.book is);
       kept = λ honest.
           let clean = back.ensures.clean honest in
           inr (
@@ -66,5 +66,5 @@ returns-in-Err-clause-refused g c =
             shows_what_is_found conn c.args.files (opened clean) (found clean),
             closed_as_found conn c.args.files (opened clean) (found clean) g.met.D.Disk.seen_may_stay back.result (back.ensures.left honest),
           );
-      already = c.named.ensures.already;
+      already = c.book_fault.ensures.already;
     }
