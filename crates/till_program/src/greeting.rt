@@ -73,10 +73,10 @@ fn greeting_line(
 }
 
 /// Returns who stands at the till of that book, and where. The server isn't waited for long.
-fn attendant_at(
-    rt: &HostRuntime,
-    book: &str,
-    settings: &Settings,
+fn attendant_at<'x>(
+    rt: &'x HostRuntime,
+    book: &'x str,
+    settings: &'x Settings,
     staff: StaffNo,
     line: Line,
 ) -> Result<Attendant, TillFault> {
@@ -120,12 +120,13 @@ pub(crate) fn greeting(
 ) -> Result<String, TillFault> {
     let alloc = rt.alloc();
     let settings = settings_of(rt, book)?;
+    let own = settings.staff;
     let now = moment_words(alloc, now_on_wall(rt, &settings.zone)?)?;
     let zone = match &settings.zone {
         Some(zone) => zone.name.as_str(),
         None => "UTC",
     };
-    let Some(own) = settings.staff else {
+    let Some(own) = own else {
         return Ok(format!(in alloc; "head office's book, {now} ({zone})")?);
     };
     let who = attendant_at(rt, book, &settings, named.unwrap_or(own), line)?;
