@@ -4,20 +4,20 @@ ghost use Rattle.std.specs.Prelude.{◌≡◌, IfOk, option_map, string_bytes};
 ghost use Rattle.till_program.specs.Greeting.{called_text, place_text, greeting_text};
 
 use crate::files::FileShelf;
-use crate::init::settings_of;
+use crate::opening::{Tools, tools_of};
 use crate::tcp::Tcp;
 use crate::way::Patience;
-use crate::zones::{rules_for, wall_zone};
-use counter_routes::Routes;
+use crate::zones::wall_zone;
 use shop_types::{BranchNo, Moment, StaffNo};
 use std::alloc::{AllocError, Global};
 use std::time::Clock;
 use till_cashier::{Attendant, Desk, Line, TillFault, find_attendant, on_wall, read_sheet};
-use till_requests::{Settings, Zone, moment_at, zone_offset, zone_second};
+use till_requests::{moment_at, zone_offset, zone_second};
 use till_shows::moment_words;
 
 /// Returns the moment of the clock on the wall.
-fn now_on_wall(rt: &HostRuntime, zone: &Option<Zone>) -> Result<Moment, TillFault> {
+fn now_on_wall(rt: &HostRuntime, tools: &Tools) -> Result<Moment, TillFault> {
+    let zone = &tools.settings.zone;
     let seconds = rt.since_1970()?.as_secs();
     let Some(second) = zone_second(zone, seconds) else {
         return Err(TillFault::System);
@@ -25,8 +25,7 @@ fn now_on_wall(rt: &HostRuntime, zone: &Option<Zone>) -> Result<Moment, TillFaul
     let Some(now) = moment_at(second) else {
         return Err(TillFault::System);
     };
-    let rules = rules_for(rt, zone)?;
-    Ok(on_wall(wall_zone(&rules, zone), zone_offset(zone), now))
+    Ok(on_wall(wall_zone(&tools.rules, zone), zone_offset(zone), now))
 }
 
 /// Returns who stands there: `IDA LUND (staff 1)`, or `staff 1` if the name isn't known.
@@ -73,21 +72,17 @@ fn greeting_line(
 }
 
 /// Returns who stands at the till of that book, and where. The server isn't waited for long.
-fn attendant_at<'x>(
+fn attendant_with<'x>(
     rt: &'x HostRuntime,
     book: &'x str,
-    settings: &'x Settings,
+    tools: &'x Tools,
     staff: StaffNo,
     line: Line,
-) -> Result<Attendant, TillFault> {
+) -> Attendant {
     let alloc = rt.alloc();
-    let Ok(routes) = Routes::new(alloc) else {
-        return Err(TillFault::Memory);
-    };
-    let rules = rules_for(rt, &settings.zone)?;
     let server = Tcp {
         rt,
-        address: settings.address.as_str(),
+        address: tools.settings.address.as_str(),
         patience: Patience::Brief,
     };
     let shelf = FileShelf { rt, book };
@@ -97,17 +92,17 @@ fn attendant_at<'x>(
         clock: rt,
         server: &server,
         shelf: &shelf,
-        routes: &routes,
-        settings,
+        routes: &tools.routes,
+        settings: &tools.settings,
         sheet: sheet.as_slice(),
-        wall: wall_zone(&rules, &settings.zone),
+        wall: wall_zone(&tools.rules, &tools.settings.zone),
         line,
         staff: Some(staff),
         is_json: false,
         is_sure: false,
         said_day: None,
     };
-    Ok(find_attendant(&desk, staff))
+    find_attendant(&desk, staff)
 }
 
 /// Returns the prompt's first line: who is at the till, by name if the branch's sheet or the server's list of staff has the
@@ -119,16 +114,16 @@ pub(crate) fn greeting(
     line: Line,
 ) -> Result<String, TillFault> {
     let alloc = rt.alloc();
-    let settings = settings_of(rt, book)?;
-    let own = settings.staff;
-    let now = moment_words(alloc, now_on_wall(rt, &settings.zone)?)?;
-    let zone = match &settings.zone {
+    let tools = tools_of(rt, book)?;
+    let own = tools.settings.staff;
+    let now = moment_words(alloc, now_on_wall(rt, &tools)?)?;
+    let zone = match &tools.settings.zone {
         Some(zone) => zone.name.as_str(),
         None => "UTC",
     };
     let Some(own) = own else {
         return Ok(format!(in alloc; "head office's book, {now} ({zone})")?);
     };
-    let who = attendant_at(rt, book, &settings, named.unwrap_or(own), line)?;
+    let who = attendant_with(rt, book, &tools, named.unwrap_or(own), line);
     Ok(greeting_line(alloc, &who, now.as_str(), zone)?)
 }

@@ -32,7 +32,7 @@ pub struct OpenBook {
 }
 
 /// Reads the settings of the book of that name, and makes what a word needs beside them.
-fn tools_of(rt: &HostRuntime, name: &str) -> Result<Tools, TillFault> {
+pub(crate) fn tools_of(rt: &HostRuntime, name: &str) -> Result<Tools, TillFault> {
     if !is_there(rt, name) {
         return Err(TillFault::NoBook);
     }
