@@ -7,3 +7,5 @@ pub mod LastMoment
 pub mod Marks
 pub mod Dates
 pub mod Repeating
+pub mod Printing
+pub mod Saying

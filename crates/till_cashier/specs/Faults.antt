@@ -37,3 +37,7 @@ abbrev pub giver_of : Option ℕ → Option ℕ → Result ℕ TillFault
 giver_of None named = Err word.IsOffice
 giver_of (Some own) None = Ok own
 giver_of (Some own) (Some named) = Ok named
+
+-- the server was asked, and gave no reply that counts
+abbrev pub HasNoReply : TillFault → Type 0
+HasNoReply fault = (fault ≡ word.Unanswered) ⊎ ((fault ≡ word.NotNow) ⊎ (fault ≡ word.Silent))

@@ -11,3 +11,8 @@ pub mod Adding
 pub mod Sure
 pub mod Today
 pub mod Again
+pub mod Asking
+pub mod Saying
+pub mod Following
+pub mod Printing
+pub mod Asked

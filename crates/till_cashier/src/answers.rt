@@ -1,5 +1,11 @@
 //! What an answer says, as lines: nothing is asked for here.
 
+ghost use Rattle.std.specs.Prelude.{◌≡◌, ◌==◌, ◌++◌, IfOk, OnOk, if◌then◌else◌, option_map, string_bytes};
+ghost use Rattle.shop_types.specs.Seen.{seen_act};
+ghost use Rattle.till_client.specs.Replies.{seen_answer};
+ghost use Rattle.till_shows.specs.Refusals.{told_text};
+ghost use Rattle.till_cashier.specs.Saying.{AddsAll, SaysOfficeAnswer, SaysOutcome, end_text, ended, status_of};
+
 use crate::fault::TillFault;
 use crate::said::Said;
 use crate::sheet::Rented;
@@ -13,34 +19,58 @@ use till_shows::{
 };
 
 /// Says what a refusal means.
-fn says_refusal(alloc: Global, refusal: Refusal, said: &mut Said) -> Result<(), TillFault> {
+fn says_refusal(alloc: Global, refusal: Refusal, said: &mut Said) -> Result<(), TillFault>
+    ensures said { OnOk result (string_bytes said.new.text
+        ≡ string_bytes said.old.text ++ ended (told_text refusal)) }
+    ensures status { said.new.status ≡ said.old.status }
+{
     let text = told_refusal(alloc, refusal)?;
     said.line(text.as_str())?;
     Ok(())
 }
 
-/// Says a refusal, or the body as it is, where that is to be said: then there is nothing more to say.
+/// Sets the status to 1, unless the server did what was asked for.
+fn set_status(status: u16, said: &mut Said)
+    ensures text { said.new.text ≡ said.old.text }
+    ensures status { said.new.status ≡ (if status == 200 then said.old.status else 1) }
+{
+    if status != 200 {
+        said.status = 1;
+    }
+}
+
+/// Says a refusal, or with `--json` the body as it is. Returns whether it said so: then there is nothing more to say.
+/// The status is 1, unless the server did what was asked for.
 pub(crate) fn says_all(
     alloc: Global,
     is_json: bool,
     answer: &Answer,
     said: &mut Said,
-) -> Result<bool, TillFault> {
+) -> Result<bool, TillFault>
+    ensures said { IfOk result (λ is_whole. AddsAll is_json (seen_answer answer.now) is_whole
+        (string_bytes said.old.text) (string_bytes said.new.text)) }
+    ensures status { said.new.status ≡ (if answer.now.status == 200 then said.old.status else 1) }
+{
     let body = answer.body.as_slice();
-    if answer.status != 200 {
-        said.status = 1;
+    set_status(answer.status, said);
+    if is_json {
+        says_body(body, said)?;
+        return Ok(true);
     }
-    let is_said = match refusal_in(answer.status, body) {
-        _ if is_json => says_body(body, said),
-        Some(refusal) => says_refusal(alloc, refusal, said),
-        None => return Ok(false),
-    };
-    is_said?;
-    Ok(true)
+    match refusal_in(answer.status, body) {
+        Some(refusal) => {
+            says_refusal(alloc, refusal, said)?;
+            Ok(true)
+        }
+        None => Ok(false),
+    }
 }
 
 /// Says a body as it is.
-pub(crate) fn says_body(body: &[u8], said: &mut Said) -> Result<(), TillFault> {
+pub(crate) fn says_body(body: &[u8], said: &mut Said) -> Result<(), TillFault>
+    ensures said { OnOk result (string_bytes said.new.text ≡ string_bytes said.old.text ++ ended body.now) }
+    ensures status { said.new.status ≡ said.old.status }
+{
     match std::str::from_utf8(body) {
         Ok(text) => Ok(said.line(text)?),
         Err(_) => Err(TillFault::Foreign),
@@ -173,14 +203,17 @@ pub(crate) fn besides(
     act: &Act,
     name: &str,
     rented: &Rented,
-) -> Result<String, TillFault> {
+) -> Result<String, TillFault>
+    ensures { IfOk result (λ end. string_bytes end
+        ≡ end_text (seen_act act.now) name.now (option_map string_bytes rented.now.title) rented.now.due) }
+{
     match act {
         Act::Rent { copy, .. } => {
             let (title, due) = (rented.title_text(alloc)?, rented.due_text(alloc)?);
             Ok(format!(in alloc; ": copy {}{title} to {name}{due}", copy.get())?)
         }
         Act::Pay { amount, .. } => {
-            let amount = money(alloc, i64::from(amount.get())).map_err(|_| TillFault::Memory)?;
+            let amount = money(alloc, i64::from(amount.get()))?;
             Ok(format!(in alloc; ": {amount} from {name}")?)
         }
         Act::Customer(it) => {
@@ -198,25 +231,30 @@ pub(crate) fn command_said(
     is_json: bool,
     answer: &Answer,
     besides: &str,
-) -> Result<Said, TillFault> {
+) -> Result<Said, TillFault>
+    ensures said { IfOk result (λ said. SaysOutcome is_json (seen_answer answer.now) besides.now
+        (string_bytes said.text)) }
+    ensures status { IfOk result (λ said. said.status ≡ status_of answer.now.status) }
+{
     let mut said = Said::done(alloc);
-    if !says_all(alloc, is_json, answer, &mut said)? {
-        let mut line = reply_line(alloc, answer.body.as_slice())?;
-        line.push_str(besides)?;
-        said.line(line.as_str())?;
+    if says_all(alloc, is_json, answer, &mut said)? {
+        return Ok(said);
     }
+    let mut line = reply_line(alloc, answer.body.as_slice())?;
+    line.push_str(besides)?;
+    said.line(line.as_str())?;
     Ok(said)
 }
 
 /// Returns an answer to head office: its body, or what a refusal means.
-pub(crate) fn office_said(
-    alloc: Global,
-    is_json: bool,
-    answer: &Answer,
-) -> Result<Said, TillFault> {
+pub(crate) fn office_said(alloc: Global, is_json: bool, answer: &Answer) -> Result<Said, TillFault>
+    ensures said { IfOk result (λ said. SaysOfficeAnswer is_json (seen_answer answer.now) (string_bytes said.text)) }
+    ensures status { IfOk result (λ said. said.status ≡ status_of answer.now.status) }
+{
     let mut said = Said::done(alloc);
-    if !says_all(alloc, is_json, answer, &mut said)? {
-        says_body(answer.body.as_slice(), &mut said)?;
+    if says_all(alloc, is_json, answer, &mut said)? {
+        return Ok(said);
     }
+    says_body(answer.body.as_slice(), &mut said)?;
     Ok(said)
 }

@@ -1,9 +1,14 @@
 //! What the prompt asks before a word: today's date, if that has to be said first.
 
-ghost use Rattle.std.specs.Prelude.{◌≡◌, false};
+ghost use Rattle.std.specs.Prelude.{◌≡◌, true, false, IfOk, IsSome};
 ghost use Rattle.sqlite.specs.Held.{state};
 ghost use Rattle.sqlite.specs.State.{HasCleanDisk};
 ghost use Rattle.till_book.specs.Steps.{Stays};
+ghost use Rattle.till_requests.specs.Zones.{offset_of};
+ghost use Rattle.till_cashier.specs.Asked.{IsSaidDay};
+ghost use Rattle.till_cashier.specs.Clock.{local_clock};
+ghost use Rattle.till_cashier.specs.LastMoment.{TellsMoment};
+ghost use Rattle.till_cashier.specs.Today as spec;
 
 use crate::book::Book;
 use crate::caches::Shelf;
@@ -37,7 +42,10 @@ fn wants_day<K: WallClock, V: Server, L: Shelf>(
     desk: &Desk<'_, K, V, L>,
     book: &Book,
     act: &TillAct,
-) -> bool {
+) -> bool
+    ensures branch { result ≡ true → IsSome desk.now.settings.now.staff }
+    ensures enters { result ≡ true → spec.enters_acts act.now ≡ true }
+{
     desk.settings.staff.is_some()
         && book.is_own
         && enters_acts(act)
@@ -49,7 +57,11 @@ fn ask_day<K: WallClock, V: Server, L: Shelf, W: Write>(
     rt: &HostRuntime,
     desk: &Desk<'_, K, V, L>,
     out: &mut W,
-) -> Result<i32, TillFault> {
+) -> Result<i32, TillFault>
+    ensures { IfOk result (λ day. spec.IsDayOnWall
+        (local_clock (K.shows desk.now.clock.now) desk.now.settings.now.zone) desk.now.wall
+        (offset_of desk.now.settings.now.zone) day) }
+{
     write!(out, "Today's date, as 2026-03-09: ")?;
     out.flush()?;
     match next_line(rt) {
@@ -75,6 +87,12 @@ pub fn ask_before<S: Alter, K: WallClock, V: Server, L: Shelf, W: Write>(
     ensures ended { conn.new.in_transaction ≡ false }
     ensures clean { HasCleanDisk (state S.Store conn.new) → HasCleanDisk (state S.Store conn.old) }
     ensures stays { HasCleanDisk (state S.Store conn.new) → Stays (state S.Store conn.old) (state S.Store conn.new) }
+    ensures last { HasCleanDisk (state S.Store conn.new)
+        → IfOk result (λ asked. TellsMoment asked.last (state S.Store conn.old)) }
+    ensures said { IfOk result (λ asked. IsSaidDay
+        (local_clock (K.shows desk.now.clock.now) desk.now.settings.now.zone) desk.now.wall
+        (offset_of desk.now.settings.now.zone) is_asked desk.now.settings.now.staff act.now desk.now.said_day
+        asked.said_day) }
 {
     let book = Book::read(desk.alloc, desk.routes, &desk.settings.mark, conn)?;
     let last = book.last;

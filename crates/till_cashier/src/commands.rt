@@ -1,6 +1,6 @@
 //! A command is entered, sent, and answered.
 
-ghost use Rattle.std.specs.Prelude.{◌≡◌, ◌≤◌, ◌+◌, true, false, [], ◌∷◌, IfOk, IfSome, OnOk, OnErr};
+ghost use Rattle.std.specs.Prelude.{◌≡◌, ◌==◌, ◌≤◌, ◌+◌, true, false, [], ◌∷◌, IfOk, IfSome, OnOk, OnErr, option_map, string_bytes};
 ghost use Rattle.sqlite.specs.Held.{state};
 ghost use Rattle.sqlite.specs.State.{HasCleanDisk};
 ghost use Rattle.shop_types.specs.Seen.{seen_act};
@@ -13,6 +13,7 @@ ghost use Rattle.till_cashier.specs.Clock.{local_clock};
 ghost use Rattle.till_cashier.specs.Faults.{IsBookKept, giver_of};
 ghost use Rattle.till_cashier.specs.Giving.{IsDated, IsRequest, EntersTry, Tries, IsBack, Gives};
 ghost use Rattle.till_cashier.specs.Adding.{AddsTries};
+ghost use Rattle.till_cashier.specs.Saying.{IsCalled, IsCalledIn, IsEnd, TellsOutcome, status_of};
 
 use crate::answers::{besides, command_said};
 use crate::book::Book;
@@ -51,7 +52,9 @@ impl Told {
         refusal_in(self.answer.status, self.answer.body.as_slice())
     }
 
-    pub(crate) fn is_accepted(&self) -> bool {
+    pub(crate) fn is_accepted(&self) -> bool
+        ensures { result ≡ (self.now.answer.status == 200) }
+    {
         self.answer.status == 200
     }
 
@@ -239,7 +242,9 @@ pub(crate) fn give<S: Alter, K: WallClock, V: Server, L: Shelf, W: Watch>(
 fn customer_name<K: WallClock, V: Server, L: Shelf>(
     desk: &Desk<'_, K, V, L>,
     act: &Act,
-) -> Result<String, TillFault> {
+) -> Result<String, TillFault>
+    ensures { IfOk result (λ name. IsCalledIn (seen_act act.now) (string_bytes name)) }
+{
     match act {
         Act::Rent { customer, .. } | Act::Pay { customer, .. } => called(desk, *customer),
         Act::Customer(_) | Act::Active { .. } | Act::TakeBack(_) | Act::Import { .. } => {
@@ -255,7 +260,9 @@ fn customer_name<K: WallClock, V: Server, L: Shelf>(
 pub(crate) fn called<K: WallClock, V: Server, L: Shelf>(
     desk: &Desk<'_, K, V, L>,
     customer: CustomerNo,
-) -> Result<String, TillFault> {
+) -> Result<String, TillFault>
+    ensures { IfOk result (λ name. IsCalled customer (string_bytes name)) }
+{
     match name_if_known(desk, customer) {
         Some(name) => Ok(name),
         None => {
@@ -271,7 +278,10 @@ fn more_of<K: WallClock, V: Server, L: Shelf>(
     act: &Act,
     rented: &Rented,
     told: &Told,
-) -> Result<String, TillFault> {
+) -> Result<String, TillFault>
+    ensures { IfOk result (λ end. desk.now.is_json ≡ false → IsEnd (told.now.answer.status == 200) (seen_act act.now)
+        (option_map string_bytes rented.now.title) rented.now.due (string_bytes end)) }
+{
     if desk.is_json || !told.is_accepted() {
         return Ok(String::new(desk.alloc));
     }
@@ -285,7 +295,12 @@ pub(crate) fn tell<K: WallClock, V: Server, L: Shelf>(
     act: &Act,
     rented: &Rented,
     told: &Told,
-) -> Result<Said, TillFault> {
+) -> Result<Said, TillFault>
+    ensures said { IfOk result (λ said. TellsOutcome desk.now.is_json (seen_act act.now)
+        (option_map string_bytes rented.now.title) rented.now.due (seen_answer told.now.answer)
+        (string_bytes said.text)) }
+    ensures status { IfOk result (λ said. said.status ≡ status_of told.now.answer.status) }
+{
     let more = more_of(desk, act, rented, told)?;
     command_said(desk.alloc, desk.is_json, &told.answer, more.as_str())
 }

@@ -2,6 +2,8 @@
 
 ghost use Rattle.std.specs.Prelude.{◌≡◌, IfOk, IsSome, OnOk, Some};
 ghost use Rattle.shop_model.specs.Calendar.{seconds_of};
+ghost use Rattle.till_client.specs.Replies.{seen_answer};
+ghost use Rattle.till_cashier.specs.Asking.{IsAnswered};
 ghost use Rattle.till_cashier.specs.Clock.{local_clock};
 ghost use Rattle.till_requests.specs.Zones.{offset_of};
 ghost use Rattle.till_cashier.specs.Faults.{giver_of};
@@ -141,7 +143,10 @@ impl<K: WallClock, V: Server, L: Shelf> Desk<'_, K, V, L> {
     }
 
     /// Asks over one connection.
-    fn asked(&self, request: &[u8]) -> Result<Answer, TillFault> {
+    fn asked(&self, request: &[u8]) -> Result<Answer, TillFault>
+        ensures { IfOk result (λ answer. IsAnswered (V.opens self.now.server.now) V.Reader.remaining V.Writer.contents
+            request.now (seen_answer answer)) }
+    {
         let Ok((mut reader, mut writer)) = self.server.connect() else {
             return Err(TillFault::Silent);
         };
@@ -161,7 +166,10 @@ impl<K: WallClock, V: Server, L: Shelf> Desk<'_, K, V, L> {
     }
 
     /// Asks for something that changes nothing, up to three times. While the line is down it fails at once.
-    pub(crate) fn ask(&self, request: &[u8]) -> Result<Answer, TillFault> {
+    pub(crate) fn ask(&self, request: &[u8]) -> Result<Answer, TillFault>
+        ensures { IfOk result (λ answer. IsAnswered (V.opens self.now.server.now) V.Reader.remaining V.Writer.contents
+            request.now (seen_answer answer)) }
+    {
         if self.line.is_down() {
             return Err(TillFault::Down);
         }

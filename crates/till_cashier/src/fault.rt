@@ -1,7 +1,7 @@
 //! What keeps the till from doing a word.
 
-ghost use Rattle.std.specs.Prelude.{◌≡◌, ◌<◌};
-ghost use Rattle.till_cashier.specs.Faults.{told_fault};
+ghost use Rattle.std.specs.Prelude.{◌≡◌, ◌<◌, ◌↔◌, IsTrue};
+ghost use Rattle.till_cashier.specs.Faults.{HasNoReply, told_fault};
 
 use std::alloc::{AllocError, AllocFailed};
 use std::{fmt, io};
@@ -126,7 +126,9 @@ impl TillFault {
     }
 
     /// Tests whether the server was asked, and gave no reply that counts.
-    pub fn is_unanswered(self) -> bool {
+    pub fn is_unanswered(self) -> bool
+        ensures { IsTrue result ↔ HasNoReply self }
+    {
         matches!(
             self,
             TillFault::Unanswered | TillFault::NotNow | TillFault::Silent

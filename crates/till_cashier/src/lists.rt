@@ -1,5 +1,8 @@
 //! The branch's customers and the films, from lists that are kept for ten minutes.
 
+ghost use Rattle.std.specs.Prelude.{IfSome, string_bytes};
+ghost use Rattle.till_cashier.specs.Saying.{IsListed};
+
 use crate::caches::Shelf;
 use crate::clock::WallClock;
 use crate::desk::Desk;
@@ -160,7 +163,9 @@ pub(crate) fn found<K: WallClock, V: Server, L: Shelf>(
 pub(crate) fn name_if_known<K: WallClock, V: Server, L: Shelf>(
     desk: &Desk<'_, K, V, L>,
     customer: CustomerNo,
-) -> Option<String> {
+) -> Option<String>
+    ensures { IfSome result (λ name. IsListed customer (string_bytes name)) }
+{
     let list = list_kept(desk, List::Customers)?;
     customer_named(desk.alloc, list.body.as_slice(), customer).ok()?
 }

@@ -1,11 +1,13 @@
 //! Head office's words at a till, over a running server.
 
-ghost use Rattle.std.specs.Prelude.{◌≡◌, false};
+ghost use Rattle.std.specs.Prelude.{◌≡◌, false, map, IfOk, string_bytes};
 ghost use Rattle.sqlite.specs.Held.{state};
 ghost use Rattle.sqlite.specs.State.{HasCleanDisk};
 ghost use Rattle.till_work.specs.Told.{IsTold};
 ghost use Rattle.till_work.specs.Desk.{Grows};
+ghost use Rattle.till_cashier.specs.Asking.{IsAnswered};
 ghost use Rattle.till_cashier.specs.Faults.{IsBookKept};
+ghost use Rattle.till_cashier.specs.Printing.{SaysReading};
 
 use crate::answers::office_said;
 use crate::book::Book;
@@ -20,7 +22,9 @@ use till_requests::{NotSaid, office_look_request, office_request};
 use till_work::{Place, Server, Watch, enter_request};
 
 /// Returns the answer to words that are none, or can't be sent.
-fn unsaid(fault: NotSaid) -> Result<Said, TillFault> {
+fn unsaid(fault: NotSaid) -> Result<Said, TillFault>
+    ensures { IfOk result (λ said. said.status ≡ 2) }
+{
     match fault {
         NotSaid::Usage(text) => Ok(Said { text, status: 2 }),
         NotSaid::Other => Err(TillFault::NotSent),
@@ -28,11 +32,16 @@ fn unsaid(fault: NotSaid) -> Result<Said, TillFault> {
     }
 }
 
-/// Says what a reading of head office shows.
+/// Says what a reading of head office shows, or how the words are used.
 pub(crate) fn read_office<K: WallClock, V: Server, L: Shelf>(
     desk: &Desk<'_, K, V, L>,
     words: &[String],
-) -> Result<Said, TillFault> {
+) -> Result<Said, TillFault>
+    ensures { IfOk result (λ said. SaysReading
+        (IsAnswered (V.opens desk.now.server.now) V.Reader.remaining V.Writer.contents)
+        desk.now.settings.now.token desk.now.is_json (map string_bytes words.now) (string_bytes said.text)
+        said.status) }
+{
     match office_look_request(desk.alloc, desk.routes, &desk.settings.token, words) {
         Ok(request) => {
             let answer = desk.ask(request.bytes.as_slice())?;

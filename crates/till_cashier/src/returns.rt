@@ -1,9 +1,12 @@
 //! A copy comes back: the rental is the register's, and what is owed is said.
 
-ghost use Rattle.std.specs.Prelude.{◌≡◌, false, Some, IfOk};
+ghost use Rattle.std.specs.Prelude.{◌≡◌, false, Some, IfOk, string_bytes};
 ghost use Rattle.sqlite.specs.Held.{state};
 ghost use Rattle.sqlite.specs.State.{HasCleanDisk};
 ghost use Rattle.till_book.specs.Steps.{Stays};
+ghost use Rattle.till_client.specs.Replies.{seen_answer};
+ghost use Rattle.till_cashier.specs.Asking.{IsAnswered, IsOwing};
+ghost use Rattle.till_cashier.specs.Following.{SaysBalance};
 ghost use Rattle.till_cashier.specs.Word.{IsRenterIn};
 ghost use Rattle.till_cashier.specs.Returns.{IsRegisteredIn, IsReturned};
 
@@ -82,7 +85,11 @@ pub(crate) fn balance_of<K: WallClock, V: Server, L: Shelf>(
     desk: &Desk<'_, K, V, L>,
     customer: CustomerNo,
     last: Option<Moment>,
-) -> Result<Answer, TillFault> {
+) -> Result<Answer, TillFault>
+    ensures { IfOk result (λ answer. IsOwing
+        (IsAnswered (V.opens desk.now.server.now) V.Reader.remaining V.Writer.contents)
+        desk.now.settings.now.token customer (seen_answer answer)) }
+{
     let ask = Ask::Balance {
         customer,
         at: desk.now_behind(last)?,
@@ -96,7 +103,9 @@ pub(crate) fn owed_line<K: WallClock, V: Server, L: Shelf>(
     desk: &Desk<'_, K, V, L>,
     customer: CustomerNo,
     balance: &Answer,
-) -> Result<String, TillFault> {
+) -> Result<String, TillFault>
+    ensures { IfOk result (λ line. SaysBalance customer (seen_answer balance.now) (string_bytes line)) }
+{
     let name = called(desk, customer)?;
     Ok(balance_line(desk.alloc, name.as_str(), balance.body.as_slice())?)
 }

@@ -1,9 +1,11 @@
 //! The branch's sheet beside the book: which copy is which film, and rentals from before the book began.
 
-ghost use Rattle.std.specs.Prelude.{◌≡◌, Some, None, IfOk, IfSome};
+ghost use Rattle.std.specs.Prelude.{◌≡◌, Some, None, IfOk, IfSome, option_map, string_bytes};
+ghost use Rattle.shop_types.specs.Seen.{seen_act};
 ghost use Rattle.till_requests.specs.SheetRows.{row_in_sheet};
 ghost use Rattle.till_requests.specs.SheetSeen.{seen_row};
 ghost use Rattle.till_cashier.specs.Returns.{IsOnSheet};
+ghost use Rattle.till_cashier.specs.Saying.{IsTitleIn, IsTitleOf, title_text, due_text, weekday_text};
 
 use crate::caches::Shelf;
 use crate::clock::WallClock;
@@ -172,19 +174,16 @@ fn due_of<K: WallClock, V: Server, L: Shelf>(
     moment_at(at.seconds().saturating_add(days.saturating_mul(DAY)))
 }
 
-/// Returns what is known of a rent's film, and of its last day. Of another act it is nothing. Without a sheet nothing is
-/// asked.
-pub(crate) fn about_rent<K: WallClock, V: Server, L: Shelf>(
+/// Returns what is known of a copy's film, and of the last day of its rental that begins at that moment. Without a sheet
+/// nothing is asked.
+fn about_copy<K: WallClock, V: Server, L: Shelf>(
     desk: &Desk<'_, K, V, L>,
-    act: &Act,
+    copy: CopyNo,
     at: &Option<Moment>,
-) -> Rented {
-    let row = match act {
-        Act::Rent { copy, .. } => row_of(desk, *copy),
-        Act::Customer(_) | Act::Active { .. } | Act::TakeBack(_) | Act::Pay { .. } => None,
-        Act::Import { .. } | Act::Dispatch { .. } | Act::Receive { .. } | Act::Scrap(_) => None,
-    };
-    match row {
+) -> Rented
+    ensures { IsTitleOf desk.now.sheet.now copy (option_map string_bytes result.title) }
+{
+    match row_of(desk, copy) {
         Some(row) => Rented {
             due: due_of(desk, row.film, at),
             title: Some(row.title),
@@ -193,8 +192,29 @@ pub(crate) fn about_rent<K: WallClock, V: Server, L: Shelf>(
     }
 }
 
+/// Returns what is known of a rent's film, and of its last day. Of another act it is nothing.
+pub(crate) fn about_rent<K: WallClock, V: Server, L: Shelf>(
+    desk: &Desk<'_, K, V, L>,
+    act: &Act,
+    at: &Option<Moment>,
+) -> Rented
+    ensures { IsTitleIn desk.now.sheet.now (seen_act act.now) (option_map string_bytes result.title) }
+{
+    match act {
+        Act::Rent { copy, .. } => about_copy(desk, *copy, at),
+        Act::Customer(_) | Act::Active { .. } | Act::TakeBack(_) | Act::Pay { .. } => {
+            Rented::nothing()
+        }
+        Act::Import { .. } | Act::Dispatch { .. } | Act::Receive { .. } | Act::Scrap(_) => {
+            Rented::nothing()
+        }
+    }
+}
+
 /// Returns the name of the moment's day of the week.
-fn weekday(at: Moment) -> &'static str {
+fn weekday(at: Moment) -> &'static str
+    ensures { result.now ≡ weekday_text at }
+{
     match at.seconds() / DAY % 7 {
         0 => "Thursday",
         1 => "Friday",
@@ -208,7 +228,10 @@ fn weekday(at: Moment) -> &'static str {
 
 impl Rented {
     /// Returns that nothing is known.
-    pub(crate) fn nothing() -> Rented {
+    pub(crate) fn nothing() -> Rented
+        ensures title { result.title ≡ None }
+        ensures due { result.due ≡ None }
+    {
         Rented {
             title: None,
             due: None,
@@ -216,7 +239,9 @@ impl Rented {
     }
 
     /// Returns the title as a rent's line has it: ` (RIVER DAWN)`, or nothing.
-    pub(crate) fn title_text(&self, alloc: Global) -> Result<String, TillFault> {
+    pub(crate) fn title_text(&self, alloc: Global) -> Result<String, TillFault>
+        ensures { IfOk result (λ text. string_bytes text ≡ title_text (option_map string_bytes self.now.title)) }
+    {
         match &self.title {
             Some(title) => Ok(format!(in alloc; " ({title})")?),
             None => Ok(String::new(alloc)),
@@ -224,7 +249,9 @@ impl Rented {
     }
 
     /// Returns the last day as a rent's line has it: `, due Thursday 12 March 2026`, or nothing.
-    pub(crate) fn due_text(&self, alloc: Global) -> Result<String, TillFault> {
+    pub(crate) fn due_text(&self, alloc: Global) -> Result<String, TillFault>
+        ensures { IfOk result (λ text. string_bytes text ≡ due_text self.now.due) }
+    {
         match self.due {
             Some(due) => {
                 let (weekday, day) = (weekday(due), day_words(alloc, due)?);

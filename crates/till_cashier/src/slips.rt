@@ -1,6 +1,10 @@
 //! Slips: what a customer gets on paper after an accepted rent, return or payment. A slip is a courtesy. The book is the
 //! truth, and the word `last` shows it.
 
+ghost use Rattle.std.specs.Prelude.{◌≡◌};
+ghost use Rattle.shop_types.specs.Seen.{seen_act};
+ghost use Rattle.till_cashier.specs.Following.{debtor_of};
+
 use crate::caches::Shelf;
 use crate::clock::WallClock;
 use crate::desk::Desk;
@@ -39,7 +43,9 @@ fn kind_of(act: &Act) -> Option<SlipKind> {
 }
 
 /// Returns whose debt is on an act's slip. `renter` is the customer of a return's rental, if the till knows.
-pub(crate) fn debtor_of(act: &Act, renter: &Option<CustomerNo>) -> Option<CustomerNo> {
+pub(crate) fn debtor_of(act: &Act, renter: &Option<CustomerNo>) -> Option<CustomerNo>
+    ensures { result ≡ debtor_of (seen_act act.now) renter.now }
+{
     match act {
         Act::Rent { customer, .. } | Act::Pay { customer, .. } => Some(*customer),
         Act::TakeBack(_) => *renter,

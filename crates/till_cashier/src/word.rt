@@ -1,13 +1,16 @@
 //! One word at an open book.
 
-ghost use Rattle.std.specs.Prelude.{◌≡◌, ◌<◌, ◌⊎◌, true, false, None, Err, is_ok, IfOk, IfErr, OnOk, IsSome};
+ghost use Rattle.std.specs.Prelude.{◌≡◌, ◌<◌, ◌⊎◌, true, false, None, Some, Err, is_ok, IfOk, IfErr, IfSome, OnOk, IsSome};
+ghost use Rattle.std.specs.Prelude.{ℕ, option_map, string_bytes};
 ghost use Rattle.sqlite.specs.Held.{state};
 ghost use Rattle.sqlite.specs.State.{HasCleanDisk};
 ghost use Rattle.shop_types.specs.Seen.{seen_act};
 ghost use Rattle.till_book.specs.Steps.{Stays};
+ghost use Rattle.till_client.specs.Replies.{seen_answer};
 ghost use Rattle.till_work.specs.Told.{IsTold};
 ghost use Rattle.till_work.specs.Desk.{GoesOn, Grows};
 ghost use Rattle.till_requests.specs.Zones.{offset_of};
+ghost use Rattle.till_cashier.specs.Asking.{IsAnswered, IsOwing};
 ghost use Rattle.till_cashier.specs.Clock.{local_clock};
 ghost use Rattle.till_cashier.specs.Faults.{IsBookKept, IsReading, giver_of, others_fault};
 ghost use Rattle.till_cashier.specs.Giving.{GivesAct};
@@ -22,6 +25,9 @@ ghost use Rattle.till_cashier.specs.Word.{
   IsPlannedFor,
 };
 ghost use Rattle.till_cashier.specs.Doing.{IsPlanOf, IsCarriedOut, DoesWord, RepeatsPlan, RepeatsWord, office_planned};
+ghost use Rattle.till_cashier.specs.Saying.{IsTitleIn};
+ghost use Rattle.till_cashier.specs.Following.{AddsBalance, AddsDebt, AddsRest, AddsUnwritten, AddsWaited, SaysAct, debtor_of};
+ghost use Rattle.till_cashier.specs.Printing.{GivesSaying, SaysPlan, SaysWord};
 ghost use Rattle.till_cashier.specs.Sure as sure;
 ghost use Rattle.till_cashier.specs.Today as dates;
 
@@ -302,24 +308,33 @@ fn balance_after<K: WallClock, V: Server, L: Shelf>(
     act: &Act,
     customer: &Option<CustomerNo>,
     last: &Option<Moment>,
-) -> Option<Answer> {
+) -> Option<Answer>
+    ensures { IfSome result (λ balance. (debtor : ℕ) × (debtor_of (seen_act act.now) customer.now ≡ Some debtor)
+        × IsOwing (IsAnswered (V.opens desk.now.server.now) V.Reader.remaining V.Writer.contents)
+        desk.now.settings.now.token debtor (seen_answer balance)) }
+{
     match debtor_of(act, customer) {
         Some(debtor) => balance_of(desk, debtor, *last).ok(),
         None => None,
     }
 }
 
-/// Says what the customer of a return owes, by the reply to that question.
+/// Says what the customer of a return owes, by the reply to that question. After another act it says nothing.
 fn say_owed<K: WallClock, V: Server, L: Shelf>(
     desk: &Desk<'_, K, V, L>,
+    act: &Act,
     customer: &Option<CustomerNo>,
     balance: &Option<Answer>,
     said: &mut Said,
-) -> Result<(), TillFault> {
+) -> Result<(), TillFault>
+    ensures said { OnOk result (AddsBalance desk.now.is_json (seen_act act.now) customer.now
+        (option_map seen_answer balance.now) (string_bytes said.old.text) (string_bytes said.new.text)) }
+    ensures status { said.new.status ≡ said.old.status }
+{
     if desk.is_json {
         return Ok(());
     }
-    let (Some(customer), Some(balance)) = (customer, balance) else {
+    let (Act::TakeBack(_), Some(customer), Some(balance)) = (act, customer, balance) else {
         return Ok(());
     };
     if let Ok(line) = owed_line(desk, *customer, balance) {
@@ -338,7 +353,13 @@ fn follow_up<K: WallClock, V: Server, L: Shelf>(
     rented: &Rented,
     told: &Told,
     said: &mut Said,
-) -> Result<bool, TillFault> {
+) -> Result<bool, TillFault>
+    ensures said { OnOk result (AddsDebt
+        (IsOwing (IsAnswered (V.opens desk.now.server.now) V.Reader.remaining V.Writer.contents)
+        desk.now.settings.now.token) desk.now.is_json (seen_act act.now) customer.now (seen_answer told.now.answer)
+        (string_bytes said.old.text) (string_bytes said.new.text)) }
+    ensures status { said.new.status ≡ said.old.status }
+{
     if !told.is_accepted() {
         return Ok(true);
     }
@@ -346,7 +367,7 @@ fn follow_up<K: WallClock, V: Server, L: Shelf>(
         desk.shelf.forget(List::Customers.name());
     }
     let balance = balance_after(desk, act, customer, last);
-    say_owed(desk, customer, &balance, said)?;
+    say_owed(desk, act, customer, &balance, said)?;
     match slip_of(desk.alloc, act, &told.answer, last, &balance) {
         Some(slip) => Ok(write_slip(desk, &slip, rented)),
         None => Ok(true),
@@ -359,11 +380,55 @@ fn about_accepted<K: WallClock, V: Server, L: Shelf>(
     act: &Act,
     last: &Option<Moment>,
     told: &Told,
-) -> Rented {
+) -> Rented
+    ensures { IsTitleIn desk.now.sheet.now (seen_act act.now) (option_map string_bytes result.title) }
+{
     if !told.is_accepted() {
         return Rented::nothing();
     }
     about_rent(desk, act, last)
+}
+
+/// Says the outcomes of the entries that had waited, if there were some.
+fn say_waited(waited: &Option<Said>, said: &mut Said) -> Result<(), TillFault>
+    ensures said { OnOk result (AddsWaited (string_bytes said.old.text) (string_bytes said.new.text)) }
+    ensures status { said.new.status ≡ said.old.status }
+{
+    let Some(table) = waited else {
+        return Ok(());
+    };
+    said.line("What had waited was sent first:")?;
+    said.text.push_str(table.text.as_str())?;
+    Ok(())
+}
+
+/// Says that the slip wasn't written, if it wasn't.
+fn say_unwritten(is_written: bool, said: &mut Said) -> Result<(), TillFault>
+    ensures said { OnOk result (AddsUnwritten (string_bytes said.old.text) (string_bytes said.new.text)) }
+    ensures status { said.new.status ≡ said.old.status }
+{
+    if is_written {
+        return Ok(());
+    }
+    said.line("The slip wasn't written.")?;
+    Ok(())
+}
+
+/// Says the outcomes of the entries that had waited, and that the slip wasn't written. With `--json` it says nothing.
+fn say_rest(
+    is_json: bool,
+    waited: &Option<Said>,
+    is_written: bool,
+    said: &mut Said,
+) -> Result<(), TillFault>
+    ensures said { OnOk result (AddsRest is_json (string_bytes said.old.text) (string_bytes said.new.text)) }
+    ensures status { said.new.status ≡ said.old.status }
+{
+    if is_json {
+        return Ok(());
+    }
+    say_waited(waited, said)?;
+    say_unwritten(is_written, said)
 }
 
 /// Says the outcome of a command, what its customer owes, and the outcomes of the entries that had waited before it.
@@ -374,17 +439,16 @@ fn told<K: WallClock, V: Server, L: Shelf>(
     last: Option<Moment>,
     told: &Told,
     waited: Option<Said>,
-) -> Result<Said, TillFault> {
+) -> Result<Said, TillFault>
+    ensures { IfOk result (λ said. SaysAct
+        (IsOwing (IsAnswered (V.opens desk.now.server.now) V.Reader.remaining V.Writer.contents)
+        desk.now.settings.now.token) desk.now.is_json desk.now.sheet.now (seen_act act.now) customer
+        (seen_answer told.now.answer) (string_bytes said.text) said.status) }
+{
     let rented = about_accepted(desk, act, &last, told);
     let mut said = tell(desk, act, &rented, told)?;
     let is_written = follow_up(desk, act, &customer, &last, &rented, told, &mut said)?;
-    if let Some(table) = &waited {
-        said.line("What had waited was sent first:")?;
-        said.text.push_str(table.text.as_str())?;
-    }
-    if !is_written && !desk.is_json {
-        said.line("The slip wasn't written.")?;
-    }
+    say_rest(desk.is_json, &waited, is_written, &mut said)?;
     Ok(said)
 }
 
@@ -414,6 +478,13 @@ fn give_and_tell<S: Alter, K: WallClock, V: Server, L: Shelf, W: Watch>(
         desk.now.settings.now.mark desk.now.settings.now.token
         (giver_of desk.now.settings.now.staff desk.now.staff) (seen_act act.now)
         book.old.place (state S.Store conn.old) book.new.place (state S.Store conn.new) }
+    ensures says { HasCleanDisk (state S.Store conn.new) → IfOk result (λ said. GivesSaying
+        (IsTold (V.opens desk.now.server.now) V.Reader.remaining V.Writer.contents)
+        (IsAnswered (V.opens desk.now.server.now) V.Reader.remaining V.Writer.contents)
+        (local_clock (K.shows desk.now.clock.now) desk.now.settings.now.zone) desk.now.settings.now.mark desk.now.settings.now.token
+        (giver_of desk.now.settings.now.staff desk.now.staff) desk.now.is_json desk.now.sheet.now
+        (seen_act act.now) customer book.old.place (state S.Store conn.old) book.new.place (state S.Store conn.new)
+        (string_bytes said.text) said.status) }
 {
     let before = book.place;
     let it = match give(desk, conn, book, act, watch) {
@@ -425,7 +496,9 @@ fn give_and_tell<S: Alter, K: WallClock, V: Server, L: Shelf, W: Watch>(
 }
 
 /// Says the words that there are, as a usage.
-fn usage(alloc: Global) -> Result<Said, TillFault> {
+fn usage(alloc: Global) -> Result<Said, TillFault>
+    ensures { IfOk result (λ said. said.status ≡ 2) }
+{
     Ok(Said {
         text: help_text(alloc)?,
         status: 2,
@@ -467,6 +540,13 @@ fn carry_out<S: Alter, K: WallClock, V: Server, L: Shelf, W: Watch>(
         (local_clock (K.shows desk.now.clock.now) desk.now.settings.now.zone) desk.now.settings.now.mark desk.now.settings.now.token
         desk.now.settings.now.staff plan book.old.place (state S.Store conn.old) book.new.place
         (state S.Store conn.new)) }
+    ensures says { HasCleanDisk (state S.Store conn.new) → IfOk result (λ said. SaysPlan
+        (IsTold (V.opens desk.now.server.now) V.Reader.remaining V.Writer.contents)
+        (IsAnswered (V.opens desk.now.server.now) V.Reader.remaining V.Writer.contents)
+        (local_clock (K.shows desk.now.clock.now) desk.now.settings.now.zone) desk.now.settings.now.mark desk.now.settings.now.token
+        (giver_of desk.now.settings.now.staff desk.now.staff) desk.now.is_json desk.now.sheet.now
+        plan book.old.place (state S.Store conn.old) book.new.place (state S.Store conn.new)
+        (string_bytes said.text) said.status) }
 {
     match plan {
         Plan::Give(act, customer) => give_and_tell(desk, conn, book, &act, customer, watch),
@@ -488,6 +568,10 @@ fn carry_out<S: Alter, K: WallClock, V: Server, L: Shelf, W: Watch>(
 /// back is the return of the register's rental, or of the sheet's if the register has none. After `send` each entry has
 /// its reply. A look leaves the book as it is. Whatever its outcome, a word enters nothing but tries of what was typed,
 /// unless the book failed.
+///
+/// What is said of an act is of the very answer that it got. With `--json` that is the body as it is. Else it is what a
+/// refusal means, or the reply's line with its end, and after a return what the rental's customer owes. The status is 0
+/// if that answer's is 200, and else 1. What is said of a reading of head office is of some answer to it.
 ///
 /// A branch's book stays one unless it failed, and what is in it stays, in head office's book too. A branch's command
 /// or look at head office's book is refused, whoever gives it: `IsOffice`. Head office's words at a branch's book are
@@ -551,6 +635,12 @@ pub fn do_word<S: Alter, K: WallClock, V: Server, L: Shelf, W: Watch>(
         → RepeatsWord (IsTold (V.opens desk.now.server.now) V.Reader.remaining V.Writer.contents)
         (local_clock (K.shows desk.now.clock.now) desk.now.settings.now.zone) desk.now.settings.now.mark desk.now.settings.now.token
         desk.now.settings.now.staff act (state S.Store conn.old) (state S.Store conn.new)) }
+    ensures says { HasCleanDisk (state S.Store conn.new) → IfOk result (λ said. SaysWord
+        (IsTold (V.opens desk.now.server.now) V.Reader.remaining V.Writer.contents)
+        (IsAnswered (V.opens desk.now.server.now) V.Reader.remaining V.Writer.contents)
+        (local_clock (K.shows desk.now.clock.now) desk.now.settings.now.zone) desk.now.settings.now.mark desk.now.settings.now.token
+        (giver_of desk.now.settings.now.staff desk.now.staff) desk.now.is_json desk.now.sheet.now
+        act (state S.Store conn.old) (state S.Store conn.new) (string_bytes said.text) said.status) }
 {
     let wants = wants_yes(&act);
     let enters = enters_acts(&act);

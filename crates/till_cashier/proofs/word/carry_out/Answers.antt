@@ -3,11 +3,13 @@ use Rattle.till_work.specs.Told.{IsTold}
 use Rattle.till_cashier.specs.Clock.{local_clock}
 use Rattle.till_cashier.specs.Faults.{giver_of}
 use Rattle.till_cashier.specs.declared.word.Plan.TheVariants as plan
+use Rattle.till_cashier.specs.Asking.{IsAnswered}
 use Rattle.std.proofs.Common.{sym}
 use Rattle.till_cashier.proofs.Doing.{on_ok, carried_out}
 use Rattle.till_cashier.proofs.Adding.{enters_as}
 use Rattle.till_cashier.proofs.GoingOn.{kept_goes, kept_grows}
 use Rattle.till_cashier.proofs.Repeating.{repeats_as}
+use Rattle.till_cashier.proofs.Printing.{says_as}
 use Rattle.till_cashier.proofs.word.carry_out.Goals as goal
 
 pub returns-in-Give-clause-keeps : goal.returns-in-Give-clause-keeps
@@ -138,3 +140,31 @@ returns-in-Again-clause-again g c clean =
     (local_clock (g.K.WallClock.shows c.args.desk.now.clock.now) c.args.desk.now.settings.now.zone)
     c.args.desk.now.settings.now.mark c.args.desk.now.settings.now.token c.args.desk.now.settings.now.staff c.args.plan
     (plan.Again c.in-Again.late) _ _ _ _ c.in-Again.is (c.again.ensures.given clean)
+
+pub returns-in-Give-clause-says : goal.returns-in-Give-clause-says
+returns-in-Give-clause-says g c clean =
+    says_as (IsTold (g.V.Server.opens c.args.desk.now.server.now) g.V.Reader.Read.remaining g.V.Writer.Write.contents)
+    (IsAnswered (g.V.Server.opens c.args.desk.now.server.now) g.V.Reader.Read.remaining g.V.Writer.Write.contents)
+    (local_clock (g.K.WallClock.shows c.args.desk.now.clock.now) c.args.desk.now.settings.now.zone)
+    c.args.desk.now.settings.now.mark c.args.desk.now.settings.now.token
+    (giver_of c.args.desk.now.settings.now.staff c.args.desk.now.staff) c.args.desk.now.is_json c.args.desk.now.sheet.now
+    c.give_and_tell.result c.args.plan (plan.Give c.in-Give.act c.in-Give.customer) _ _ _ _ c.in-Give.is (c.give_and_tell.ensures.says clean)
+
+pub returns-in-ReadOffice-clause-says : goal.returns-in-ReadOffice-clause-says
+returns-in-ReadOffice-clause-says g c clean =
+    says_as (IsTold (g.V.Server.opens c.args.desk.now.server.now) g.V.Reader.Read.remaining g.V.Writer.Write.contents)
+    (IsAnswered (g.V.Server.opens c.args.desk.now.server.now) g.V.Reader.Read.remaining g.V.Writer.Write.contents)
+    (local_clock (g.K.WallClock.shows c.args.desk.now.clock.now) c.args.desk.now.settings.now.zone)
+    c.args.desk.now.settings.now.mark c.args.desk.now.settings.now.token
+    (giver_of c.args.desk.now.settings.now.staff c.args.desk.now.staff) c.args.desk.now.is_json c.args.desk.now.sheet.now
+    c.read_office.result c.args.plan (plan.ReadOffice c.in-ReadOffice.words) _ _ _ _ c.in-ReadOffice.is
+    (rw c.as_slice-in-ReadOffice.ensures at c.read_office.ensures)
+
+pub returns-in-Usage-clause-says : goal.returns-in-Usage-clause-says
+returns-in-Usage-clause-says g c clean =
+    says_as (IsTold (g.V.Server.opens c.args.desk.now.server.now) g.V.Reader.Read.remaining g.V.Writer.Write.contents)
+    (IsAnswered (g.V.Server.opens c.args.desk.now.server.now) g.V.Reader.Read.remaining g.V.Writer.Write.contents)
+    (local_clock (g.K.WallClock.shows c.args.desk.now.clock.now) c.args.desk.now.settings.now.zone)
+    c.args.desk.now.settings.now.mark c.args.desk.now.settings.now.token
+    (giver_of c.args.desk.now.settings.now.staff c.args.desk.now.staff) c.args.desk.now.is_json c.args.desk.now.sheet.now
+    c.usage.result c.args.plan plan.Usage _ _ _ _ c.in-Usage.is c.usage.ensures

@@ -1,4 +1,4 @@
-use Rattle.std.proofs.Common.{◌≡◌, ◌⊎◌, ◌∙◌, Result, Ok, Err, IfErr, IsErrAnd, inl, inr, refl, subst, sym}
+use Rattle.std.proofs.Common.{string_bytes, ◌≡◌, ◌⊎◌, ◌∙◌, Result, Ok, Err, IfErr, IsErrAnd, inl, inr, refl, subst, sym}
 use Rattle.sqlite.specs.Held.{state}
 use Rattle.till_cashier.specs.declared.fault.TillFault.{TillFault}
 use Rattle.till_cashier.specs.declared.fault.TillFault.TheVariants.{OtherBook}
@@ -14,6 +14,8 @@ use Rattle.till_requests.specs.Zones.{offset_of}
 use Rattle.till_cashier.specs.Clock.{local_clock}
 use Rattle.till_cashier.proofs.Dates.{dated_book}
 use Rattle.till_cashier.proofs.Repeating.{if_ok_then, word_repeated}
+use Rattle.till_cashier.specs.Asking.{IsAnswered}
+use Rattle.till_cashier.proofs.Printing.{if_ok_so, word_says}
 use Rattle.till_cashier.proofs.word.do_word.Goals as goal
 
 pub returns-in_err-book-clause-keeps : goal.returns-in_err-book-clause-keeps
@@ -324,5 +326,22 @@ returns-clause-again g c clean =
     c.args.desk.now.sheet.now c.args.act c.in_ok-plan.plan c.in_ok-book.book.place c.carry_out.new.book.place
     (state g.S.Store c.args.conn.now) (state g.S.Store c.read.new.conn)
     (state g.S.Store c.plan_of.new.conn) (state g.S.Store c.carry_out.new.conn)
+    (c.in_ok-book.ensures.place read) (c.read.ensures.stays read) (c.plan_of.ensures.stays planned)
+    (c.in_ok-plan.ensures.acts planned))
+
+-- ---- what is printed
+
+pub returns-clause-says : goal.returns-clause-says
+returns-clause-says g c clean =
+    let planned = c.carry_out.ensures.clean clean in
+    let read = c.plan_of.ensures.clean planned in
+    if_ok_so c.carry_out.result _ _ (c.carry_out.ensures.says clean)
+    (λ said. word_says (IsTold (g.V.Server.opens c.args.desk.now.server.now) g.V.Reader.Read.remaining g.V.Writer.Write.contents)
+    (IsAnswered (g.V.Server.opens c.args.desk.now.server.now) g.V.Reader.Read.remaining g.V.Writer.Write.contents)
+    (local_clock (g.K.WallClock.shows c.args.desk.now.clock.now) c.args.desk.now.settings.now.zone)
+    c.args.desk.now.settings.now.mark c.args.desk.now.settings.now.token (giver_of c.args.desk.now.settings.now.staff c.args.desk.now.staff)
+    c.args.desk.now.is_json c.args.desk.now.sheet.now c.args.act c.in_ok-plan.plan c.in_ok-book.book.place c.carry_out.new.book.place
+    (state g.S.Store c.args.conn.now) (state g.S.Store c.read.new.conn)
+    (state g.S.Store c.plan_of.new.conn) (state g.S.Store c.carry_out.new.conn) (string_bytes said.text) said.status
     (c.in_ok-book.ensures.place read) (c.read.ensures.stays read) (c.plan_of.ensures.stays planned)
     (c.in_ok-plan.ensures.acts planned))

@@ -4,7 +4,9 @@ use Rattle.shop_types.specs.Seen.{seen_act}
 use Rattle.till_work.specs.Told.{IsTold}
 use Rattle.till_cashier.specs.Clock.{local_clock}
 use Rattle.till_cashier.specs.Faults.{giver_of}
+use Rattle.till_cashier.specs.Asking.{IsAnswered}
 use Rattle.till_cashier.proofs.Doing.{gives_told}
+use Rattle.till_cashier.proofs.Printing.{gives_saying}
 use Rattle.till_cashier.proofs.Adding.{adds_stays}
 use Rattle.till_cashier.proofs.GoingOn.{kept_ok, kept_as, goes_stays}
 use Rattle.till_cashier.proofs.word.give_and_tell.Goals as goal
@@ -52,3 +54,14 @@ returns-clause-adds g c clean kept =
 
 pub returns-in-Err-clause-adds : goal.returns-in-Err-clause-adds
 returns-in-Err-clause-adds g c clean kept = c.in-Err.ensures.adds clean (kept_as c.in-Err.fault kept)
+
+pub returns-clause-says : goal.returns-clause-says
+returns-clause-says g c clean =
+    gives_saying (IsTold (g.V.Server.opens c.args.desk.now.server.now) g.V.Reader.Read.remaining g.V.Writer.Write.contents)
+    (IsAnswered (g.V.Server.opens c.args.desk.now.server.now) g.V.Reader.Read.remaining g.V.Writer.Write.contents)
+    (local_clock (g.K.WallClock.shows c.args.desk.now.clock.now) c.args.desk.now.settings.now.zone)
+    c.args.desk.now.settings.now.mark c.args.desk.now.settings.now.token
+    (giver_of c.args.desk.now.settings.now.staff c.args.desk.now.staff) c.args.desk.now.is_json c.args.desk.now.sheet.now c.told.result
+    (seen_act c.args.act.now) c.args.customer (seen_answer c.in-Ok.it.answer) c.args.book.now.place c.give.new.book.place
+    (state g.S.Store c.args.conn.now) (state g.S.Store c.give.new.conn) (state g.S.Store c.waited.new.conn)
+    (c.in-Ok.ensures.given (c.waited.ensures.clean clean)) (c.waited.ensures.stays clean) c.told.ensures

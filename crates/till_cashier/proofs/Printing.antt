@@ -1,0 +1,128 @@
+-- Which answer is printed.
+use Rattle.std.proofs.Common.{◌≡◌, ℕ, Bool, true, false, List, Option, Some, Result, Ok, Err, IfOk, sym, subst}
+use Rattle.std.specs.Prelude.{if◌then◌else◌, IsTrue, string_bytes}
+use Rattle.std.proofs.lemmas.Bool.{false≢true}
+use Rattle.sqlite.specs.State.{State}
+use Rattle.shop_types.specs.Seen.{seen_act}
+use Rattle.shop_types.specs.declared.command.Act.{Act as Asked}
+use Rattle.shop_types.specs.declared.command.Act.TheVariants as asked
+use Rattle.shop_model.specs.Values.{Text, Act}
+use Rattle.shop_model.specs.Answers.{Answer}
+use Rattle.till_book.specs.Steps as book
+use Rattle.till_work.specs.declared.place.Place.{Place}
+use Rattle.till_requests.specs.Requests.{is_reading}
+use Rattle.till_words.specs.declared.words.TillAct.{TillAct}
+use Rattle.till_words.specs.declared.words.TillAct.TheVariants as typed
+use Rattle.till_cashier.specs.declared.fault.TillFault.{TillFault}
+use Rattle.till_cashier.specs.declared.said.Said.{Said}
+use Rattle.till_cashier.specs.declared.word.Plan.{Plan}
+use Rattle.till_cashier.specs.declared.word.Plan.TheVariants as plan
+use Rattle.till_cashier.specs.Asking.{IsOwing}
+use Rattle.till_cashier.specs.Giving.{Gives}
+use Rattle.till_cashier.specs.Doing.{IsPlanOf}
+use Rattle.till_cashier.specs.Printing.{GivesSaying, SaysPlan, SaysReading, GivesWordSaying, SaysWord}
+use Rattle.till_cashier.specs.Following.{SaysAct}
+use Rattle.till_cashier.specs.Word.{IsDebtor, IsPlaceOf}
+use Rattle.till_cashier.proofs.Doing.{gives_stays, returned_before}
+use Rattle.till_cashier.proofs.GoingOn.{stays_both}
+
+-- of a result that is no fault, what follows for it
+pub if_ok_so : {A E : Type 0} (r : Result A E) (P Q : A → Type 0) → IfOk r P → ((a : A) → P a → Q a) → IfOk r Q
+if_ok_so (Ok a) P Q holds follows = follows a holds
+if_ok_so (Err e) P Q holds follows = tt
+
+-- the customer of an act's rental is the same in front of a look
+debtor_before : (what : Asked) (customer : Option ℕ) (old new : State) → book.Stays old new → IsDebtor what customer new → IsDebtor what customer old
+debtor_before (asked.TakeBack rental) customer old new stays is = λ journal rests. is journal (stays journal rests)
+debtor_before (asked.Customer it) customer old new stays is = is
+debtor_before (asked.Active who active) customer old new stays is = is
+debtor_before (asked.Rent who copy) customer old new stays is = is
+debtor_before (asked.Pay who rental amount) customer old new stays is = is
+debtor_before (asked.Import lot file) customer old new stays is = is
+debtor_before (asked.Dispatch to copies) customer old new stays is = is
+debtor_before (asked.Receive from number missing) customer old new stays is = is
+debtor_before (asked.Scrap copy) customer old new stays is = is
+
+module _ (Tells Answers : List ℕ → Answer → Type 0) (shows : ℕ → Type 0) (mark token : Text) (giver : Result ℕ TillFault) (json : Bool) (sheet : Text) where
+  -- a look at the book leaves it so
+  pub gives_saying : (r : Result Said TillFault) (act : Act) (customer : Option ℕ) (answer : Answer) (before after : Place) (old mid new : State)
+      → Gives Tells shows mark token giver act answer before old after mid → book.Stays mid new
+      → IfOk r (λ said. SaysAct (IsOwing Answers token) json sheet act customer answer (string_bytes said.text) said.status)
+      → IfOk r (λ said. GivesSaying Tells Answers shows mark token giver json sheet act customer before old after new (string_bytes said.text) said.status)
+  gives_saying r act customer answer before after old mid new gives stays says =
+      if_ok_so r _ _ says (λ said is. (answer, gives_stays Tells shows mark token giver act answer before after old mid new gives stays, is))
+
+  -- what is printed of a plan is printed of the same plan by another name
+  pub says_as : (r : Result Said TillFault) (it other : Plan) (before : Place) (old : State) (after : Place) (new : State) → it ≡ other
+      → IfOk r (λ said. SaysPlan Tells Answers shows mark token giver json sheet other before old after new (string_bytes said.text) said.status)
+      → IfOk r (λ said. SaysPlan Tells Answers shows mark token giver json sheet it before old after new (string_bytes said.text) said.status)
+  says_as r it other before old after new same is =
+      subst (λ (p : Plan). IfOk r (λ said.
+      SaysPlan Tells Answers shows mark token giver json sheet p before old after new (string_bytes said.text) said.status))
+      (sym same) is
+
+  word_saying : (act : Act) (customer : Option ℕ) (place after : Place) (old mid new : State) (text : Text) (status : ℕ)
+      → IsPlaceOf place old → book.Stays old mid
+      → GivesSaying Tells Answers shows mark token giver json sheet act customer place mid after new text status
+      → GivesWordSaying Tells Answers shows mark token giver json sheet act customer old new text status
+  word_saying act customer place after old mid new text status is stays says = (
+    says.0,
+    says.1.0,
+    says.1.1,
+    (λ journal commands rests tills.
+        let counted = is journal rests in
+        (after, says.1.2 journal commands (record { rests = stays journal rests; book = tills; entries = counted.0; replies = counted.1 }))),
+    says.2,
+  )
+
+  as_plan : (it other : Plan) (before : Place) (old : State) (after : Place) (new : State) (text : Text) (status : ℕ) → it ≡ other
+      → SaysPlan Tells Answers shows mark token giver json sheet it before old after new text status
+      → SaysPlan Tells Answers shows mark token giver json sheet other before old after new text status
+  as_plan it other before old after new text status same says =
+      subst (λ (p : Plan). SaysPlan Tells Answers shows mark token giver json sheet p before old after new text status) same says
+
+  -- words of head office that only read
+  reading_says : (reads : Bool) (words : List Text) (it : Plan) (before : Place) (old : State) (after : Place) (new : State) (text : Text) (status : ℕ)
+      → it ≡ (if reads then plan.ReadOffice words else plan.Office words)
+      → SaysPlan Tells Answers shows mark token giver json sheet it before old after new text status
+      → IsTrue reads → SaysReading Answers token json words text status
+  reading_says true words it before old after new text status same says is = as_plan it (plan.ReadOffice words) before old after new text status same says
+  reading_says false words it before old after new text status same says is = absurd (false≢true is)
+
+  -- What is printed of the word's plan is printed of the word. The plan was made of the book as it was read.
+  pub word_says : (word : TillAct) (it : Plan) (place after : Place) (old read mid new : State) (text : Text) (status : ℕ)
+      → IsPlaceOf place old → book.Stays old read → book.Stays read mid → IsPlanOf sheet read word it
+      → SaysPlan Tells Answers shows mark token giver json sheet it place mid after new text status
+      → SaysWord Tells Answers shows mark token giver json sheet word old new text status
+  word_says (typed.Do what) it place after old read mid new text status is first second plans says = (
+    plans.0,
+    debtor_before what plans.0 old read first plans.1,
+    word_saying (seen_act what) plans.0 place after old mid new text status is (stays_both old read mid first second)
+        (as_plan it (plan.Give what plans.0) place mid after new text status plans.2 says),
+  )
+  word_says (typed.ReturnCopy copy) it place after old read mid new text status is first second plans says = (
+    plans.0,
+    returned_before sheet copy plans.0 old read first plans.1,
+    word_saying (seen_act (asked.TakeBack plans.0.rental)) (Some plans.0.customer) place after old mid new text status is (stays_both old read mid first second)
+        (as_plan it (plan.Give (asked.TakeBack plans.0.rental) (Some plans.0.customer)) place mid after new text status plans.2 says),
+  )
+  word_says (typed.Office words) it place after old read mid new text status is first second plans says =
+      λ reads. reading_says (is_reading words) words it place mid after new text status plans says reads
+  word_says typed.Send it place after old read mid new text status is first second plans says = tt
+  word_says (typed.Look look) it place after old read mid new text status is first second plans says = tt
+  word_says typed.Waiting it place after old read mid new text status is first second plans says = tt
+  word_says (typed.Last count) it place after old read mid new text status is first second plans says = tt
+  word_says (typed.Day asked) it place after old read mid new text status is first second plans says = tt
+  word_says (typed.Today date) it place after old read mid new text status is first second plans says = tt
+  word_says (typed.Again late) it place after old read mid new text status is first second plans says = tt
+  word_says typed.Slip it place after old read mid new text status is first second plans says = tt
+  word_says typed.Help it place after old read mid new text status is first second plans says =
+      as_plan it plan.Usage place mid after new text status plans says
+  word_says (typed.Zone name) it place after old read mid new text status is first second plans says =
+      as_plan it plan.Usage place mid after new text status plans says
+  word_says (typed.Init beginning) it place after old read mid new text status is first second plans says =
+      as_plan it plan.Usage place mid after new text status plans says
+  word_says (typed.Import file lot) it place after old read mid new text status is first second plans says =
+      as_plan it plan.Usage place mid after new text status plans says
+  word_says typed.Prompt it place after old read mid new text status is first second plans says =
+      as_plan it plan.Usage place mid after new text status plans says
