@@ -263,8 +263,9 @@ impl<D: InMemory> Book<D> {
         words: &str,
         told: &mut Texts,
     ) -> Result<bool, Fault> {
+        let again = typist;
         match self.tries(world, kit, typist, words, told) {
-            Ok(false) => self.tries_again(world, kit, typist, words, told),
+            Ok(false) => self.tries_again(world, kit, again, words, told),
             heard => heard,
         }
     }

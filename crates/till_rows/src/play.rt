@@ -136,9 +136,8 @@ impl<'x, D: InMemory, C: Counter> Play<'x, D, C> {
         }
     }
 
-    /// Types words at a window of the desk, which says who stands there and the wanted status.
-    fn types_at(&mut self, window: &str, words: &str) -> Result<(), Fault> {
-        let (staff, status) = window.split_once(' ').unwrap_or((window, ""));
+    /// Types words at the window of that member of staff, with the wanted status.
+    fn types_at(&mut self, staff: &str, status: &str, words: &str) -> Result<(), Fault> {
         self.begins(status)?;
         let typist = window_of(staff)?;
         self.types(typist, words)
@@ -147,7 +146,10 @@ impl<'x, D: InMemory, C: Counter> Play<'x, D, C> {
     /// Plays a line that begins a word or a request.
     fn speaks(&mut self, who: &str, words: &str) -> Result<(), Fault> {
         if let Some(window) = who.strip_prefix("window ") {
-            return self.types_at(window, words);
+            return match window.split_once(' ') {
+                Some((staff, status)) => self.types_at(staff, status, words),
+                None => self.types_at(window, "", words),
+            };
         }
         match who.strip_prefix("till") {
             Some(status) => {
