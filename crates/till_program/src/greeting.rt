@@ -12,7 +12,7 @@ use shop_types::{BranchNo, Moment, StaffNo};
 use std::alloc::{AllocError, Global};
 use std::time::Clock;
 use till_cashier::{Attendant, Desk, Line, TillFault, find_attendant, on_wall, read_sheet};
-use till_requests::{moment_at, zone_offset, zone_second};
+use till_requests::{Settings, moment_at, zone_offset, zone_second};
 use till_shows::moment_words;
 
 /// Returns the moment of the clock on the wall.
@@ -26,6 +26,14 @@ fn now_on_wall(rt: &HostRuntime, tools: &Tools) -> Result<Moment, TillFault> {
         return Err(TillFault::System);
     };
     Ok(on_wall(wall_zone(&tools.rules, zone), zone_offset(zone), now))
+}
+
+/// Returns the name of the settings' zone.
+fn zone_name(settings: &Settings) -> &str {
+    match &settings.zone {
+        Some(zone) => zone.name.as_str(),
+        None => "UTC",
+    }
 }
 
 /// Returns who stands there: `IDA LUND (staff 1)`, or `staff 1` if the name isn't known.
@@ -105,6 +113,24 @@ fn attendant_with<'x>(
     find_attendant(&desk, staff)
 }
 
+/// Returns the prompt's first line at the book with these tools.
+fn greeted<'x>(
+    rt: &'x HostRuntime,
+    book: &'x str,
+    tools: &'x Tools,
+    named: Option<StaffNo>,
+    line: Line,
+) -> Result<String, TillFault> {
+    let alloc = rt.alloc();
+    let now = moment_words(alloc, now_on_wall(rt, tools)?)?;
+    let zone = zone_name(&tools.settings);
+    let Some(own) = tools.settings.staff else {
+        return Ok(format!(in alloc; "head office's book, {now} ({zone})")?);
+    };
+    let who = attendant_with(rt, book, tools, named.unwrap_or(own), line);
+    Ok(greeting_line(alloc, &who, now.as_str(), zone)?)
+}
+
 /// Returns the prompt's first line: who is at the till, by name if the branch's sheet or the server's list of staff has the
 /// name, where that is, and when. At head office's book it names nobody.
 pub(crate) fn greeting(
@@ -113,17 +139,6 @@ pub(crate) fn greeting(
     named: Option<StaffNo>,
     line: Line,
 ) -> Result<String, TillFault> {
-    let alloc = rt.alloc();
     let tools = tools_of(rt, book)?;
-    let own = tools.settings.staff;
-    let now = moment_words(alloc, now_on_wall(rt, &tools)?)?;
-    let zone = match &tools.settings.zone {
-        Some(zone) => zone.name.as_str(),
-        None => "UTC",
-    };
-    let Some(own) = own else {
-        return Ok(format!(in alloc; "head office's book, {now} ({zone})")?);
-    };
-    let who = attendant_with(rt, book, &tools, named.unwrap_or(own), line);
-    Ok(greeting_line(alloc, &who, now.as_str(), zone)?)
+    greeted(rt, book, &tools, named, line)
 }

@@ -4,7 +4,7 @@ use crate::fault::Fault;
 use crate::kit::Kit;
 use crate::line::Counter;
 use crate::texts::Texts;
-use crate::word::{Input, Typist, type_at};
+use crate::word::{Typist, type_at};
 use crate::world::World;
 use sqlite::{Alter, Connection, FileStore, Files};
 use std::alloc::{AllocError, Global};
@@ -190,12 +190,13 @@ impl<D: InMemory> Book<D> {
         &mut self,
         world: &World,
         kit: &Kit<C>,
-        input: Input<'_>,
+        typist: Typist,
+        words: &str,
         told: &mut Texts,
     ) -> Result<bool, Fault> {
         let alloc = self.alloc;
         match &mut self.conn {
-            Some(conn) => type_at(alloc, world, kit, conn, input, told),
+            Some(conn) => type_at(alloc, world, kit, conn, typist, words, told),
             None => Err(NO_BOOK),
         }
     }
@@ -217,10 +218,11 @@ impl<D: InMemory> Book<D> {
         &mut self,
         world: &World,
         kit: &Kit<C>,
-        input: Input<'_>,
+        typist: Typist,
+        words: &str,
         told: &mut Texts,
     ) -> Result<bool, Fault> {
-        let is_heard = self.does(world, kit, input, told)?;
+        let is_heard = self.does(world, kit, typist, words, told)?;
         match self.count() {
             Some(rows) if is_heard => {
                 self.rows = rows;
@@ -236,19 +238,16 @@ impl<D: InMemory> Book<D> {
         &mut self,
         world: &World,
         kit: &Kit<C>,
-        input: Input<'_>,
+        typist: Typist,
+        words: &str,
         told: &mut Texts,
     ) -> Result<bool, Fault> {
         let before = self.rows;
         self.restart()?;
         if self.count() == Some(before) {
-            return self.tries(world, kit, input, told);
+            return self.tries(world, kit, typist, words, told);
         }
-        let send = Input {
-            typist: Typist::Till,
-            words: "send",
-        };
-        match self.tries(world, kit, send, told) {
+        match self.tries(world, kit, Typist::Till, "send", told) {
             Ok(_) => Ok(false),
             Err(fault) => Err(fault),
         }
@@ -260,11 +259,13 @@ impl<D: InMemory> Book<D> {
         &mut self,
         world: &World,
         kit: &Kit<C>,
-        input: Input<'_>,
+        typist: Typist,
+        words: &str,
         told: &mut Texts,
     ) -> Result<bool, Fault> {
-        match self.tries(world, kit, input, told) {
-            Ok(false) => self.tries_again(world, kit, input, told),
+        let again = typist;
+        match self.tries(world, kit, typist, words, told) {
+            Ok(false) => self.tries_again(world, kit, again, words, told),
             heard => heard,
         }
     }

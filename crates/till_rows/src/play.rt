@@ -7,7 +7,7 @@ use crate::fault::Fault;
 use crate::kit::Kit;
 use crate::line::{Counter, Cut};
 use crate::texts::{Texts, settle, settle_sure};
-use crate::word::{Input, Typist, window_of};
+use crate::word::{Typist, window_of};
 use crate::world::World;
 use std::alloc::Global;
 use std::mem;
@@ -106,11 +106,11 @@ impl<'x, D: InMemory, C: Counter> Play<'x, D, C> {
     }
 
     /// Types words.
-    fn types(&mut self, input: Input<'_>) -> Result<(), Fault> {
+    fn types(&mut self, typist: Typist, words: &str) -> Result<(), Fault> {
         let before = self.kit.begins(self.cut)?;
         self.is_heard = self
             .book
-            .types(self.world, self.kit, input, &mut self.told)?;
+            .types(self.world, self.kit, typist, words, &mut self.told)?;
         self.kit.repeats(before);
         Ok(())
     }
@@ -136,24 +136,25 @@ impl<'x, D: InMemory, C: Counter> Play<'x, D, C> {
         }
     }
 
-    /// Types words at a window of the desk, which says who stands there and the wanted status.
-    fn types_at(&mut self, window: &str, words: &str) -> Result<(), Fault> {
-        let (staff, status) = window.split_once(' ').unwrap_or((window, ""));
+    /// Types words at the window of that member of staff, with the wanted status.
+    fn types_at(&mut self, staff: &str, status: &str, words: &str) -> Result<(), Fault> {
         self.begins(status)?;
         let typist = window_of(staff)?;
-        self.types(Input { typist, words })
+        self.types(typist, words)
     }
 
     /// Plays a line that begins a word or a request.
     fn speaks(&mut self, who: &str, words: &str) -> Result<(), Fault> {
         if let Some(window) = who.strip_prefix("window ") {
-            return self.types_at(window, words);
+            return match window.split_once(' ') {
+                Some((staff, status)) => self.types_at(staff, status, words),
+                None => self.types_at(window, "", words),
+            };
         }
         match who.strip_prefix("till") {
             Some(status) => {
                 self.begins(status.trim_start())?;
-                let typist = Typist::Till;
-                self.types(Input { typist, words })
+                self.types(Typist::Till, words)
             }
             None => {
                 self.begins(who)?;

@@ -67,13 +67,6 @@ pub enum Typist {
     Window(StaffNo),
 }
 
-/// Words as they are typed, and who types them.
-#[derive(Clone, Copy)]
-pub struct Input<'w> {
-    pub typist: Typist,
-    pub words: &'w str,
-}
-
 /// Returns the window of the member of staff with that number.
 pub fn window_of(number: &str) -> Result<Typist, Fault> {
     match StaffNo::read(number.as_bytes()) {
@@ -109,7 +102,8 @@ fn read_input<C: Counter>(
     alloc: Global,
     world: &World,
     kit: &Kit<C>,
-    input: Input<'_>,
+    typist: Typist,
+    words: &str,
 ) -> Result<Typed, Fault> {
     let TillLine {
         book,
@@ -117,9 +111,9 @@ fn read_input<C: Counter>(
         act,
         is_sure,
         ..
-    } = read(alloc, input.words)?;
+    } = read(alloc, words)?;
     drop(book);
-    let (own, line) = match input.typist {
+    let (own, line) = match typist {
         Typist::Till => (None, till_cashier::Line::Open),
         Typist::Window(staff) => (Some(staff), kit.line()),
     };
@@ -245,13 +239,14 @@ pub fn type_at<'x, S: Alter, C: Counter>(
     world: &'x World,
     kit: &'x Kit<C>,
     conn: &mut Connection<S>,
-    input: Input<'_>,
+    typist: Typist,
+    words: &str,
     told: &mut Texts,
 ) -> Result<bool, Fault> {
     if !conn.is_autocommit() {
         return Err(NO_BOOK);
     }
-    let typed = read_input(alloc, world, kit, input)?;
+    let typed = read_input(alloc, world, kit, typist, words)?;
     let server = Line { wire: kit.wire() };
     let sheet = read_sheet(alloc, kit.shelf());
     at_desk(
