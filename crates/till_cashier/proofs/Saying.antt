@@ -1,5 +1,5 @@
 -- The title of a rent, and whose debt is said after a return.
-use Rattle.std.proofs.Common.{◌≡◌, ◌⊎◌, ◌∙◌, ◌++◌, ℕ, Bool, false, Option, None, Some, IfSome, sym, ap, subst, refl, inl, inr}
+use Rattle.std.proofs.Common.{◌≡◌, ◌∙◌, ◌++◌, ℕ, Bool, false, Option, None, Some, IfSome, sym, ap, subst, refl, inl, inr}
 use Rattle.std.specs.Prelude.{option_map}
 use Rattle.shop_model.specs.Answers.{Answer}
 use Rattle.shop_model.specs.Values.{Text, Act, AddCustomer, SetActive, Rent, TakeBack, Pay, Import, Dispatch, Receive, Scrap}
