@@ -13,6 +13,8 @@ pub enum Patience {
     Long,
     /// A connection is waited for 2 seconds and a reply 5, since other windows wait meanwhile.
     Short,
+    /// A connection is waited for a quarter of a second, and so is a reply, since somebody waits who has an answer already.
+    Brief,
 }
 
 /// How a word may use the line to the server.
