@@ -156,11 +156,11 @@ fn sure_at<S: Alter, K: WallClock, V: Server, L: Shelf, W: Write, E: Write>(
 }
 
 /// Does a word at an open book, and prints what it resulted in. If it was done, refused entries are made sure of after
-/// it, over the brief way to the server unless the word is `send`. What comes of that is printed, and what can't be asked
+/// it, with the least patience unless the word is `send`. What comes of that is printed, and what can't be asked
 /// now is left for another time.
 fn word_at<S: Alter, K: WallClock, V: Server, L: Shelf, W: Write, E: Write>(
     desk: &Desk<'_, K, V, L>,
-    brief: &V,
+    least: &V,
     conn: &mut Connection<S>,
     act: TillAct,
     watch: &mut Progress<'_>,
@@ -182,7 +182,7 @@ fn word_at<S: Alter, K: WallClock, V: Server, L: Shelf, W: Write, E: Write>(
             line,
         };
     }
-    let server = if is_send { desk.server } else { brief };
+    let server = if is_send { desk.server } else { least };
     Outcome {
         status,
         is_failed: sure_at(&desk.over(server), conn, is_send, out, err),
@@ -353,11 +353,11 @@ fn with_tools<'x, W: Write, E: Write>(
         rt,
         next: begun.saturating_add(Duration::from_secs(1)),
     };
-    let brief = Tcp {
-        patience: Patience::Brief,
+    let least = Tcp {
+        patience: Patience::Least,
         ..server
     };
-    word_at(&desk, &brief, conn, act, &mut watch, out, err)
+    word_at(&desk, &least, conn, act, &mut watch, out, err)
 }
 
 /// Does a word at the book of that name, prints what it resulted in, and returns its status and what it showed of the
@@ -424,7 +424,7 @@ fn perform_line<W: Write, E: Write>(
             Ok(Performed::at(status, way))
         }
         TillAct::Prompt if standing.asks == Asks::Window => {
-            let said = greeted(rt, book.as_str(), staff.or(standing.staff));
+            let said = greeted(rt, book.as_str(), staff.or(standing.staff), way.line);
             Ok(Performed::at(print(said, out, err), way))
         }
         TillAct::Help | TillAct::Prompt => Ok(Performed::at(print(help(rt), out, err), way)),
@@ -448,8 +448,13 @@ fn perform_line<W: Write, E: Write>(
 }
 
 /// Returns what a prompt says first.
-fn greeted(rt: &HostRuntime, book: &str, staff: Option<StaffNo>) -> Result<Said, TillFault> {
-    let line = greeting(rt, book, staff)?;
+fn greeted(
+    rt: &HostRuntime,
+    book: &str,
+    staff: Option<StaffNo>,
+    line: Line,
+) -> Result<Said, TillFault> {
+    let line = greeting(rt, book, staff, line)?;
     let mut said = Said::done(rt.alloc());
     said.line(line.as_str())?;
     Ok(said)

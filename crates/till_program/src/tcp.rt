@@ -21,7 +21,8 @@ fn connects(patience: Patience) -> Duration {
     match patience {
         Patience::Long => Duration::from_secs(10),
         Patience::Short => Duration::from_secs(2),
-        Patience::Brief => Duration::from_millis(250),
+        Patience::Brief => Duration::from_secs(1),
+        Patience::Least => Duration::from_millis(250),
     }
 }
 
@@ -30,7 +31,8 @@ fn replies(patience: Patience) -> Duration {
     match patience {
         Patience::Long => Duration::from_secs(40),
         Patience::Short => Duration::from_secs(5),
-        Patience::Brief => Duration::from_millis(250),
+        Patience::Brief => Duration::from_secs(1),
+        Patience::Least => Duration::from_millis(250),
     }
 }
 

@@ -13,8 +13,10 @@ pub enum Patience {
     Long,
     /// A connection is waited for 2 seconds and a reply 5, since other windows wait meanwhile.
     Short,
-    /// A connection is waited for a quarter of a second, and so is a reply, since somebody waits who has an answer already.
+    /// Each is waited for a second, since nothing is lost without the reply.
     Brief,
+    /// Each is waited for a quarter of a second, since somebody waits who has an answer already.
+    Least,
 }
 
 /// How a word may use the line to the server.
