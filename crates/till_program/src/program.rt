@@ -23,7 +23,7 @@ use std::fs;
 use std::io::Write;
 use std::time::{Clock, Duration};
 use till_cashier::{
-    Desk, Line, Inquiry, Said, Shelf, TillFault, WallClock, ask_before, do_word, make_sure,
+    Desk, Inquiry, Line, Said, Shelf, TillFault, WallClock, ask_before, do_word, make_sure,
     make_sure_soon, question, read_sheet, said_day,
 };
 use till_words::{FileName, TillAct, TillLine, asks_for_help, help_text, read_till_words};
