@@ -142,6 +142,27 @@ impl<K: WallClock, V: Server, L: Shelf> Desk<'_, K, V, L> {
         }
     }
 
+    /// Returns the desk with that way to the server.
+    pub fn over<'o>(&'o self, server: &'o V) -> Desk<'o, K, V, L>
+        ensures { result.server.now ≡ server.now }
+    {
+        Desk {
+            alloc: self.alloc,
+            clock: self.clock,
+            server,
+            shelf: self.shelf,
+            routes: self.routes,
+            settings: self.settings,
+            wall: self.wall,
+            sheet: self.sheet,
+            line: self.line,
+            staff: self.staff,
+            is_json: self.is_json,
+            is_sure: self.is_sure,
+            said_day: self.said_day,
+        }
+    }
+
     /// Asks over one connection.
     fn asked(&self, request: &[u8]) -> Result<Answer, TillFault>
         ensures { IfOk result (λ answer. IsAnswered (V.opens self.now.server.now) V.Reader.remaining V.Writer.contents

@@ -75,6 +75,8 @@ pub enum TillFault {
     ZoneBehind,
     /// The word can't be undone, and nobody said yes to it.
     Unsure,
+    /// The customer of that number has the name and the telephone number of the person who joins.
+    Joined(u64),
     /// The book has no entry, or its last one is long ago, and nobody said today's date.
     Undated,
     /// The date that was said isn't the clock's. Each is the number of its day.
@@ -100,6 +102,7 @@ impl TillFault {
             | TillFault::NoZone
             | TillFault::ZoneBehind
             | TillFault::Unsure
+            | TillFault::Joined(_)
             | TillFault::Undated
             | TillFault::OtherDay { .. }
             | TillFault::NoDate
@@ -190,6 +193,7 @@ impl TillFault {
                 "The last entry is ahead of that zone's clock, so the zone stays. Say the word again when that clock is past it: see last.",
             TillFault::Unsure =>
                 "That can't be undone, and nothing was entered. If it is to be done, say --yes before the word.",
+            TillFault::Joined(_) => "A customer has that name and phone, so nobody was added.",
             TillFault::Undated =>
                 "There is no entry yet, or the last one is more than 36 hours ago. Look at a calendar, and say today's date first: today YYYY-MM-DD.",
             TillFault::OtherDay { .. } => "That isn't the date of the till's clock.",
@@ -204,11 +208,22 @@ impl fmt::Display for TillFault {
         if let TillFault::Ahead(seconds) = self {
             return write!(f, " Wait {seconds} seconds, and say the word again.");
         }
+        if let TillFault::Joined(number) = self {
+            return write_joined(f, *number);
+        }
         if let TillFault::OtherDay { clock, said } = self {
             return write_days(f, *clock, *said);
         }
         Ok(())
     }
+}
+
+/// Writes which customer has the name and phone, and what to do.
+fn write_joined<W: fmt::Write>(f: &mut fmt::Formatter<W>, number: u64) -> fmt::Result {
+    write!(
+        f,
+        " It is customer {number}: if this is somebody else, say --yes before the word."
+    )
 }
 
 /// Writes a day as `2026-03-09`, by its number.

@@ -17,9 +17,14 @@ use crate::fault::TillFault;
 use crate::said::Said;
 use sqlite::{Alter, Connection};
 use std::alloc::Global;
+use std::time::Duration;
 use till_book::{EntryNumber, last_accepted, unsure_of};
+use till_client::Answer;
 use till_shows::reply_line;
 use till_work::{DeskFault, Server, Settled, settle};
+
+/// For how many milliseconds after a word another refused entry is asked about.
+const SOON: u64 = 500;
 
 /// Returns the numbers of the entries to make sure of, at most ten: those before the last accepted one that were
 /// refused, may still act, and may get another reply. The book stays.
@@ -43,6 +48,21 @@ fn open_entries<S: Alter>(
     }
 }
 
+/// Returns the line for a reply to an accepted entry. Head office's bodies are said as they are.
+fn settled_line<K: WallClock, V: Server, L: Shelf>(
+    desk: &Desk<'_, K, V, L>,
+    answer: &Answer,
+) -> Result<String, TillFault> {
+    let body = answer.body.as_slice();
+    if desk.settings.staff.is_some() {
+        return Ok(reply_line(desk.alloc, body)?);
+    }
+    match std::str::from_utf8(body) {
+        Ok(text) => Ok(String::from_str(desk.alloc, text)?),
+        Err(_) => Err(TillFault::Foreign),
+    }
+}
+
 /// Says which reply an entry got that was sent once more, if it has acted after all. Returns whether another may be
 /// sent.
 fn say_settled<K: WallClock, V: Server, L: Shelf>(
@@ -56,7 +76,7 @@ fn say_settled<K: WallClock, V: Server, L: Shelf>(
     match settled {
         Ok(Settled::Acted(answer)) => {
             let alloc = desk.alloc;
-            let line = reply_line(alloc, answer.body.as_slice())?;
+            let line = settled_line(desk, &answer)?;
             said.line(format!(in alloc;
                 "Entry {number} was refused at first, and was done all the same: {line}"
             )?.as_str())?;
@@ -109,13 +129,29 @@ fn settle_one<S: Alter, K: WallClock, V: Server, L: Shelf>(
     say_settled(desk, number, settled, said)
 }
 
-/// Makes sure of refused entries. After one that gets no answer, the rest is left for another time.
-fn settle_refused<S: Alter, K: WallClock, V: Server, L: Shelf>(
+/// Tests whether the clock has passed that time.
+fn is_over<K: WallClock, V: Server, L: Shelf>(
+    desk: &Desk<'_, K, V, L>,
+    end: Option<Duration>,
+) -> bool {
+    match end {
+        Some(end) => match desk.clock.monotonic() {
+            Ok(now) => now >= end,
+            Err(_) => true,
+        },
+        None => false,
+    }
+}
+
+/// Makes sure of refused entries. Leaves the rest for another time after one that gets no answer, and once the clock has
+/// passed the end. Reports whether it left none.
+pub(crate) fn settle_refused<S: Alter, K: WallClock, V: Server, L: Shelf>(
     desk: &Desk<'_, K, V, L>,
     conn: &mut Connection<S>,
     entries: &[EntryNumber],
+    end: Option<Duration>,
     said: &mut Said,
-) -> Result<(), TillFault>
+) -> Result<bool, TillFault>
     requires { conn.old.in_transaction ≡ false }
     ensures ended { conn.new.in_transaction ≡ false }
     ensures clean { HasCleanDisk (state S.Store conn.new) → HasCleanDisk (state S.Store conn.old) }
@@ -124,24 +160,23 @@ fn settle_refused<S: Alter, K: WallClock, V: Server, L: Shelf>(
         conn.old) (state S.Store conn.new) }
 {
     'entries: for entry in entries {
-        if entry.number == 0 {
-            return Ok(());
+        if entry.number == 0 || is_over(desk, end) {
+            return Ok(false);
         }
         match settle_one(desk, conn, entry.number, said) {
             Ok(true) => continue,
-            Ok(false) => return Ok(()),
+            Ok(false) => return Ok(false),
             Err(fault) => return Err(fault),
         }
     }
-    Ok(())
+    Ok(true)
 }
 
-/// Makes sure of some refused entries of a branch's book, if a later one was accepted. Says which of them have acted
-/// all the same. Nothing is entered or recorded but their settlements, unless the book failed. Head office's commands
-/// have no moment, so one that was refused could still be done: it isn't sent again. While the line is down nothing is.
-pub fn make_sure<S: Alter, K: WallClock, V: Server, L: Shelf>(
+/// Makes sure of some refused entries of a branch's book, until the clock has passed the end.
+fn make_sure_until<S: Alter, K: WallClock, V: Server, L: Shelf>(
     desk: &Desk<'_, K, V, L>,
     conn: &mut Connection<S>,
+    end: Option<Duration>,
     said: &mut Said,
 ) -> Result<(), TillFault>
     requires { conn.old.in_transaction ≡ false }
@@ -158,5 +193,59 @@ pub fn make_sure<S: Alter, K: WallClock, V: Server, L: Shelf>(
         return Ok(());
     }
     let entries = open_entries(desk.alloc, conn)?;
-    settle_refused(desk, conn, entries.as_slice(), said)
+    match settle_refused(desk, conn, entries.as_slice(), end, said) {
+        Ok(_) => {}
+        Err(fault) => return Err(fault),
+    }
+    Ok(())
+}
+
+/// Makes sure of some refused entries of a branch's book, if a later one was accepted. Says which of them have acted
+/// all the same. Nothing is entered or recorded but their settlements, unless the book failed. Head office's commands
+/// have no moment, so one that was refused could still be done: it isn't sent again here. While the line is down nothing
+/// is.
+pub fn make_sure<S: Alter, K: WallClock, V: Server, L: Shelf>(
+    desk: &Desk<'_, K, V, L>,
+    conn: &mut Connection<S>,
+    said: &mut Said,
+) -> Result<(), TillFault>
+    requires { conn.old.in_transaction ≡ false }
+    ensures ended { conn.new.in_transaction ≡ false }
+    ensures clean { HasCleanDisk (state S.Store conn.new) → HasCleanDisk (state S.Store conn.old) }
+    ensures same { HasCleanDisk (state S.Store conn.new) → IsBookKept result
+        → EntersNothing (IsTold (V.opens desk.now.server.now) V.Reader.remaining V.Writer.contents) (state S.Store
+        conn.old) (state S.Store conn.new) }
+    ensures keeps { HasCleanDisk (state S.Store conn.new) → IsBookKept result → (mark : Text)
+        → KeepsATillsBook (IsTold (V.opens desk.now.server.now) V.Reader.remaining V.Writer.contents) mark (state
+        S.Store conn.old) (state S.Store conn.new) }
+{
+    make_sure_until(desk, conn, None, said)
+}
+
+/// Does what `make_sure` does, but sends no entry later than half a second after the call. So a word's answer isn't
+/// held up for longer than that and one exchange.
+pub fn make_sure_soon<S: Alter, K: WallClock, V: Server, L: Shelf>(
+    desk: &Desk<'_, K, V, L>,
+    conn: &mut Connection<S>,
+    said: &mut Said,
+) -> Result<(), TillFault>
+    requires { conn.old.in_transaction ≡ false }
+    ensures ended { conn.new.in_transaction ≡ false }
+    ensures clean { HasCleanDisk (state S.Store conn.new) → HasCleanDisk (state S.Store conn.old) }
+    ensures same { HasCleanDisk (state S.Store conn.new) → IsBookKept result
+        → EntersNothing (IsTold (V.opens desk.now.server.now) V.Reader.remaining V.Writer.contents) (state S.Store
+        conn.old) (state S.Store conn.new) }
+    ensures keeps { HasCleanDisk (state S.Store conn.new) → IsBookKept result → (mark : Text)
+        → KeepsATillsBook (IsTold (V.opens desk.now.server.now) V.Reader.remaining V.Writer.contents) mark (state
+        S.Store conn.old) (state S.Store conn.new) }
+{
+    match desk.clock.monotonic() {
+        Ok(now) => make_sure_until(
+            desk,
+            conn,
+            Some(now.saturating_add(Duration::from_millis(SOON))),
+            said,
+        ),
+        Err(_) => Ok(()),
+    }
 }

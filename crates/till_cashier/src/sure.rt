@@ -8,7 +8,8 @@ use crate::clock::WallClock;
 use crate::commands::called;
 use crate::desk::Desk;
 use crate::fault::TillFault;
-use shop_types::{Act, Amount, Ask, CustomerNo, Moment};
+use crate::twice::namesake;
+use shop_types::{Act, Amount, Ask, CustomerNo, Moment, Person};
 use till_requests::look_request;
 use till_shows::{balance_line, is_covered, is_grave, owed_cents, question_on};
 use till_words::TillAct;
@@ -63,6 +64,25 @@ fn owed_by<K: WallClock, V: Server, L: Shelf>(
     Ok(Owed { cents, line })
 }
 
+/// What is asked before a word, and why the word isn't done if the answer isn't yes.
+#[derive(Drop)]
+pub struct Inquiry {
+    pub text: String,
+    pub fault: TillFault,
+}
+
+/// Returns the question before an act that can't be undone. `owed` is what is said of the customer before it.
+fn grave<K: WallClock, V: Server, L: Shelf>(
+    desk: &Desk<'_, K, V, L>,
+    act: &Act,
+    owed: &str,
+) -> Result<Option<Inquiry>, TillFault> {
+    Ok(Some(Inquiry {
+        text: question_on(desk.alloc, act, owed)?,
+        fault: TillFault::Unsure,
+    }))
+}
+
 /// Returns the question on a payment, or none if what is owed covers it. If what is owed can't be asked, it doesn't.
 fn on_payment<K: WallClock, V: Server, L: Shelf>(
     desk: &Desk<'_, K, V, L>,
@@ -70,15 +90,55 @@ fn on_payment<K: WallClock, V: Server, L: Shelf>(
     customer: CustomerNo,
     amount: Amount,
     last: Option<Moment>,
-) -> Result<Option<String>, TillFault> {
+) -> Result<Option<Inquiry>, TillFault> {
     let alloc = desk.alloc;
     match owed_by(desk, customer, last) {
         Ok(owed) if is_covered(amount, owed.cents) => Ok(None),
         Ok(owed) => {
             let line = format!(in alloc; "{}. ", owed.line)?;
-            Ok(Some(question_on(alloc, act, line.as_str())?))
+            grave(desk, act, line.as_str())
         }
-        Err(_) => Ok(Some(question_on(alloc, act, "")?)),
+        Err(_) => grave(desk, act, ""),
+    }
+}
+
+/// Returns the question on a person who joins, if the branch has a customer with that name and telephone number. If the
+/// list of customers can't be had, nothing is asked.
+fn on_join<K: WallClock, V: Server, L: Shelf>(
+    desk: &Desk<'_, K, V, L>,
+    person: &Person,
+) -> Result<Option<Inquiry>, TillFault> {
+    let Ok(Some(it)) = namesake(desk, person) else {
+        return Ok(None);
+    };
+    let (alloc, number) = (desk.alloc, it.number);
+    let text = format!(in alloc;
+        "Customer {number} is {}, with that phone. Is this somebody else? y/n ",
+        it.name
+    )?;
+    Ok(Some(Inquiry {
+        text,
+        fault: TillFault::Joined(number),
+    }))
+}
+
+/// Returns the question before an act, or none if the act may be entered without one.
+fn question_before<K: WallClock, V: Server, L: Shelf>(
+    desk: &Desk<'_, K, V, L>,
+    act: &Act,
+    last: Option<Moment>,
+) -> Result<Option<Inquiry>, TillFault> {
+    match act {
+        Act::Customer(new) => on_join(desk, &new.person),
+        Act::Pay {
+            customer,
+            amount,
+            ..
+        } if is_grave(act) => on_payment(desk, act, *customer, *amount, last),
+        Act::Scrap(_) | Act::Dispatch { .. } => grave(desk, act, ""),
+        Act::Receive { .. } if is_grave(act) => grave(desk, act, ""),
+        Act::Pay { .. } | Act::Receive { .. } | Act::Active { .. } => Ok(None),
+        Act::Rent { .. } | Act::TakeBack(_) | Act::Import { .. } => Ok(None),
     }
 }
 
@@ -88,23 +148,12 @@ pub fn question<K: WallClock, V: Server, L: Shelf>(
     desk: &Desk<'_, K, V, L>,
     act: &TillAct,
     last: Option<Moment>,
-) -> Result<Option<String>, TillFault> {
-    if desk.settings.staff.is_none() || !wants_yes(act) {
+) -> Result<Option<Inquiry>, TillFault> {
+    if desk.settings.staff.is_none() {
         return Ok(None);
     }
     match act {
-        TillAct::Do(act) => match act {
-            Act::Pay {
-                customer,
-                amount,
-                ..
-            } => on_payment(desk, act, *customer, *amount, last),
-            Act::Scrap(_) | Act::Dispatch { .. } | Act::Receive { .. } => {
-                Ok(Some(question_on(desk.alloc, act, "")?))
-            }
-            Act::Customer(_) | Act::Active { .. } | Act::Rent { .. } => Ok(None),
-            Act::TakeBack(_) | Act::Import { .. } => Ok(None),
-        },
+        TillAct::Do(act) => question_before(desk, act, last),
         TillAct::ReturnCopy(_) | TillAct::Office(_) | TillAct::Send | TillAct::Look(_) => Ok(None),
         TillAct::Waiting | TillAct::Last(_) | TillAct::Help | TillAct::Init(_) => Ok(None),
         TillAct::Import { .. } | TillAct::Prompt | TillAct::Zone(_) | TillAct::Day(_) => Ok(None),

@@ -13,7 +13,7 @@ use crate::init::begin;
 use crate::opening::{OpenBook, Tools, close_held, opened};
 use crate::prompt::prompt;
 use crate::tcp::Tcp;
-use crate::way::Way;
+use crate::way::{Patience, Way};
 use crate::zone_setting::set_zone;
 use crate::zones::wall_zone;
 use shop_types::{Act, Moment, StaffNo, StockFile, Usage};
@@ -23,8 +23,8 @@ use std::fs;
 use std::io::Write;
 use std::time::{Clock, Duration};
 use till_cashier::{
-    Desk, Line, Said, Shelf, TillFault, WallClock, ask_before, do_word, make_sure, question,
-    read_sheet, said_day,
+    Desk, Inquiry, Line, Said, Shelf, TillFault, WallClock, ask_before, do_word, make_sure,
+    make_sure_soon, question, read_sheet, said_day,
 };
 use till_words::{FileName, TillAct, TillLine, asks_for_help, help_text, read_till_words};
 use till_work::{Server, Watch};
@@ -129,10 +129,12 @@ fn has_failed(sure: &Result<(), TillFault>) -> bool
     matches!(sure, Err(TillFault::Book))
 }
 
-/// Makes sure of refused entries after a word, and prints what that results in. Returns whether the book failed.
+/// Makes sure of refused entries after a word, and prints what that results in. After `send` it takes its time. Returns
+/// whether the book failed.
 fn sure_at<S: Alter, K: WallClock, V: Server, L: Shelf, W: Write, E: Write>(
     desk: &Desk<'_, K, V, L>,
     conn: &mut Connection<S>,
+    is_send: bool,
     out: &mut W,
     err: &mut E,
 ) -> bool
@@ -144,15 +146,21 @@ fn sure_at<S: Alter, K: WallClock, V: Server, L: Shelf, W: Write, E: Write>(
         conn.old) (state S.Store conn.new) }
 {
     let mut more = Said::done(desk.alloc);
-    let sure = make_sure(desk, conn, &mut more);
+    let sure = if is_send {
+        make_sure(desk, conn, &mut more)
+    } else {
+        make_sure_soon(desk, conn, &mut more)
+    };
     print(Ok(more), out, err);
     has_failed(&sure)
 }
 
 /// Does a word at an open book, and prints what it resulted in. If it was done, refused entries are made sure of after
-/// it: what comes of that is printed, and what can't be asked now is left for another time.
+/// it, with the least patience unless the word is `send`. What comes of that is printed, and what can't be asked
+/// now is left for another time.
 fn word_at<S: Alter, K: WallClock, V: Server, L: Shelf, W: Write, E: Write>(
     desk: &Desk<'_, K, V, L>,
+    least: &V,
     conn: &mut Connection<S>,
     act: TillAct,
     watch: &mut Progress<'_>,
@@ -174,9 +182,10 @@ fn word_at<S: Alter, K: WallClock, V: Server, L: Shelf, W: Write, E: Write>(
             line,
         };
     }
+    let server = if is_send { desk.server } else { least };
     Outcome {
         status,
-        is_failed: sure_at(desk, conn, out, err),
+        is_failed: sure_at(&desk.over(server), conn, is_send, out, err),
         line,
     }
 }
@@ -234,8 +243,8 @@ pub fn says_yes<W: Write>(rt: &HostRuntime, question: &str, out: &mut W) -> bool
 enum Consent {
     /// The word is to be done: it can be undone, or what is owed covers it, or the answer was yes.
     Given,
-    /// Nobody said yes to it.
-    Missing,
+    /// Nobody said yes to it, for which this is the fault.
+    Missing(TillFault),
     /// The window is to ask this.
     Asked(String),
 }
@@ -251,12 +260,12 @@ fn ask_consent<K: WallClock, V: Server, L: Shelf, W: Write>(
 ) -> Consent {
     match question(desk, act, last) {
         Ok(None) => Consent::Given,
-        Ok(Some(question)) => match asks {
-            Asks::Window => Consent::Asked(question),
-            Asks::Prompt if says_yes(rt, question.as_str(), out) => Consent::Given,
-            Asks::Prompt | Asks::Nobody => Consent::Missing,
+        Ok(Some(Inquiry { text, fault })) => match asks {
+            Asks::Window => Consent::Asked(text),
+            Asks::Prompt if says_yes(rt, text.as_str(), out) => Consent::Given,
+            Asks::Prompt | Asks::Nobody => Consent::Missing(fault),
         },
-        Err(_) => Consent::Missing,
+        Err(_) => Consent::Missing(TillFault::Unsure),
     }
 }
 
@@ -332,7 +341,10 @@ fn with_tools<'x, W: Write, E: Write>(
     if !is_sure {
         match ask_consent(rt, &desk, &act, asks, asked.last, out) {
             Consent::Given => desk.is_sure = true,
-            Consent::Missing => {}
+            Consent::Missing(TillFault::Joined(number)) => {
+                return not_done(TillFault::Joined(number), way.line, out, err);
+            }
+            Consent::Missing(_) => {}
             Consent::Asked(question) => return question_outcome(question.as_str(), way.line, out),
         }
     }
@@ -341,7 +353,11 @@ fn with_tools<'x, W: Write, E: Write>(
         rt,
         next: begun.saturating_add(Duration::from_secs(1)),
     };
-    word_at(&desk, conn, act, &mut watch, out, err)
+    let least = Tcp {
+        patience: Patience::Least,
+        ..server
+    };
+    word_at(&desk, &least, conn, act, &mut watch, out, err)
 }
 
 /// Does a word at the book of that name, prints what it resulted in, and returns its status and what it showed of the

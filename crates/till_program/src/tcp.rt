@@ -22,6 +22,7 @@ fn connects(patience: Patience) -> Duration {
         Patience::Long => Duration::from_secs(10),
         Patience::Short => Duration::from_secs(2),
         Patience::Brief => Duration::from_secs(1),
+        Patience::Least => Duration::from_millis(250),
     }
 }
 
@@ -31,6 +32,7 @@ fn replies(patience: Patience) -> Duration {
         Patience::Long => Duration::from_secs(40),
         Patience::Short => Duration::from_secs(5),
         Patience::Brief => Duration::from_secs(1),
+        Patience::Least => Duration::from_millis(250),
     }
 }
 

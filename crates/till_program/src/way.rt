@@ -15,6 +15,8 @@ pub enum Patience {
     Short,
     /// Each is waited for a second, since nothing is lost without the reply.
     Brief,
+    /// Each is waited for a quarter of a second, since somebody waits who has an answer already.
+    Least,
 }
 
 /// How a word may use the line to the server.
