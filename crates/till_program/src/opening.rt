@@ -9,6 +9,7 @@ use counter_routes::Routes;
 use jiff_tz::TimeZoneDatabase;
 use sqlite::{Connection, FileStore};
 use sqlite_std_file::File;
+use till_book::read_end;
 use till_cashier::TillFault;
 use till_files::close_book;
 use till_requests::Settings;
@@ -62,6 +63,17 @@ impl OpenBook {
     /// Returns the server's address, as the book's settings have it.
     pub fn address(&self) -> &str {
         self.tools.settings.address.as_str()
+    }
+
+    /// Tests whether an entry of the book waits for its reply. In a book that can't be read none does.
+    pub(crate) fn has_waiting(&mut self) -> bool
+        requires { self.old.conn.in_transaction ≡ false }
+        ensures { self.new.conn.in_transaction ≡ false }
+    {
+        match read_end(&mut self.conn) {
+            Ok(end) => end.replies < end.entries,
+            Err(_) => false,
+        }
     }
 
     /// Closes the book: another window may have it.

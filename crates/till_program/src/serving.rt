@@ -15,7 +15,6 @@ use std::io::{self, ErrorKind};
 use std::net::{SocketAddr, TcpListener, TcpStream};
 use std::os::fd::AsRawFd;
 use std::time::{Clock, Duration};
-use till_book::read_end;
 use till_cashier::Line;
 
 /// How many connections there are at most.
@@ -253,13 +252,12 @@ fn first_line(held: &mut Option<OpenBook>) -> Line
     requires { IfSome held.old (λ book. book.conn.in_transaction ≡ false) }
     ensures { IfSome held.new (λ book. book.conn.in_transaction ≡ false) }
 {
-    let Some(book) = held else {
+    let Some(mut book) = held.take() else {
         return Line::Open;
     };
-    match read_end(&mut book.conn) {
-        Ok(end) if end.replies < end.entries => Line::Down,
-        Ok(_) | Err(_) => Line::Open,
-    }
+    let has_waiting = book.has_waiting();
+    *held = Some(book);
+    if has_waiting { Line::Down } else { Line::Open }
 }
 
 /// Sends what waits. Returns what is known of the line after that.

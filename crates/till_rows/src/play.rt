@@ -139,8 +139,10 @@ impl<'x, D: InMemory, C: Counter> Play<'x, D, C> {
     /// Types words at the window of that member of staff, with the wanted status.
     fn types_at(&mut self, staff: &str, status: &str, words: &str) -> Result<(), Fault> {
         self.begins(status)?;
-        let typist = window_of(staff)?;
-        self.types(typist, words)
+        match window_of(staff) {
+            Some(typist) => self.types(typist, words),
+            None => Err(Fault::Line("a member of staff is wanted")),
+        }
     }
 
     /// Plays a line that begins a word or a request.

@@ -67,11 +67,11 @@ pub enum Typist {
     Window(StaffNo),
 }
 
-/// Returns the window of the member of staff with that number.
-pub fn window_of(number: &str) -> Result<Typist, Fault> {
+/// Returns the window of the member of staff with that number, or none if that is no number of staff.
+pub fn window_of(number: &str) -> Option<Typist> {
     match StaffNo::read(number.as_bytes()) {
-        Some(staff) => Ok(Typist::Window(staff)),
-        None => Err(Fault::Line("a member of staff is wanted")),
+        Some(staff) => Some(Typist::Window(staff)),
+        None => None,
     }
 }
 
