@@ -8,7 +8,8 @@ use Rattle.till_work.specs.Settling.{OfEntry}
 use Rattle.till_work.specs.Told.{IsTold, IsToldAt, AreTold, IsSettledAt, AreSettled}
 use Rattle.till_work.specs.Desk.{Extends}
 use Rattle.till_and_server.specs.Streams.{Streams}
-use Rattle.till_and_server.specs.Lives.{ServedLife, WasRecorded, WereRecorded, WereNoted}
+use Rattle.till_and_server.specs.ServedLives.{ServedLife}
+use Rattle.till_and_server.specs.Lives.{WasRecorded, WereRecorded, WereNoted}
 use Rattle.till_and_server.specs.Laws.{AreAnswered, ExtendedBooksStayRecorded, WordsReachTheDisk}
 use Rattle.till_and_server.proofs.Recorded.{still_at, was_recorded}
 use Rattle.till_and_server.proofs.Settled.{settled_to_disk}
