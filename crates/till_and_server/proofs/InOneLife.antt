@@ -1,8 +1,8 @@
 -- What a branch is sent and sees in one life is what it is sent and sees in a history without stops.
-use Rattle.shop_model.proofs.Common.{◌≡◌, ◌∙◌, inl, inr, ℕ, List, [], ◌∷◌, ◌++◌, map, filter, Bool, true, refl, sym, ap, ap₂, cases_Bool, append-nil, filter-append}
-use Rattle.shop_model.proofs.Common.{◌==◌, if◌then◌else◌, Act, Dispatch, Rules, verdict, office_verdict, Request, Do, Office, Input, FromOffice, Own, Books, Event}
-use Rattle.shop_model.proofs.Common.{Caller, Counter, HeadOffice, Nobody, shop_of, caller_in, is_counter, after, parcel_seen, other_seen, office_seen, seen_of}
-use Rattle.shop_model.proofs.Common.{view, counted_in, history_of, answered_of}
+use Rattle.shop_model.proofs.Common.{◌≡◌, ◌∙◌, inl, inr, ℕ, List, [], ◌∷◌, ◌++◌, map, filter, Bool, true, refl, sym, ap, ap₂, cases_Bool, append-nil}
+use Rattle.shop_model.proofs.Common.{filter-append, ◌==◌, if◌then◌else◌, Act, Dispatch, Rules, verdict, office_verdict, Request, Do, Office, Input}
+use Rattle.shop_model.proofs.Common.{FromOffice, Own, Books, Event, Caller, Counter, HeadOffice, Nobody, shop_of, caller_in, is_counter, after, parcel_seen}
+use Rattle.shop_model.proofs.Common.{other_seen, office_seen, seen_of, view, counted_in, history_of, answered_of}
 use Rattle.shop_model.proofs.SameStates.{by_verdict}
 use Rattle.counter_http.specs.Branches.{sent_to}
 use Rattle.till_and_server.specs.ServedLives.{life_of}

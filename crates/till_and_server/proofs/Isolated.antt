@@ -1,8 +1,8 @@
 -- A branch is sent the same over any lives of a chain in which it sees the same.
-use Rattle.shop_model.proofs.Common.{◌≡◌, ◌∙◌, inl, inr, ℕ, List, [], ◌∷◌, ◌++◌, map, Bool, true, false, refl, sym, ap, ap₂, cases_Bool, append_assoc, flat_map}
-use Rattle.shop_model.proofs.Common.{OfficeAsk, Rules, Reply, Input, Answer, answer_of, Books, Event, state_of, state_after, caller_in, is_counter, after, reply_in}
-use Rattle.shop_model.proofs.Common.{run, replies_to, last_books, view, HasNumbers, counted_in, IsRun, marked_ones, Life, in_flight, acted_in, Lives, history_of}
-use Rattle.shop_model.proofs.Common.{answered_of}
+use Rattle.shop_model.proofs.Common.{◌≡◌, ◌∙◌, inl, inr, ℕ, List, [], ◌∷◌, ◌++◌, map, Bool, true, false, refl, sym, ap, ap₂, cases_Bool, append_assoc}
+use Rattle.shop_model.proofs.Common.{flat_map, OfficeAsk, Rules, Reply, Input, Answer, answer_of, Books, Event, state_of, state_after, caller_in, is_counter}
+use Rattle.shop_model.proofs.Common.{after, reply_in, run, replies_to, last_books, view, HasNumbers, counted_in, IsRun, marked_ones, Life, in_flight}
+use Rattle.shop_model.proofs.Common.{acted_in, Lives, history_of, answered_of}
 use Rattle.std.proofs.lemmas.List.Concat.{flat_map-append}
 use Rattle.shop_model.proofs.Histories.{last_append}
 use Rattle.shop_model.proofs.Isolation.{alone, isolated}
