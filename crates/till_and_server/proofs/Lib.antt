@@ -10,4 +10,3 @@ pub mod Witnesses
 pub mod Settled
 pub mod Extending
 pub mod Isolated
-pub mod InOneLife

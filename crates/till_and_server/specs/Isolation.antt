@@ -1,8 +1,8 @@
 -- What a branch is sent over a chain's lives, and that it depends on nothing but what concerns the branch.
-use Rattle.std.specs.Prelude.{◌≡◌, ◌++◌, ℕ, Bool, true, false, if◌then◌else◌, List, [], ◌∷◌, map, filter}
+use Rattle.std.specs.Prelude.{◌≡◌, ◌++◌, ℕ, Bool, true, false, List, [], ◌∷◌, map}
 use Rattle.shop_model.specs.Values.{OfficeAsk, Rules}
-use Rattle.shop_model.specs.Machine.{Input, Own, Reply}
-use Rattle.shop_model.specs.Books.{Books, Event, is_counter, caller_in, after, last_books, state_of, view}
+use Rattle.shop_model.specs.Machine.{Request, Input, Own, Reply}
+use Rattle.shop_model.specs.Books.{Books, Event, after, last_books, state_of, view}
 use Rattle.shop_model.specs.Sound.{HasNumbers}
 use Rattle.shop_model.specs.SameStates.{SameState}
 use Rattle.shop_model.specs.Stops.{Lives, acted_in, history_of, answered_of}
@@ -16,25 +16,30 @@ sent_over rules b [] books = []
 sent_over rules b (life ∷ lives) books =
     sent_to life.meaning rules b life.exchanges books ++ sent_over rules b lives (last_books rules (acted_in (life_of life)) books)
 
--- the marks of the branch's own requests in a history; the catalogue at the time of each request says whose the request is
-abbrev pub own_marks : Rules → ℕ → List Event → List Bool → Books → List Bool
-own_marks rules b (event ∷ events) (mark ∷ marks) books =
-    if is_counter b (caller_in event books) then mark ∷ own_marks rules b events marks (after rules event books)
-    else own_marks rules b events marks (after rules event books)
-own_marks rules b events marks books = []
+-- ---- what a branch saw
 
--- What a branch saw over all lives. `inputs` are its own requests, head office's accepted commands, and the consignments sent to it, in their order.
--- A request in flight at a stop is an input only if it acted. `answered` says of each of the branch's own requests among the inputs whether its reply was sent:
--- the reply to a request in flight wasn't. The view has no other request, and no reply.
-pub record Seen : Type 0 where
-  pub inputs : List Input
-  pub answered : List Bool
+-- A branch sees its own requests, head office's accepted commands, and the consignments sent to it. It sees no reply to another caller, and its view doesn't
+-- have its own replies.
+pub data Sight : Type 0 where
+  Sees : Input → Sight  -- if it is a request of the branch's own, its reply was sent
+  Unanswered : Request → Sight  -- a request of the branch's own that was in flight at a stop, and acted
 
-abbrev pub seen_over : Rules → ℕ → List ServedLife → Books → Seen
-seen_over rules b lives books = record {
-  inputs = view rules b (history_of (lives_of lives)) books;
-  answered = own_marks rules b (history_of (lives_of lives)) (answered_of (lives_of lives)) books;
-}
+-- Of an input, by whether the request that it came of was answered. Nobody but its caller knows whether a request was answered.
+abbrev pub sight_of : Bool → Input → Sight
+sight_of true input = Sees input
+sight_of false (Own request) = Unanswered request
+sight_of false input = Sees input
+
+abbrev pub sights : Rules → ℕ → List Event → List Bool → Books → List Sight
+sights rules b (event ∷ events) (answered ∷ more) books =
+    map (sight_of answered) (view rules b (event ∷ []) books) ++ sights rules b events more (after rules event books)
+sights rules b events more books = []
+
+-- What the branch saw over all lives, in order: of each request that was answered, or was in flight and acted, its part.
+abbrev pub seen_over : Rules → ℕ → List ServedLife → Books → List Sight
+seen_over rules b lives books = sights rules b (history_of (lives_of lives)) (answered_of (lives_of lives)) books
+
+-- ---- two lists of lives
 
 -- Two chains' books agree on what concerns the branch: the catalogue and the branch's shop. Each may have kept commands, received lots and cast actors in an
 -- order of its own. The rows of both are numbered, as the rows of sound books are.
@@ -57,18 +62,29 @@ LivesSendTheSame =
     → BooksAgreeOn b old other → seen_over rules b lives old ≡ seen_over rules b others other
     → IsSentTheSame rules b lives others old new other another
 
+-- ---- requests that a branch sent again
+
+-- The second view is the first without requests in flight that the branch sent again before it saw anything else. A request may be in flight several times.
+pub data IsWithoutResent : List Sight → List Sight → Type 0 where
+  nothing : IsWithoutResent [] []
+  stays : (sight : Sight) (xs ys : List Sight) → IsWithoutResent xs ys → IsWithoutResent (sight ∷ xs) (sight ∷ ys)
+  goes : (request : Request) (answered : Bool) (xs ys : List Sight) → IsWithoutResent (sight_of answered (Own request) ∷ xs) ys
+      → IsWithoutResent (Unanswered request ∷ sight_of answered (Own request) ∷ xs) ys
+
+-- If a branch sends a request in flight again before it sees anything else, it is sent the same bytes whether that request had acted or not.
+abbrev pub ResentRequestsSendTheSame : Type 0
+ResentRequestsSendTheSame =
+    (rules : Rules) (look second : OfficeAsk → Books → Reply) (b : ℕ) (lives others : List ServedLife) (old new other another : Books)
+    → Lives rules look (lives_of lives) old new → Lives rules second (lives_of others) other another
+    → BooksAgreeOn b old other → (seen : List Sight) → IsWithoutResent (seen_over rules b lives old) seen → IsWithoutResent (seen_over rules b others other) seen
+    → IsSentTheSame rules b lives others old new other another
+
 -- ---- one life
 
--- the input is a request of the branch's own
-abbrev pub is_own : Input → Bool
-is_own (Own request) = true
-is_own input = false
-
--- The bytes and the inputs are what the exchanges give as one history, and each own request was answered.
+-- the bytes are what the exchanges send as one history, and the branch sees its view of that history
 pub record IsAsOneHistory (rules : Rules) (b : ℕ) (life : ServedLife) (old : Books) : Type 0 where
   pub sent : sent_over rules b (life ∷ []) old ≡ sent_to life.meaning rules b life.exchanges old
-  pub inputs : (seen_over rules b (life ∷ []) old).inputs ≡ seen_of life.meaning rules b life.exchanges old
-  pub answered : (seen_over rules b (life ∷ []) old).answered ≡ map (λ _. true) (filter is_own (seen_of life.meaning rules b life.exchanges old))
+  pub seen : seen_over rules b (life ∷ []) old ≡ map (λ input. Sees input) (seen_of life.meaning rules b life.exchanges old)
 
 -- Suppose that no request in flight acted. Then a branch was sent and saw in one life what it would be sent and see in a history without stops.
 abbrev pub OneLifeIsOneHistory : Type 0

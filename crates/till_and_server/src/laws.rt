@@ -1,7 +1,7 @@
 //! Laws. Each is the contract of a function that does nothing.
 
 ghost use Rattle.till_and_server.specs.Laws.{RunsHaveExchanges, OneMessageIsRead, OneAnswerIsRead, OneEventIsRun, RunsAreLives, ServedOverAStop, OneAmongMany, ExchangesAreAnswered, DeliveriesAreRecorded, ExchangesAreWitnesses, TillAndServer, SettlementsAreNoted, SettledTillAndServer, ExtendedBooksStayRecorded, WordsReachTheDisk};
-ghost use Rattle.till_and_server.specs.Isolation.{LivesSendTheSame, OneLifeIsOneHistory};
+ghost use Rattle.till_and_server.specs.Isolation.{LivesSendTheSame, ResentRequestsSendTheSame, OneLifeIsOneHistory};
 
 use sqlite::Alter;
 use till_work::Server;
@@ -94,10 +94,16 @@ pub fn words_reach_the_disk<V: Server>(server: &V)
 }
 
 /// Two chains with the same limits live any lives, each with its own stops. Their books begin alike for a branch. If the
-/// branch sees the same over all lives, it is sent the same bytes. Its view says of each of its own requests that acted
-/// whether the reply was sent. Afterwards the books are alike for the branch again.
+/// branch sees the same over all lives, it is sent the same bytes. Its view says which of its own requests acted without
+/// a reply. Afterwards the books are alike for the branch again.
 pub fn lives_send_the_same()
     ensures { LivesSendTheSame }
+{}
+
+/// The same law for a branch that sends a request in flight again before it sees anything else. It is sent the same bytes
+/// whether that request had acted or not.
+pub fn resent_requests_send_the_same()
+    ensures { ResentRequestsSendTheSame }
 {}
 
 /// Suppose that no request in flight acted. Then a branch is sent and sees in one life what it is sent and sees in a
