@@ -1,9 +1,9 @@
 -- A branch is sent the same over any lives of a chain in which it sees the same.
-use Rattle.shop_model.proofs.Common.{◌≡◌, ◌∙◌, ℕ, List, [], ◌∷◌, ◌++◌, map, Bool, true, false, refl, sym, ap, ap₂, subst, append_assoc, append-nil, map-append}
-use Rattle.shop_model.proofs.Common.{flat_map, Verdict, filter, bytes_eq, OfficeAsk, Command, Rules, Kept, Again, verdict, first, refusals, resent, reply_text, done, if_accepted}
-use Rattle.shop_model.proofs.Common.{Request, Do, Input, FromOffice, Arrive, Own, Reply, State, moved, answers, replies, reply_by, state_after, Answer, answer_of}
-use Rattle.shop_model.proofs.Common.{Books, Event, Accepted, state_of, caller_in, seen_of, after, last_books, view, HasNumbers, counted_in, Life, in_flight, acted_in, Lives}
-use Rattle.shop_model.proofs.Common.{history_of, answered_of}
+use Rattle.shop_model.proofs.Common.{◌≡◌, ◌∙◌, ℕ, List, [], ◌∷◌, ◌++◌, map, Bool, true, false, refl, sym, ap, ap₂, subst, append_assoc, append-nil}
+use Rattle.shop_model.proofs.Common.{map-append, flat_map, Verdict, filter, bytes_eq, OfficeAsk, Command, Rules, Kept, Again, verdict, first, refusals}
+use Rattle.shop_model.proofs.Common.{resent, reply_text, done, if_accepted, Request, Do, Input, FromOffice, Arrive, Own, Reply, State, moved, answers}
+use Rattle.shop_model.proofs.Common.{replies, reply_by, state_after, Answer, answer_of, Books, Event, Accepted, state_of, caller_in, seen_of, after}
+use Rattle.shop_model.proofs.Common.{last_books, view, HasNumbers, counted_in, Life, in_flight, acted_in, Lives, history_of, answered_of}
 use Rattle.std.proofs.lemmas.List.Concat.{flat_map-append}
 use Rattle.shop_model.specs.SameStates.{SameState}
 use Rattle.shop_model.proofs.Accepted.{none_kept}

@@ -71,12 +71,13 @@ pub data IsWithoutResent : List Sight → List Sight → Type 0 where
   goes : (request : Request) (answered : Bool) (xs ys : List Sight) → IsWithoutResent (sight_of answered (Own request) ∷ xs) ys
       → IsWithoutResent (Unanswered request ∷ sight_of answered (Own request) ∷ xs) ys
 
--- If a branch sends a request in flight again before it sees anything else, it is sent the same bytes whether that request had acted or not.
+-- A branch may send a request in flight again before it sees anything else. Then it is sent the same bytes whether that request had acted or not.
 abbrev pub ResentRequestsSendTheSame : Type 0
 ResentRequestsSendTheSame =
     (rules : Rules) (look second : OfficeAsk → Books → Reply) (b : ℕ) (lives others : List ServedLife) (old new other another : Books)
     → Lives rules look (lives_of lives) old new → Lives rules second (lives_of others) other another
-    → BooksAgreeOn b old other → (seen : List Sight) → IsWithoutResent (seen_over rules b lives old) seen → IsWithoutResent (seen_over rules b others other) seen
+    → BooksAgreeOn b old other
+    → (seen : List Sight) → IsWithoutResent (seen_over rules b lives old) seen → IsWithoutResent (seen_over rules b others other) seen
     → IsSentTheSame rules b lives others old new other another
 
 -- ---- one life
