@@ -163,7 +163,11 @@ fn shown<S: Alter, K: WallClock, V: Server, L: Shelf>(
         return Err(TillFault::Drawer);
     }
     let waiting = book.place.entries.saturating_sub(book.place.replies);
-    let said = says(desk.alloc, last.at, waiting, &drawer.tally)?;
+    let closed = match last.at {
+        Some(at) => Some(desk.on_wall(at)),
+        None => None,
+    };
+    let said = says(desk.alloc, closed, waiting, &drawer.tally)?;
     Ok(DrawerSaid { drawer, said })
 }
 
@@ -197,18 +201,24 @@ fn close<S: Alter, K: WallClock, V: Server, L: Shelf>(
     let DrawerSaid { drawer, mut said } = shown(desk, conn, book)?;
     let closing = closing_of(desk.now()?, drawer, counted);
     add_closing(desk.alloc, desk.shelf, &closing)?;
-    let line = closing_line(desk.alloc, closing.at, closing.expected, closing.counted)?;
+    let at = desk.on_wall(closing.at);
+    let line = closing_line(desk.alloc, at, closing.expected, closing.counted)?;
     said.line(line.as_str())?;
     Ok(said)
 }
 
-/// Says how the drawer was closed on a day.
-fn closings_on<L: Shelf>(alloc: Global, shelf: &L, day: &str) -> Result<Said, TillFault> {
-    let closings = closings(alloc, shelf)?;
+/// Says how the drawer was closed on a day by the clock on the wall.
+fn closings_on<K: WallClock, V: Server, L: Shelf>(
+    desk: &Desk<'_, K, V, L>,
+    day: &str,
+) -> Result<Said, TillFault> {
+    let alloc = desk.alloc;
+    let closings = closings(alloc, desk.shelf)?;
     let mut said = Said::done(alloc);
     for it in closings.as_slice() {
-        if it.at.text().as_slice().starts_with(day.as_bytes()) {
-            let line = closing_line(alloc, it.at, it.expected, it.counted)?;
+        let at = desk.on_wall(it.at);
+        if at.text().as_slice().starts_with(day.as_bytes()) {
+            let line = closing_line(alloc, at, it.expected, it.counted)?;
             said.line(line.as_str())?;
         }
     }
@@ -234,6 +244,6 @@ pub(crate) fn day<S: Alter, K: WallClock, V: Server, L: Shelf>(
     match asked {
         Drawer::Since => since(desk, conn, book),
         Drawer::Close(cents) => close(desk, conn, book, cents),
-        Drawer::Closings(day) => closings_on(desk.alloc, desk.shelf, day.as_str()),
+        Drawer::Closings(day) => closings_on(desk, day.as_str()),
     }
 }

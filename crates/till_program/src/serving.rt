@@ -15,6 +15,7 @@ use std::io::{self, ErrorKind};
 use std::net::{SocketAddr, TcpListener, TcpStream};
 use std::os::fd::AsRawFd;
 use std::time::{Clock, Duration};
+use till_book::read_end;
 use till_cashier::Line;
 
 /// How many connections there are at most.
@@ -234,7 +235,7 @@ impl Desk {
         requires { IfSome held.old (λ book. book.conn.in_transaction ≡ false) }
         ensures { IfSome held.new (λ book. book.conn.in_transaction ≡ false) }
     {
-        let mut line = Line::Open;
+        let mut line = first_line(held);
         'rounds: for _ in 0..u64::MAX {
             if !self.arrivals(rt, listener) || !self.wait(rt, line) {
                 return;
@@ -243,6 +244,21 @@ impl Desk {
             self.try_line(rt, desk, &mut line, held);
             close_if_asked(rt, held);
         }
+    }
+}
+
+/// Returns what a desk takes the line for at its start. If an entry of its book waits, the line is taken for down: then
+/// the desk tries the server, and sends what waits.
+fn first_line(held: &mut Option<OpenBook>) -> Line
+    requires { IfSome held.old (λ book. book.conn.in_transaction ≡ false) }
+    ensures { IfSome held.new (λ book. book.conn.in_transaction ≡ false) }
+{
+    let Some(book) = held else {
+        return Line::Open;
+    };
+    match read_end(&mut book.conn) {
+        Ok(end) if end.replies < end.entries => Line::Down,
+        Ok(_) | Err(_) => Line::Open,
     }
 }
 
@@ -284,7 +300,7 @@ fn send_waiting(rt: &HostRuntime, desk: &DeskBook, line: Line, held: &mut Option
 /// Words are done one after another, each when it has come whole. A window that is silent or slow is disconnected after
 /// ten seconds. If all 256 places are taken, the window that has been silent longest gives way. After a word that got no
 /// reply from the server, further words are entered without being sent. The desk tries the server every three seconds
-/// then, and sends what waits once it answers. If another process asks for the book, the desk closes it, and opens it
+/// then, and sends what waits once it answers. So it does from its start, if an entry of the book waits. If another process asks for the book, the desk closes it, and opens it
 /// again for the next word.
 pub(crate) fn serve_windows(
     rt: &HostRuntime,
