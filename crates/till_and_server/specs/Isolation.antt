@@ -30,6 +30,7 @@ sight_of true input = Sees input
 sight_of false (Own request) = Unanswered request
 sight_of false input = Sees input
 
+-- of a history, and of whether each of its requests was answered
 abbrev pub sights : Rules → ℕ → List Event → List Bool → Books → List Sight
 sights rules b (event ∷ events) (answered ∷ more) books =
     map (sight_of answered) (view rules b (event ∷ []) books) ++ sights rules b events more (after rules event books)
