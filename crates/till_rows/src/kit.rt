@@ -9,8 +9,8 @@ use shop_types::Moment;
 use std::alloc::Global;
 use std::cell::{Cell, RefCell};
 use std::marker::Model;
-use till_client::{ReplyReading, read_reply};
 use till_cashier::{Line, Shelf};
+use till_client::{ReplyReading, read_reply};
 
 const IN_USE: Fault = Fault::Line("the line is in use");
 

@@ -105,7 +105,7 @@ fn zone_in<C: Counter>(world: &World, kit: &Kit<C>, act: &TillAct) -> Result<usi
 }
 
 /// Returns what the words ask for, with the stock file instead of its name.
-fn typed<C: Counter>(
+fn read_input<C: Counter>(
     alloc: Global,
     world: &World,
     kit: &Kit<C>,
@@ -251,7 +251,7 @@ pub fn type_at<'x, S: Alter, C: Counter>(
     if !conn.is_autocommit() {
         return Err(NO_BOOK);
     }
-    let typed = typed(alloc, world, kit, input)?;
+    let typed = read_input(alloc, world, kit, input)?;
     let server = Line { wire: kit.wire() };
     let sheet = read_sheet(alloc, kit.shelf());
     at_desk(
