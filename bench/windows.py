@@ -27,6 +27,7 @@ DESK_LIVES, DESK_AWAY = (4.0, 14.0), (0.0, 1.0)
 MOST_SECONDS, MOST_AT_LAST, MOST_A_WORD, MOST_TRIES = 900, 300, 180, 60
 LOOKS_BACK = "400"
 NO_DESK, NO_REPLY = "The desk doesn't answer.", "The desk's answer didn't come."
+RENT_WAITS = "The rent of that copy has no answer yet."
 # Above the numbers that a branch gives. Each word that is to be refused names another one.
 NOBODY = 1_000_000
 BEGINNING, SECRET = 12, 32
@@ -318,6 +319,9 @@ class Window:
             elif status == 3 and (wait := re.search(r"Wait (\d+) seconds", err)):
                 self.waited += 1
                 time.sleep(min(150, int(wait[1]) + 1))
+            elif status == 1 and err.startswith(RENT_WAITS):
+                self.whole(["send"])
+                time.sleep(1)
             elif status in (0, 1, 4):
                 return self.notes(words, what, {0: "done", 1: "refused", 4: "waits"}[status], out)
             else:

@@ -1,7 +1,7 @@
 """The pages and files of one branch, for its manager."""
 import charts
 from branch_figures import COLUMNS, WEEKS
-from page_parts import csv_bytes, day_text, days_before, element, figures, money, moment_text, month_text, months_to, notice, page, table
+from page_parts import csv_bytes, day_text, days_before, element, figures, file_list, money, moment_text, month_text, months_to, notice, page, table
 
 LINKS = [("index.html", "Overview"), ("takings.html", "Takings"), ("out.html", "Out and overdue"), ("owed.html", "Who owes"), ("stock.html", "Stock")]
 DAYS, MONTHS, MOST = 31, 12, 500
@@ -102,9 +102,7 @@ def overview(it):
         ("On their way here", f"{sum(row['copies'] for row in it.arrivals):,}", times(len(it.arrivals), "consignment", "consignments")),
         *((f"{row['kind'].capitalize()} so far", f"{row['count']:,}", f"{row['percent']} percent of {row['most']:,}") for row in it.limits if row["kind"] == "commands"),
     ]
-    links = element("ul", *(element("li", element("a", f"{name}.csv", href=f"{name}.csv"), f": {what}") for name, what in FILES.items()))
-    words = "For a spreadsheet: UTF-8, commas, and amounts in dollars. A text that a spreadsheet could take for a formula has an apostrophe before it."
-    return [*notices(it), figures(boxes), chart_of_days(it), chart_of_weekdays(it), chart_of_categories(it), element("h2", "Files"), element("p", words), links]
+    return [*notices(it), figures(boxes), chart_of_days(it), chart_of_weekdays(it), chart_of_categories(it), file_list(FILES)]
 
 
 def takings(it):

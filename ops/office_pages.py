@@ -2,7 +2,7 @@
 import charts
 from branch_figures import COLUMNS
 from branch_pages import DAYS, DRAWER, MOST, chart_of_months, in_order, times
-from page_parts import Column, csv_bytes, days_before, element, figures, money, moment_text, month_text, months_to, page, table
+from page_parts import Column, csv_bytes, days_before, element, figures, file_list, money, moment_text, month_text, months_to, page, table
 
 LINKS = [("index.html", "Overview"), ("takings.html", "Takings"), ("stock.html", "Stock"), ("transit.html", "On its way"), ("limits.html", "Limits")]
 MONTHS = 6
@@ -83,12 +83,10 @@ def overview(it):
         ("On their way", f"{sum(row['copies'] for row in it.chain.transit):,}", times(len(it.chain.transit), "consignment", "consignments")),
     ]
     links = element("ul", *(element("li", element("a", f"branch {row['branch']}", href=f"../branch-{row['branch']}/index.html"), f": {row['place']}") for row in it.of_branches))
-    files = element("ul", *(element("li", element("a", f"{name}.csv", href=f"{name}.csv"), f": {what}") for name, what in FILES.items()))
     columns = in_order(OF_BRANCHES, "branch", "place", "this_month", "last_month", "out", "overdue", "owed_to", "owed_by")
-    words = "For a spreadsheet: UTF-8, commas, and amounts in dollars. A text that a spreadsheet could take for a formula has an apostrophe before it."
     return [
         figures(boxes), chart_of_branches(it), element("h2", "Branches"), table("Takings, copies out and balances of the branches", columns, it.of_branches), element("p", "Each branch's own pages:"), links,
-        element("h2", "Files"), element("p", words), files,
+        file_list(FILES),
     ]
 
 

@@ -13,7 +13,7 @@ STYLE = """
 :root{color-scheme:light;--paper:#ffffff;--ink:#1b1f24;--soft:#57606a;--line:#d5dae0;--band:#f4f6f8;--mark:#0b6b8a;--other:#a9690c;--warn:#9a3412}
 @media screen and (prefers-color-scheme:dark){:root{color-scheme:dark;--paper:#15181c;--ink:#e6e9ec;--soft:#a3adb8;--line:#3a424b;--band:#1e2328;--mark:#58b4d4;--other:#e0ac55;--warn:#f4a57d}}
 *{box-sizing:border-box}
-body{margin:0 auto;max-width:58rem;padding:1.5rem 1.25rem 3rem;background:var(--paper);color:var(--ink);font:1rem/1.5 system-ui,-apple-system,"Segoe UI",Roboto,"DejaVu Sans",sans-serif}
+body{margin:0 auto;max-width:64rem;padding:1.5rem 1.25rem 3rem;background:var(--paper);color:var(--ink);font:1rem/1.5 system-ui,-apple-system,"Segoe UI",Roboto,"DejaVu Sans",sans-serif}
 h1{font-size:1.6rem;line-height:1.2;margin:0}
 h2{font-size:1.2rem;line-height:1.3;margin:2.5rem 0 .5rem}
 p{margin:.4rem 0;max-width:44rem}
@@ -37,6 +37,7 @@ thead th{color:var(--soft);font-weight:600;font-size:.8125rem;border-bottom:1px 
 tbody th{font-weight:400}
 tfoot th,tfoot td{font-weight:600;border-bottom:0;border-top:1px solid var(--soft)}
 .n{text-align:right;white-space:nowrap}
+thead .n{white-space:normal}
 time,.k{white-space:nowrap}
 .none{color:var(--soft)}
 figure{margin:1rem 0 1.5rem;overflow-x:auto}
@@ -56,11 +57,13 @@ footer{margin-top:3rem;border-top:1px solid var(--line);padding-top:.5rem}
 @page{margin:15mm}
 :root{font-size:10pt}
 body{max-width:none;padding:0}
-nav{display:none}
+nav,.files{display:none}
 a{color:inherit;text-decoration:none}
 h2{break-after:avoid}
 figure,tr,ul.figures li,.notice{break-inside:avoid}
 .wide,figure{overflow:visible}
+table{font-size:.85rem}
+th,td{padding-right:.6rem}
 figure svg{min-width:0;max-width:150mm}
 thead{display:table-header-group}
 tfoot{display:table-row-group}
@@ -227,6 +230,13 @@ def page(title, shop, lines, links, here, body):
 </body>
 </html>
 """
+
+
+def file_list(files):
+    """The CSV files of a folder, by their names with what they show. They aren't listed on paper."""
+    words = "For a spreadsheet: UTF-8, commas, and amounts in dollars. A text that a spreadsheet could take for a formula has an apostrophe before it."
+    links = (element("li", element("a", f"{name}.csv", href=f"{name}.csv"), f": {what}") for name, what in files.items())
+    return element("section", element("h2", "Files"), element("p", words), element("ul", *links), class_="files")
 
 
 def spreadsheet_text(text):

@@ -3,6 +3,7 @@ pub mod Faults
 pub mod Giving
 pub mod LastMoment
 pub mod Wall
+pub mod Whereabouts
 pub mod Word
 pub mod Returns
 pub mod Doing

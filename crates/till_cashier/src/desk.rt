@@ -152,6 +152,14 @@ impl<K: WallClock, V: Server, L: Shelf> Desk<'_, K, V, L> {
         }
     }
 
+    /// Asks once for something that changes nothing. While the line is down it fails at once.
+    pub(crate) fn ask_once(&self, request: &[u8]) -> Result<Answer, TillFault> {
+        if self.line.is_down() {
+            return Err(TillFault::Down);
+        }
+        self.asked(request)
+    }
+
     /// Asks for something that changes nothing, up to three times. While the line is down it fails at once.
     pub(crate) fn ask(&self, request: &[u8]) -> Result<Answer, TillFault> {
         if self.line.is_down() {

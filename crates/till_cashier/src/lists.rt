@@ -95,6 +95,22 @@ fn fetched<K: WallClock, V: Server, L: Shelf>(
     Ok(answer)
 }
 
+/// Returns the list's body, from the shelf or from the server.
+pub(crate) fn body_of<K: WallClock, V: Server, L: Shelf>(
+    desk: &Desk<'_, K, V, L>,
+    list: List,
+) -> Option<Vec<u8>> {
+    if let Some(kept) = list_kept(desk, list) {
+        return Some(kept.body);
+    }
+    let answer = fetched(desk, list).ok()?;
+    if answer.status == 200 {
+        Some(answer.body)
+    } else {
+        None
+    }
+}
+
 /// A list, its rows that were looked for, and how many whole minutes ago the server gave it. If the list was refused,
 /// the table has no row.
 #[derive(Drop)]

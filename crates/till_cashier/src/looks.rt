@@ -1,18 +1,27 @@
 //! What is looked up, and changes nothing.
 
-use crate::answers::{says_all, says_holder, says_lines, says_list, says_sales, says_table};
+ghost use Rattle.std.specs.Prelude.{◌≡◌, false};
+ghost use Rattle.sqlite.specs.Held.{state};
+ghost use Rattle.sqlite.specs.State.{HasCleanDisk};
+ghost use Rattle.till_book.specs.Steps.{Stays};
+
+use crate::answers::{says_all, says_lines, says_list, says_sales, says_table};
+use crate::book::Book;
 use crate::caches::Shelf;
 use crate::clock::WallClock;
 use crate::commands::called;
 use crate::desk::Desk;
 use crate::fault::TillFault;
-use crate::lists::{List, found, name_of, title_of};
+use crate::lists::{List, found, title_of};
+use crate::overdue::overdue;
 use crate::said::Said;
-use shop_types::{Ask, CopyNo, CustomerNo, FilmNo, Moment, Refusal, View};
+use crate::stock::where_is;
+use shop_types::{Ask, CustomerNo, FilmNo, Moment, Refusal, View};
+use sqlite::{Alter, Connection};
 use std::alloc::Global;
 use till_client::Answer;
 use till_requests::{look_request, view_request};
-use till_shows::{Table, customer_sheet, holder, refusal_in};
+use till_shows::{Table, customer_sheet, refusal_in};
 use till_words::TillLook;
 use till_work::Server;
 
@@ -20,7 +29,7 @@ use till_work::Server;
 const SHORT: u32 = 100;
 
 /// Returns the answer to a look.
-fn looked<K: WallClock, V: Server, L: Shelf>(
+pub(crate) fn looked<K: WallClock, V: Server, L: Shelf>(
     desk: &Desk<'_, K, V, L>,
     ask: &Ask,
 ) -> Result<Answer, TillFault> {
@@ -62,7 +71,7 @@ fn name_in<K: WallClock, V: Server, L: Shelf>(
 }
 
 /// Says what is asked for of one thing, as lines.
-fn line_look<K: WallClock, V: Server, L: Shelf>(
+pub(crate) fn line_look<K: WallClock, V: Server, L: Shelf>(
     desk: &Desk<'_, K, V, L>,
     ask: &Ask,
     said: &mut Said,
@@ -73,53 +82,6 @@ fn line_look<K: WallClock, V: Server, L: Shelf>(
     }
     let name = name_in(desk, ask)?;
     says_lines(desk.alloc, ask, name.as_str(), answer.body.as_slice(), said)
-}
-
-/// Returns the holder's name, if there is one.
-fn holder_name<K: WallClock, V: Server, L: Shelf>(
-    desk: &Desk<'_, K, V, L>,
-    who: &Option<CustomerNo>,
-) -> Result<Option<String>, TillFault> {
-    match who {
-        Some(customer) => name_of(desk, *customer),
-        None => Ok(None),
-    }
-}
-
-/// Says who has the copy, by number and name.
-fn held_by<K: WallClock, V: Server, L: Shelf>(
-    desk: &Desk<'_, K, V, L>,
-    copy: CopyNo,
-    said: &mut Said,
-) -> Result<(), TillFault> {
-    let answer = looked(desk, &Ask::HeldBy(copy))?;
-    if says_all(desk.alloc, desk.is_json, &answer, said)? {
-        return Ok(());
-    }
-    let who = holder(desk.alloc, answer.body.as_slice())?;
-    let name = holder_name(desk, &who)?;
-    says_holder(desk.alloc, copy, who, &name, said)
-}
-
-/// Says who has the copy, or that no customer does.
-fn in_stock<K: WallClock, V: Server, L: Shelf>(
-    desk: &Desk<'_, K, V, L>,
-    copy: CopyNo,
-    said: &mut Said,
-) -> Result<(), TillFault> {
-    if desk.is_json {
-        return line_look(desk, &Ask::InStock(copy), said);
-    }
-    let answer = looked(desk, &Ask::HeldBy(copy))?;
-    if says_all(desk.alloc, desk.is_json, &answer, said)? {
-        return Ok(());
-    }
-    let who = holder(desk.alloc, answer.body.as_slice())?;
-    if who.is_none() {
-        return line_look(desk, &Ask::InStock(copy), said);
-    }
-    let name = holder_name(desk, &who)?;
-    says_holder(desk.alloc, copy, who, &name, said)
 }
 
 /// Says the film's title, and its copies in stock and out.
@@ -235,46 +197,64 @@ fn balance<K: WallClock, V: Server, L: Shelf>(
     line_look(desk, &Ask::Balance { customer, at }, said)
 }
 
-/// Looks, and puts what is said of it.
-fn put_look<K: WallClock, V: Server, L: Shelf>(
+/// Says which customers paid more often, and more, than that in the month before.
+fn rewards<K: WallClock, V: Server, L: Shelf>(
     desk: &Desk<'_, K, V, L>,
-    look: &TillLook,
-    last: Option<Moment>,
+    purchases: u32,
+    cents: u32,
     said: &mut Said,
 ) -> Result<(), TillFault> {
-    let now = desk.now()?;
+    let ask = Ask::Rewards {
+        at: desk.now()?,
+        purchases,
+        cents,
+    };
+    line_look(desk, &ask, said)
+}
+
+/// Looks, and puts what is said of it. The book stays.
+fn put_look<S: Alter, K: WallClock, V: Server, L: Shelf>(
+    desk: &Desk<'_, K, V, L>,
+    conn: &mut Connection<S>,
+    book: &Book,
+    look: &TillLook,
+    said: &mut Said,
+) -> Result<(), TillFault>
+    requires { conn.old.in_transaction ≡ false }
+    ensures ended { conn.new.in_transaction ≡ false }
+    ensures clean { HasCleanDisk (state S.Store conn.new) → HasCleanDisk (state S.Store conn.old) }
+    ensures stays { HasCleanDisk (state S.Store conn.new) → Stays (state S.Store conn.old) (state S.Store conn.new) }
+{
     match look {
         TillLook::Customer(customer) => customer_look(desk, *customer, said),
         TillLook::Customers(part) => search(desk, List::Customers, part.as_str(), said),
         TillLook::Film(film) => line_look(desk, &Ask::Film(*film), said),
         TillLook::Films(part) => search(desk, List::Films, part.as_str(), said),
-        TillLook::InStock(copy) => in_stock(desk, *copy, said),
-        TillLook::HeldBy(copy) => held_by(desk, *copy, said),
+        TillLook::InStock(copy) => { where_is(desk, conn, book, &Ask::InStock(*copy), *copy, said) }
+        TillLook::HeldBy(copy) => where_is(desk, conn, book, &Ask::HeldBy(*copy), *copy, said),
         TillLook::Copies(film) => copies(desk, *film, said),
-        TillLook::Balance(customer) => balance(desk, *customer, last, said),
-        TillLook::Overdue => table_look(desk, &Ask::Overdue(now), "nothing is overdue", said),
+        TillLook::Balance(customer) => balance(desk, *customer, book.last, said),
+        TillLook::Overdue => overdue(desk, conn, said),
         TillLook::Arrivals => table_look(desk, &Ask::Arrivals, "nothing was sent here", said),
         TillLook::Sent => table_look(desk, &Ask::Sent, "nothing was sent", said),
-        TillLook::Rewards { purchases, cents } => {
-            let (purchases, cents) = (*purchases, *cents);
-            let ask = Ask::Rewards {
-                at: now,
-                purchases,
-                cents,
-            };
-            line_look(desk, &ask, said)
-        }
+        TillLook::Rewards { purchases, cents } => rewards(desk, *purchases, *cents, said),
         TillLook::Sales => sales(desk, said),
     }
 }
 
-/// Does a look of the words, and says what it shows; `last` is the last entry's moment.
-pub(crate) fn look<K: WallClock, V: Server, L: Shelf>(
+/// Does a look of the words, and says what it shows. The book stays.
+pub(crate) fn look<S: Alter, K: WallClock, V: Server, L: Shelf>(
     desk: &Desk<'_, K, V, L>,
+    conn: &mut Connection<S>,
+    book: &Book,
     look: TillLook,
-    last: Option<Moment>,
-) -> Result<Said, TillFault> {
+) -> Result<Said, TillFault>
+    requires { conn.old.in_transaction ≡ false }
+    ensures ended { conn.new.in_transaction ≡ false }
+    ensures clean { HasCleanDisk (state S.Store conn.new) → HasCleanDisk (state S.Store conn.old) }
+    ensures stays { HasCleanDisk (state S.Store conn.new) → Stays (state S.Store conn.old) (state S.Store conn.new) }
+{
     let mut said = Said::done(desk.alloc);
-    put_look(desk, &look, last, &mut said)?;
+    put_look(desk, conn, book, &look, &mut said)?;
     Ok(said)
 }

@@ -60,7 +60,7 @@ fn is_rent_waiting<S: Alter, K: WallClock, V: Server, L: Shelf>(
 }
 
 /// Returns the rental that the register has of a copy, and its customer, if it has one. The book stays.
-fn held_at<S: Alter>(
+pub(crate) fn held_at<S: Alter>(
     conn: &mut Connection<S>,
     copy: CopyNo,
 ) -> Result<Option<HeldRental>, TillFault>

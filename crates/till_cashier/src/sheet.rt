@@ -41,8 +41,38 @@ pub(crate) fn branch_of(sheet: &[u8]) -> Option<BranchNo> {
     BranchNo::read(branch.as_bytes())
 }
 
+/// Returns the name in a sheet's line, if the line is of that kind and number. Of a line with a quoted text it is none.
+fn name_in<'s>(alloc: Global, line: &'s str, kind: &str, number: u32) -> Option<&'s str> {
+    if !line.starts_with(kind) || line.as_bytes().contains(&b'"') {
+        return None;
+    }
+    let fields: Vec<&'s str> = line.split(',').collect(alloc).ok()?;
+    match fields.as_slice() {
+        [it, _, _, digits, _, name, ..]
+            if *it == kind && digits.parse::<u32>().ok() == Some(number) => { Some(*name) }
+        [..] => None,
+    }
+}
+
+/// Returns the name that a sheet has of that kind and number, if it has one: `branch` is the branch's city, and `staff` a
+/// member of its staff.
+pub(crate) fn name_on_sheet<'s>(
+    alloc: Global,
+    sheet: &'s [u8],
+    kind: &str,
+    number: u32,
+) -> Option<&'s str> {
+    let text = std::str::from_utf8(sheet).ok()?;
+    for line in text.lines() {
+        if let Some(name) = name_in(alloc, line, kind, number) {
+            return Some(name);
+        }
+    }
+    None
+}
+
 /// Returns the copy's row of the sheet, if the sheet has one.
-fn row_of<K: WallClock, V: Server, L: Shelf>(
+pub(crate) fn row_of<K: WallClock, V: Server, L: Shelf>(
     desk: &Desk<'_, K, V, L>,
     copy: CopyNo,
 ) -> Option<SheetRow>

@@ -472,7 +472,7 @@ fn carry_out<S: Alter, K: WallClock, V: Server, L: Shelf, W: Watch>(
         Plan::Give(act, customer) => give_and_tell(desk, conn, book, &act, customer, watch),
         Plan::Office(words) => give_office(desk, conn, book, words.as_slice(), watch),
         Plan::Send => send(desk, conn, &mut book.place, watch),
-        Plan::Look(it) => look(desk, it, book.last),
+        Plan::Look(it) => look(desk, conn, book, it),
         Plan::ReadOffice(words) => read_office(desk, words.as_slice()),
         Plan::Waiting => waiting_entries(desk, conn, book),
         Plan::Last(count) => last_entries(desk, conn, book, count),

@@ -1,3 +1,4 @@
+pub mod Greeting
 pub mod Frames
 pub mod Reading
 pub mod Settings

@@ -1,11 +1,18 @@
-//! What the prompt says first: who is at the till, and the date and the time of the clock on the wall.
+//! What the prompt says first: who is at the till and where, and the date and the time of the clock on the wall.
 
+ghost use Rattle.std.specs.Prelude.{◌≡◌, IfOk, option_map, string_bytes};
+ghost use Rattle.till_program.specs.Greeting.{called_text, place_text, greeting_text};
+
+use crate::files::FileShelf;
 use crate::init::settings_of;
+use crate::tcp::Tcp;
+use crate::way::Patience;
 use crate::zones::{rules_for, wall_zone};
-use shop_types::{Moment, StaffNo};
-use std::alloc::Global;
+use counter_routes::Routes;
+use shop_types::{BranchNo, Moment, StaffNo};
+use std::alloc::{AllocError, Global};
 use std::time::Clock;
-use till_cashier::{TillFault, on_wall};
+use till_cashier::{Attendant, Desk, Line, TillFault, find_attendant, on_wall, read_sheet};
 use till_requests::{Settings, Zone, moment_at, zone_offset, zone_second};
 use till_shows::moment_words;
 
@@ -22,30 +29,105 @@ fn now_on_wall(rt: &HostRuntime, zone: &Option<Zone>) -> Result<Moment, TillFaul
     Ok(on_wall(wall_zone(&rules, zone), zone_offset(zone), now))
 }
 
-/// Returns who is at the till: whoever is named, or else whose till it is.
-fn who(alloc: Global, settings: &Settings, named: Option<StaffNo>) -> Result<String, TillFault> {
-    match settings.staff {
-        Some(own) => {
-            let staff = named.unwrap_or(own).get();
-            Ok(format!(in alloc; "staff {staff} at the till")?)
-        }
-        None => Ok(String::from_str(alloc, "head office's book")?),
+/// Returns who stands there: `IDA LUND (staff 1)`, or `staff 1` if the name isn't known.
+fn called(alloc: Global, name: &Option<String>, staff: StaffNo) -> Result<String, AllocError>
+    ensures { IfOk result (λ s. string_bytes s ≡ called_text (option_map string_bytes name.now) staff) }
+{
+    match name {
+        Some(name) => format!(in alloc; "{name} (staff {})", staff.get()),
+        None => format!(in alloc; "staff {}", staff.get()),
     }
 }
 
-/// Returns the prompt's first line: `staff 1 at the till, 1 March 2026, 22:05 (America/Edmonton)`.
+/// Returns where that is: `at branch 1, Lethbridge:`, or `at the till,` if the branch isn't known.
+fn place(
+    alloc: Global,
+    branch: Option<BranchNo>,
+    city: &Option<String>,
+) -> Result<String, AllocError>
+    ensures { IfOk result (λ s. string_bytes s ≡ place_text branch (option_map string_bytes city.now)) }
+{
+    let Some(branch) = branch else {
+        return String::from_str(alloc, "at the till,");
+    };
+    match city {
+        Some(city) => format!(in alloc; "at branch {}, {city}:", branch.get()),
+        None => format!(in alloc; "at branch {}:", branch.get()),
+    }
+}
+
+/// Returns the line of a branch's till: `IDA LUND (staff 1) at branch 1, Lethbridge: 1 March 2026, 22:05
+/// (America/Edmonton)`.
+fn greeting_line(
+    alloc: Global,
+    who: &Attendant,
+    now: &str,
+    zone: &str,
+) -> Result<String, AllocError>
+    ensures { IfOk result (λ s. string_bytes s ≡ greeting_text (option_map string_bytes who.now.name) who.now.staff
+        who.now.branch (option_map string_bytes who.now.city) now.now zone.now) }
+{
+    let called = called(alloc, &who.name, who.staff)?;
+    let place = place(alloc, who.branch, &who.city)?;
+    format!(in alloc; "{called} {place} {now} ({zone})")
+}
+
+/// Returns who stands at the till of that book, and where. The server isn't waited for long.
+fn attendant_at(
+    rt: &HostRuntime,
+    book: &str,
+    settings: &Settings,
+    staff: StaffNo,
+    line: Line,
+) -> Result<Attendant, TillFault> {
+    let alloc = rt.alloc();
+    let Ok(routes) = Routes::new(alloc) else {
+        return Err(TillFault::Memory);
+    };
+    let rules = rules_for(rt, &settings.zone)?;
+    let server = Tcp {
+        rt,
+        address: settings.address.as_str(),
+        patience: Patience::Brief,
+    };
+    let shelf = FileShelf { rt, book };
+    let sheet = read_sheet(alloc, &shelf);
+    let desk = Desk {
+        alloc,
+        clock: rt,
+        server: &server,
+        shelf: &shelf,
+        routes: &routes,
+        settings,
+        sheet: sheet.as_slice(),
+        wall: wall_zone(&rules, &settings.zone),
+        line,
+        staff: Some(staff),
+        is_json: false,
+        is_sure: false,
+        said_day: None,
+    };
+    Ok(find_attendant(&desk, staff))
+}
+
+/// Returns the prompt's first line: who is at the till, by name if the branch's sheet or the server's list of staff has the
+/// name, where that is, and when. At head office's book it names nobody.
 pub(crate) fn greeting(
     rt: &HostRuntime,
     book: &str,
     named: Option<StaffNo>,
+    line: Line,
 ) -> Result<String, TillFault> {
     let alloc = rt.alloc();
     let settings = settings_of(rt, book)?;
-    let who = who(alloc, &settings, named)?;
     let now = moment_words(alloc, now_on_wall(rt, &settings.zone)?)?;
     let zone = match &settings.zone {
         Some(zone) => zone.name.as_str(),
         None => "UTC",
     };
-    Ok(format!(in alloc; "{who}, {now} ({zone})")?)
+    let Some(own) = settings.staff else {
+        return Ok(format!(in alloc; "head office's book, {now} ({zone})")?);
+    };
+    let who = attendant_at(rt, book, &settings, named.unwrap_or(own), line)?;
+    Ok(greeting_line(alloc, &who, now.as_str(), zone)?)
 }

@@ -408,7 +408,7 @@ fn perform_line<W: Write, E: Write>(
             Ok(Performed::at(status, way))
         }
         TillAct::Prompt if standing.asks == Asks::Window => {
-            let said = greeted(rt, book.as_str(), staff.or(standing.staff));
+            let said = greeted(rt, book.as_str(), staff.or(standing.staff), way.line);
             Ok(Performed::at(print(said, out, err), way))
         }
         TillAct::Help | TillAct::Prompt => Ok(Performed::at(print(help(rt), out, err), way)),
@@ -432,8 +432,13 @@ fn perform_line<W: Write, E: Write>(
 }
 
 /// Returns what a prompt says first.
-fn greeted(rt: &HostRuntime, book: &str, staff: Option<StaffNo>) -> Result<Said, TillFault> {
-    let line = greeting(rt, book, staff)?;
+fn greeted(
+    rt: &HostRuntime,
+    book: &str,
+    staff: Option<StaffNo>,
+    line: Line,
+) -> Result<Said, TillFault> {
+    let line = greeting(rt, book, staff, line)?;
     let mut said = Said::done(rt.alloc());
     said.line(line.as_str())?;
     Ok(said)

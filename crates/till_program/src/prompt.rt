@@ -1,6 +1,7 @@
 //! The prompt, which reads lines of words.
 
-ghost use Rattle.std.specs.Prelude.{◌≡◌, false, IfSome};
+ghost use Rattle.std.specs.Prelude.{◌≡◌, true, false, is_some, IfOk, IfSome};
+ghost use Rattle.shop_types.specs.Numbers.{row_number_of};
 
 use crate::greeting::greeting;
 use crate::input::has_input;
@@ -23,6 +24,19 @@ struct Known {
     notes: LineNotes,
 }
 
+impl Known {
+    /// Returns what a prompt knows first: nothing of the line, and nobody is named.
+    fn new() -> Known {
+        Known {
+            standing: Standing {
+                staff: None,
+                asks: Asks::Prompt,
+            },
+            notes: LineNotes::new(),
+        }
+    }
+}
+
 /// Tests whether the words end the prompt.
 fn is_end(words: &[String]) -> bool {
     match words {
@@ -31,26 +45,26 @@ fn is_end(words: &[String]) -> bool {
     }
 }
 
-/// Lets the member of staff of that number stand at the till, and says so.
-pub fn change_staff<W: Write, E: Write>(
+/// Lets the member of staff of that number stand at the till, and returns true. If it is no number of staff, says so, and
+/// whoever stood there stays.
+pub fn change_staff<E: Write>(
     number: &str,
     standing: &mut Standing,
-    out: &mut W,
     err: &mut E,
-) -> Result<(), TillFault> {
-    match StaffNo::read(number.as_bytes()) {
-        Some(staff) => {
-            standing.staff = Some(staff);
-            writeln!(out, "staff {} stands here now", staff.get())?;
-        }
-        None => {
-            writeln!(
-                err,
-                "staff N\nThe staff is a number from 1 on: {number} isn't one."
-            )?;
-        }
-    }
-    Ok(())
+) -> Result<bool, TillFault>
+    ensures number { IfOk result (λ is. is ≡ is_some (row_number_of number.now)) }
+    ensures changed { IfOk result (λ is. is ≡ true → standing.new ≡ record standing.old { staff = row_number_of number.now }) }
+    ensures same { IfOk result (λ is. is ≡ false → standing.new ≡ standing.old) }
+{
+    let Some(staff) = StaffNo::read(number.as_bytes()) else {
+        writeln!(
+            err,
+            "staff N\nThe staff is a number from 1 on: {number} isn't one."
+        )?;
+        return Ok(false);
+    };
+    standing.staff = Some(staff);
+    Ok(true)
 }
 
 /// Does what words ask for. For a minute after a word that got no reply, the line to the server is taken for down.
@@ -83,6 +97,40 @@ fn perform_noted<W: Write, E: Write>(
     );
 }
 
+/// Prints who is at the till, where, and when. Prints nothing if the settings of the book that the words before the
+/// prompt's own name can't be read.
+fn greet<W: Write>(
+    rt: &HostRuntime,
+    before: &[String],
+    known: &Known,
+    out: &mut W,
+) -> Result<(), TillFault> {
+    let Ok(TillLine { book, staff, .. }) = read_till_words(rt.alloc(), before) else {
+        return Ok(());
+    };
+    let book = book_of(rt, &book)?;
+    let line = known.notes.at(rt.monotonic().unwrap_or(Duration::ZERO));
+    if let Ok(text) = greeting(rt, book.as_str(), known.standing.staff.or(staff), line) {
+        writeln!(out, "{text}")?;
+    }
+    Ok(())
+}
+
+/// Lets the member of staff of that number stand at the till, and prints who that is.
+fn stand<W: Write, E: Write>(
+    rt: &HostRuntime,
+    before: &[String],
+    number: &str,
+    known: &mut Known,
+    out: &mut W,
+    err: &mut E,
+) -> Result<(), TillFault> {
+    if change_staff(number, &mut known.standing, err)? {
+        greet(rt, before, known, out)?;
+    }
+    Ok(())
+}
+
 /// Does what the words of a line ask for. `staff N` changes who stands at the till.
 fn perform_said<W: Write, E: Write>(
     rt: &HostRuntime,
@@ -98,7 +146,7 @@ fn perform_said<W: Write, E: Write>(
 {
     if let [word, number] = said.as_slice() {
         if word.as_str() == "staff" {
-            return change_staff(number.as_str(), &mut known.standing, out, err);
+            return stand(rt, before, number.as_str(), known, out, err);
         }
     }
     let mut words = Vec::new(rt.alloc());
@@ -170,7 +218,8 @@ fn invite<W: Write>(
     Ok(())
 }
 
-/// Reads lines of words to the end of the input, or to `exit` or `quit`, and does what each asks for.
+/// Reads lines of words to the end of the input, or to `exit` or `quit`, and does what each asks for. First it says who is
+/// at the till, where, and when.
 fn perform_lines<W: Write, E: Write>(
     rt: &HostRuntime,
     before: &[String],
@@ -181,13 +230,8 @@ fn perform_lines<W: Write, E: Write>(
     requires { IfSome held.old (λ book. book.conn.in_transaction ≡ false) }
     ensures { IfSome held.new (λ book. book.conn.in_transaction ≡ false) }
 {
-    let mut known = Known {
-        standing: Standing {
-            staff: None,
-            asks: Asks::Prompt,
-        },
-        notes: LineNotes::new(),
-    };
+    let mut known = Known::new();
+    greet(rt, before, &known, out)?;
     invite(rt, held, out)?;
     'lines: for line in rt.lines(rt.alloc()) {
         let goes_on = match line {
@@ -207,29 +251,15 @@ fn perform_lines<W: Write, E: Write>(
     Ok(())
 }
 
-/// Prints who is at the till, and the date and the time. Prints nothing if the settings of the book that the words before
-/// the prompt's own name can't be read.
-fn greet<W: Write>(rt: &HostRuntime, before: &[String], out: &mut W) -> Result<(), TillFault> {
-    let Ok(TillLine { book, staff, .. }) = read_till_words(rt.alloc(), before) else {
-        return Ok(());
-    };
-    let book = book_of(rt, &book)?;
-    if let Ok(line) = greeting(rt, book.as_str(), staff) {
-        writeln!(out, "{line}")?;
-    }
-    Ok(())
-}
-
 /// Reads lines of words to the end of the input, or to `exit` or `quit`, and does what each asks for. The words
 /// before the prompt's own, which name the book, are put before each line. The book is held open from word to word,
-/// until another window asks for it. First it says who is at the till, and when.
+/// until another window asks for it.
 pub(crate) fn prompt<W: Write, E: Write>(
     rt: &HostRuntime,
     before: &[String],
     out: &mut W,
     err: &mut E,
 ) -> Result<u8, TillFault> {
-    greet(rt, before, out)?;
     let mut held = None;
     let ended = perform_lines(rt, before, &mut held, out, err);
     close_held(&mut held);

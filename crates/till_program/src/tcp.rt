@@ -21,6 +21,7 @@ fn connects(patience: Patience) -> Duration {
     match patience {
         Patience::Long => Duration::from_secs(10),
         Patience::Short => Duration::from_secs(2),
+        Patience::Brief => Duration::from_secs(1),
     }
 }
 
@@ -29,6 +30,7 @@ fn replies(patience: Patience) -> Duration {
     match patience {
         Patience::Long => Duration::from_secs(40),
         Patience::Short => Duration::from_secs(5),
+        Patience::Brief => Duration::from_secs(1),
     }
 }
 

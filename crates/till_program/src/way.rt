@@ -13,6 +13,8 @@ pub enum Patience {
     Long,
     /// A connection is waited for 2 seconds and a reply 5, since other windows wait meanwhile.
     Short,
+    /// Each is waited for a second, since nothing is lost without the reply.
+    Brief,
 }
 
 /// How a word may use the line to the server.

@@ -32,7 +32,7 @@ fn perform_said<W: Write, E: Write>(
     Ok(())
 }
 
-/// Does what the words of a line ask for. `staff N` changes who stands at the window.
+/// Does what the words of a line ask for. `staff N` changes who stands at the window, and the desk says who that is.
 fn perform_more<W: Write, E: Write>(
     rt: &HostRuntime,
     window: &WindowSettings,
@@ -44,7 +44,9 @@ fn perform_more<W: Write, E: Write>(
 ) -> Result<(), ShopFault> {
     if let [word, number] = more.as_slice() {
         if word.as_str() == "staff" {
-            change_staff(number.as_str(), standing, out, err)?;
+            if change_staff(number.as_str(), standing, err)? {
+                perform_said(rt, window, before, *standing, out, err)?;
+            }
             return Ok(());
         }
     }
@@ -91,7 +93,7 @@ fn invite<W: Write>(out: &mut W) -> Result<(), ShopFault> {
 }
 
 /// Reads lines of words to the end of the input, or to `exit` or `quit`, and has the desk do what each asks for. The
-/// words before the prompt's own are put before each line. First the desk says who is at the window, and when.
+/// words before the prompt's own are put before each line. First the desk says who is at the window, where, and when.
 pub(crate) fn prompt<W: Write, E: Write>(
     rt: &HostRuntime,
     window: &WindowSettings,

@@ -24,7 +24,7 @@ use Rattle.till_work.proofs.Telling.{all_told_more, told_then, all_settled_more,
 pub more_then : {A : Type 0} (x y z a b : List A) → y ≡ x ++ a → z ≡ y ++ b → z ≡ x ++ (a ++ b)
 more_then x y z a b one two = two ∙ ap (λ l. l ++ b) one ∙ append_assoc x a b
 
-nothing_more : {A : Type 0} (x : List A) → x ≡ x ++ []
+pub nothing_more : {A : Type 0} (x : List A) → x ≡ x ++ []
 nothing_more x = sym (append-nil x)
 
 length_behind : {A : Type 0} (xs : List A) (x : A) → length (xs ++ x ∷ []) ≡ length xs + 1

@@ -6,8 +6,8 @@ use Rattle.sqlite.specs.State.{State}
 use Rattle.shop_model.specs.Refusals.{NoCounter}
 use Rattle.shop_model.specs.Machine.{Sorry}
 use Rattle.shop_model.specs.Answers.{Answer, answer_of}
-use Rattle.till_book.specs.Journal.{Journal, waiting, with_reply}
-use Rattle.till_book.specs.Steps.{Rests, IsNextReply, LeavesRecorded}
+use Rattle.till_book.specs.Journal.{Journal, StandsFor, waiting, with_reply}
+use Rattle.till_book.specs.Steps.{Rests, IsNextReply}
 use Rattle.till_client.specs.Replies.{seen_answer, answer_bytes}
 use Rattle.till_client.specs.Exchanges.{FailsToAsk}
 use Rattle.till_client.specs.declared.replies.Answer.{Answer as Read}
@@ -65,6 +65,18 @@ FailsToDeliver n OtherBook old new output written = ⊥
 FailsToDeliver n NoEntry old new output written = ⊥
 FailsToDeliver n Unopened old new output written = ⊥
 
--- what a stop may leave on the disk: the book with one more reply, and nothing else
-abbrev pub MayLeave : ℕ → State → Trees → Type 0
-MayLeave n old db = (status : ℕ) × (body : List ℕ) × LeavesRecorded n status body old db
+-- The oldest entry was written whole, and the reply was read whole. It says neither that the store couldn't do its part nor that the server doesn't know who
+-- asks.
+pub record IsReceived (journal : Journal) (answer : Answer) (input left output written : Option (List ℕ)) : Type 0 where
+  pub request : List ℕ
+  pub oldest : waiting journal ≡ Some request
+  pub writes : Appends output written request
+  pub reads : Consumes input left (answer_bytes answer)
+  pub decided : answer.status ≢ 503
+  pub known : answer ≢ answer_of (Sorry NoCounter)
+
+-- what a stop may leave on the disk: the book with one more reply, which was read whole by then, and nothing else
+abbrev pub MayLeave : ℕ → State → Option (List ℕ) → Option (List ℕ) → Option (List ℕ) → Option (List ℕ) → Trees → Type 0
+MayLeave n old input left output written db =
+    (journal : Journal) → Rests old journal → IsNextReply n journal
+    → (answer : Answer) × IsReceived journal answer input left output written × StandsFor db (with_reply answer journal)

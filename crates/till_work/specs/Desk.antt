@@ -73,10 +73,12 @@ EntersOne mark token request before old after new =
     (journal : Journal) (commands : List Command) → IsAt mark before old journal commands
     → (command : Command) × SaysCommand request token command × IsAt mark after new (with_entry request journal) (commands ++ command ∷ [])
 
--- what entering may leave on the disk, at a stop
-abbrev pub LeavesEntry : Text → List ℕ → Place → State → Trees → Type 0
-LeavesEntry mark request before old db =
-    (journal : Journal) (commands : List Command) → IsAt mark before old journal commands → StandsFor db (with_entry request journal)
+-- what entering may leave on the disk, at a stop: the book with the entry, which is a till's still
+abbrev pub LeavesEntry : Text → Text → List ℕ → Place → State → Trees → Type 0
+LeavesEntry mark token request before old db =
+    (journal : Journal) (commands : List Command) → IsAt mark before old journal commands
+    → (command : Command) × SaysCommand request token command × IsTillsBook mark (with_entry request journal) (commands ++ command ∷ [])
+    × StandsFor db (with_entry request journal)
 
 -- ---- sending
 

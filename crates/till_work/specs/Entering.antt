@@ -1,12 +1,13 @@
 -- A till's book as entering keeps it, and what comes of one more entry.
 use Rattle.std.specs.Prelude.{◌≡◌, ◌≢◌, ⊤, ℕ, ◌+◌, List, [], ◌∷◌, ◌++◌, length, slice_get, Option, Some, None}
+use Rattle.sqlite_trees.specs.Tree.{Trees}
 use Rattle.sqlite.specs.State.{State}
 use Rattle.shop_model.specs.Values.{Text, Command}
 use Rattle.shop_model.specs.Calendar.{Moment}
 use Rattle.till_model.specs.Numbered.{key_of, AreNumbered, IsAfterLast}
 use Rattle.till_client.specs.Sealing.{SaysCommand}
 use Rattle.till_book.specs.Saying.{Say}
-use Rattle.till_book.specs.Journal.{Journal, with_entry}
+use Rattle.till_book.specs.Journal.{Journal, StandsFor, with_entry}
 use Rattle.till_book.specs.Steps.{Rests, Stays, IsNext, IsEntered}
 use Rattle.till_work.specs.declared.fault.DeskFault.{DeskFault}
 use Rattle.till_work.specs.declared.fault.DeskFault.TheVariants.{Book, Full, Memory, NoCommand, OtherKey, NotLater, OtherBook, NoEntry, Unopened, Unanswered}
@@ -38,6 +39,17 @@ pub record Enters (mark token : Text) (n : ℕ) (command : Command) (request : L
   pub entered : IsEntered n request old new
   pub keeps : (journal : Journal) (commands : List Command) → Rests old journal → IsNext n journal → IsTillsBook mark journal commands
       → IsTillsBook mark (with_entry request journal) (commands ++ command ∷ [])
+
+-- a till's book stays one with the request after the last entry, which says a command with that token
+abbrev pub GoesOnWith : Text → Text → List ℕ → Journal → Type 0
+GoesOnWith mark token request journal =
+    (commands : List Command) → IsTillsBook mark journal commands
+    → (command : Command) × SaysCommand request token command × IsTillsBook mark (with_entry request journal) (commands ++ command ∷ [])
+
+-- what a stop may leave on the disk: the book with the entry, and a till's book stays one
+abbrev pub LeavesCommand : Text → Text → ℕ → List ℕ → State → Trees → Type 0
+LeavesCommand mark token n request old db =
+    (journal : Journal) → Rests old journal → IsNext n journal → StandsFor db (with_entry request journal) × GoesOnWith mark token request journal
 
 -- why a request is no entry of that number, whatever the book has
 abbrev pub IsUnfit : Text → Text → ℕ → DeskFault → List ℕ → Type 0

@@ -2,5 +2,6 @@ pub mod Delivering
 pub mod Entering
 pub mod Laws
 pub mod Settling
+pub mod Stops
 pub mod Told
 pub mod Desk

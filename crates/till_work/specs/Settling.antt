@@ -6,10 +6,11 @@ use Rattle.sqlite.specs.State.{State}
 use Rattle.shop_model.specs.Refusals.{MomentBack}
 use Rattle.shop_model.specs.Machine.{Sorry}
 use Rattle.shop_model.specs.Answers.{Answer, answer_of}
-use Rattle.till_book.specs.Journal.{Journal, IsUnsettled, settled_of, with_settled}
-use Rattle.till_book.specs.Steps.{Rests, LeavesNoted}
+use Rattle.till_book.specs.Journal.{Journal, StandsFor, IsUnsettled, settled_of, with_settled}
+use Rattle.till_book.specs.Steps.{Rests, LeavesChanged}
 use Rattle.till_client.specs.Replies.{seen_answer, answer_bytes}
 use Rattle.till_client.specs.Exchanges.{FailsToAsk}
+use Rattle.till_work.specs.Told.{IsDecided}
 use Rattle.till_work.specs.declared.settling.Settled.{Settled}
 use Rattle.till_work.specs.declared.settling.Settled.TheVariants.{Acted, Never, Open}
 use Rattle.till_work.specs.declared.fault.DeskFault.{DeskFault}
@@ -81,6 +82,19 @@ FailsToSettle n OtherBook old new output written = ⊥
 FailsToSettle n Unopened old new output written = ⊥
 FailsToSettle n NotKnown old new output written = ⊥
 
--- what a stop may leave on the disk: the book with the settlement, and nothing else
-abbrev pub MayNote : ℕ → State → Trees → Type 0
-MayNote n old db = (status : ℕ) × (body : List ℕ) × LeavesNoted n status body old db
+-- what a stop may leave on the disk of an entry that got this reply: the book with that settlement, if the reply decides the entry
+abbrev pub LeavesDecision : ℕ → Answer → State → Trees → Type 0
+LeavesDecision n answer old db = IsDecided answer × LeavesChanged (IsUnsettled n) (with_settled n answer) old db
+
+-- That entry was written whole, and a reply was read whole, which decides it.
+pub record IsDecidedBy (n : ℕ) (journal : Journal) (answer : Answer) (input left output written : Option (List ℕ)) : Type 0 where
+  pub writes : OfEntry n journal (λ request. Appends output written request)
+  pub reads : Consumes input left (answer_bytes answer)
+  pub given : answer.status ≢ 503
+  pub decides : IsDecided answer
+
+-- what a stop may leave on the disk: the book with the settlement, whose reply was read whole by then, and nothing else
+abbrev pub MayNote : ℕ → State → Option (List ℕ) → Option (List ℕ) → Option (List ℕ) → Option (List ℕ) → Trees → Type 0
+MayNote n old input left output written db =
+    (journal : Journal) → Rests old journal
+    → (answer : Answer) × IsDecidedBy n journal answer input left output written × StandsFor db (with_settled n answer journal)

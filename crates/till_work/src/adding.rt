@@ -40,7 +40,8 @@ pub fn enter<S: Alter>(
         → OnErr result (Stays place.old (state S.Store conn.old) place.new (state S.Store conn.new)) }
     ensures clean { HasCleanDisk (state S.Store conn.new) → HasCleanDisk (state S.Store conn.old) }
     ensures crash { Survives (state S.Store conn.old) (state S.Store conn.new)
-        (LeavesEntry till.entry.mark.now request.items place.old (state S.Store conn.old)) }
+        (LeavesEntry till.entry.mark.now till.entry.token.now request.items place.old
+        (state S.Store conn.old)) }
 {
     let Some(number) = place.entries.checked_add(1) else {
         return Err(DeskFault::Full);

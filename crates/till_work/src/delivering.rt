@@ -49,7 +49,8 @@ pub fn deliver<S: Alter, R: Read, W: Write>(
         → IfErr result (λ fault. FailsToDeliver next fault (state S.Store conn.old) (state S.Store conn.new)
         (W.contents writer.old) (W.contents writer.new)) }
     ensures crash { Survives (state S.Store conn.old) (state S.Store conn.new)
-        (MayLeave next (state S.Store conn.old)) }
+        (MayLeave next (state S.Store conn.old) (R.remaining reader.old) (R.remaining reader.new)
+        (W.contents writer.old) (W.contents writer.new)) }
 {
     let request = match oldest(conn, next) {
         Ok(Some(request)) => request,

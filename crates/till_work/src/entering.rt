@@ -8,8 +8,7 @@ ghost use Rattle.shop_types.specs.Seen.{seen_command};
 ghost use Rattle.shop_model.specs.Values.{Command as Written};
 ghost use Rattle.till_model.specs.Numbered.{key_of, IsAfterLast};
 ghost use Rattle.till_client.specs.Sealing.{SaysCommand};
-ghost use Rattle.till_book.specs.Steps.{LeavesEntered};
-ghost use Rattle.till_work.specs.Entering.{Enters, FailsToEnter, FindsLast, FindsNoLast, IsLast, IsUnfit};
+ghost use Rattle.till_work.specs.Entering.{Enters, FailsToEnter, FindsLast, FindsNoLast, IsLast, IsUnfit, LeavesCommand};
 
 use crate::fault::DeskFault;
 use counter_routes::Routes;
@@ -129,7 +128,7 @@ pub fn enter_command<S: Alter>(
         → IfErr result (λ fault. FailsToEnter mark.now token.now number fault request.items (state S.Store conn.old)
         (state S.Store conn.new)) }
     ensures crash { Survives (state S.Store conn.old) (state S.Store conn.new)
-        (LeavesEntered number request.items (state S.Store conn.old)) }
+        (LeavesCommand mark.now token.now number request.items (state S.Store conn.old)) }
 {
     let Sealed { bytes, command } = match fit(alloc, routes, mark, token, number, request) {
         Ok(sealed) => sealed,

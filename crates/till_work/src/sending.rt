@@ -6,7 +6,8 @@ ghost use Rattle.sqlite.specs.State.{HasCleanDisk};
 ghost use Rattle.till_client.specs.Replies.{seen_answer};
 ghost use Rattle.till_work.specs.declared.fault.DeskFault.TheVariants.{Book};
 ghost use Rattle.till_work.specs.Told.{IsTold};
-ghost use Rattle.till_work.specs.Desk.{AnswersOne, FailsToTell, Sends, FailsToSend, Stays, IsBookKept, TellsLast};
+ghost use Rattle.till_work.specs.Desk.{AnswersOne, FailsToTell, HasPlace, Sends, FailsToSend, Stays, IsBookKept, TellsLast};
+ghost use Rattle.till_work.specs.Stops.{IsAny, IsSentAfter, Leaves};
 
 use crate::delivering::deliver;
 use crate::fault::DeskFault;
@@ -45,6 +46,8 @@ fn send_once<S: Alter, V: Server>(
         (state S.Store conn.old)) }
     ensures counted { OnOk result (place.new ≡ record place.old { replies = place.old.replies + 1 }) }
     ensures uncounted { OnErr result (place.new ≡ place.old) }
+    ensures crash { HasCleanDisk (state S.Store conn.new) → Leaves (HasPlace place.old (state S.Store conn.old)) IsAny
+        (IsSentAfter (IsTold (V.opens server.now) V.Reader.remaining V.Writer.contents)) (state S.Store conn.new) }
 {
     let Ok((mut reader, mut writer)) = server.connect() else {
         return Err(DeskFault::Unopened);
@@ -104,6 +107,8 @@ pub fn send_oldest<S: Alter, V: Server, K: Clock>(
         (state S.Store conn.old)) }
     ensures counted { OnOk result (place.new ≡ record place.old { replies = place.old.replies + 1 }) }
     ensures uncounted { OnErr result (place.new ≡ place.old) }
+    ensures crash { HasCleanDisk (state S.Store conn.new) → Leaves (HasPlace place.old (state S.Store conn.old)) IsAny
+        (IsSentAfter (IsTold (V.opens server.now) V.Reader.remaining V.Writer.contents)) (state S.Store conn.new) }
 {
     let mut fault = DeskFault::Unopened;
     'rounds: for round in 0..ROUNDS {
@@ -150,6 +155,8 @@ pub fn send_waiting<S: Alter, V: Server, K: Clock, W: Watch>(
         (state S.Store conn.new)) }
     ensures entries { place.new.entries ≡ place.old.entries }
     ensures all { OnOk result (place.old.replies ≤ place.old.entries → place.new.replies ≡ place.old.entries) }
+    ensures crash { HasCleanDisk (state S.Store conn.new) → Leaves (HasPlace place.old (state S.Store conn.old)) IsAny
+        (IsSentAfter (IsTold (V.opens server.now) V.Reader.remaining V.Writer.contents)) (state S.Store conn.new) }
 {
     let first = place.replies;
     let end = place.entries;

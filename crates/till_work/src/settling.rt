@@ -6,7 +6,7 @@ ghost use Rattle.sqlite.specs.Held.{state};
 ghost use Rattle.sqlite.specs.State.{HasCleanDisk, Survives};
 ghost use Rattle.till_client.specs.Replies.{seen_answer};
 ghost use Rattle.till_book.specs.Seen.{seen_reply};
-ghost use Rattle.till_work.specs.Settling.{IsSettledBy, IsKept, Settles, FailsToSettle, MayNote};
+ghost use Rattle.till_work.specs.Settling.{IsSettledBy, IsKept, Settles, FailsToSettle, LeavesDecision, MayNote};
 
 use crate::fault::DeskFault;
 use counter_routes::Routes;
@@ -69,7 +69,7 @@ fn keep<S: Alter>(
         → IfOk result (λ settled. IsKept number (seen_answer answer) settled (state S.Store conn.old)
         (state S.Store conn.new)) }
     ensures crash { Survives (state S.Store conn.old) (state S.Store conn.new)
-        (MayNote number (state S.Store conn.old)) }
+        (LeavesDecision number (seen_answer answer) (state S.Store conn.old)) }
 {
     match settled_by(answer) {
         Settled::Acted(answer) => {
@@ -119,7 +119,8 @@ pub fn settle<S: Alter, R: Read, W: Write>(
         → IfErr result (λ fault. FailsToSettle number fault (state S.Store conn.old) (state S.Store conn.new)
         (W.contents writer.old) (W.contents writer.new)) }
     ensures crash { Survives (state S.Store conn.old) (state S.Store conn.new)
-        (MayNote number (state S.Store conn.old)) }
+        (MayNote number (state S.Store conn.old) (R.remaining reader.old) (R.remaining reader.new)
+        (W.contents writer.old) (W.contents writer.new)) }
 {
     match settlement_of(conn, number) {
         Ok(None) => {}

@@ -40,6 +40,13 @@ returns-in-Waiting-clause-done g c clean =
     c.args.desk.now.settings.now.mark c.args.desk.now.settings.now.token (giver_of c.args.desk.now.settings.now.staff c.args.desk.now.staff) c.args.plan
     plan.Waiting _ _ _ _ c.in-Waiting.is (on_ok _ (c.waiting_entries.ensures.stays clean))
 
+pub returns-in-Look-clause-done : goal.returns-in-Look-clause-done
+returns-in-Look-clause-done g c clean =
+    carried_out c.look.result (IsTold (g.V.Server.opens c.args.desk.now.server.now) g.V.Reader.Read.remaining g.V.Writer.Write.contents)
+    (local_clock (g.K.WallClock.shows c.args.desk.now.clock.now) c.args.desk.now.settings.now.zone)
+    c.args.desk.now.settings.now.mark c.args.desk.now.settings.now.token (giver_of c.args.desk.now.settings.now.staff c.args.desk.now.staff) c.args.plan
+    (plan.Look c.in-Look.it) _ _ _ _ c.in-Look.is (on_ok _ (c.look.ensures.stays clean))
+
 pub returns-in-Last-clause-done : goal.returns-in-Last-clause-done
 returns-in-Last-clause-done g c clean =
     carried_out c.last_entries.result (IsTold (g.V.Server.opens c.args.desk.now.server.now) g.V.Reader.Read.remaining g.V.Writer.Write.contents)
@@ -55,6 +62,11 @@ returns-in-Waiting-clause-keeps g c clean kept branch planned =
 pub returns-in-Waiting-clause-grows : goal.returns-in-Waiting-clause-grows
 returns-in-Waiting-clause-grows g c clean kept office planned =
     kept_grows _ c.args.book.now.place (state g.S.Store c.args.conn.now) (state g.S.Store c.waiting_entries.new.conn) (c.waiting_entries.ensures.stays clean)
+
+pub returns-in-Look-clause-keeps : goal.returns-in-Look-clause-keeps
+returns-in-Look-clause-keeps g c clean kept branch planned =
+    kept_goes _ c.args.desk.now.settings.now.mark c.args.book.now.place (state g.S.Store c.args.conn.now)
+    (state g.S.Store c.look.new.conn) (c.look.ensures.stays clean)
 
 pub returns-in-Last-clause-keeps : goal.returns-in-Last-clause-keeps
 returns-in-Last-clause-keeps g c clean kept branch planned =
@@ -98,6 +110,12 @@ returns-in-Waiting-clause-enters g c clean kept =
     enters_as (local_clock (g.K.WallClock.shows c.args.desk.now.clock.now) c.args.desk.now.settings.now.zone)
     c.args.desk.now.settings.now.mark c.args.desk.now.settings.now.token (giver_of c.args.desk.now.settings.now.staff c.args.desk.now.staff)
     plan.Waiting c.args.plan _ _ _ _ (sym c.in-Waiting.is) (c.waiting_entries.ensures.stays clean)
+
+pub returns-in-Look-clause-enters : goal.returns-in-Look-clause-enters
+returns-in-Look-clause-enters g c clean kept =
+    enters_as (local_clock (g.K.WallClock.shows c.args.desk.now.clock.now) c.args.desk.now.settings.now.zone)
+    c.args.desk.now.settings.now.mark c.args.desk.now.settings.now.token (giver_of c.args.desk.now.settings.now.staff c.args.desk.now.staff)
+    (plan.Look c.in-Look.it) c.args.plan _ _ _ _ (sym c.in-Look.is) (c.look.ensures.stays clean)
 
 pub returns-in-Last-clause-enters : goal.returns-in-Last-clause-enters
 returns-in-Last-clause-enters g c clean kept =

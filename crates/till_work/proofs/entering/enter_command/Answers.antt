@@ -1,11 +1,12 @@
-use Rattle.sql_rows.proofs.Common.{◌≡◌, ◌∙◌, ◌<◌, ◌^◌, List, ℕ, refl, ap, subst, arith, state, HasCleanDisk, survives_weaker}
+use Rattle.sql_rows.proofs.Common.{◌≡◌, ◌∙◌, ◌<◌, ◌^◌, List, ℕ, refl, ap, subst, arith, state, HasCleanDisk}
 use Rattle.shop_model.specs.Values.{Command}
 use Rattle.shop_types.specs.Seen.{seen_command}
 use Rattle.till_model.specs.Numbered.{IsAfterLast}
 use Rattle.till_client.proofs.SoleMessages.{one_command}
-use Rattle.till_book.specs.Steps.{IsEntered, LeavesEntered}
+use Rattle.till_book.specs.Steps.{IsEntered}
 use Rattle.till_work.proofs.Saying.{keeps_book}
-use Rattle.till_work.proofs.Noting.{entered_after}
+use Rattle.till_work.specs.Entering.{LeavesCommand}
+use Rattle.till_work.proofs.Stops.{nothing_left, command_left}
 use Rattle.till_work.proofs.entering.enter_command.Goals as goal
 
 pub returns-then-not-is_later-clause-fault : goal.returns-then-not-is_later-clause-fault
@@ -21,9 +22,8 @@ returns-then-not-is_later-clause-fault g c clean =
 
 pub returns-then-not-is_later-clause-crash : goal.returns-then-not-is_later-clause-crash
 returns-then-not-is_later-clause-crash g c =
-    survives_weaker (state g.S.Store c.args.conn.now) (state g.S.Store c.last_moment.new.conn) _
-    (LeavesEntered c.args.number c.args.request.items (state g.S.Store c.args.conn.now))
-    (λ _ db none. absurd none) c.last_moment.ensures.crash
+    nothing_left (state g.S.Store c.args.conn.now) (state g.S.Store c.last_moment.new.conn)
+    (LeavesCommand c.args.mark.now c.args.token.now c.args.number c.args.request.items (state g.S.Store c.args.conn.now)) c.last_moment.ensures.crash
 
 pub returns-in-Ok-enter-clause-entered : goal.returns-in-Ok-enter-clause-entered
 returns-in-Ok-enter-clause-entered g c clean =
@@ -49,15 +49,29 @@ returns-in-Ok-enter-clause-entered g c clean =
 pub returns-clause-crash : goal.returns-clause-crash
 returns-clause-crash g c =
     let own = c.in-Ok.ensures.ok in
-    entered_after c.args.number c.as_slice.result.now c.args.request.items (state g.S.Store c.args.conn.now)
+    let command = seen_command c.in-Ok.sealed.command in
+    let request = c.args.request.items in
+    let small : c.args.number < 2 ^ 32 = omega (arith, c.ranges.number.fits) in
+    command_left c.args.mark.now c.args.token.now c.args.number c.as_slice.result.now request command (state g.S.Store c.args.conn.now)
     (state g.S.Store c.last_moment.new.conn) (state g.S.Store c.enter.new.conn)
-    (c.as_slice.ensures.value ∙ ap (λ v. v.items) own.0) c.last_moment.ensures.crash
-    (λ clean. (c.in-Ok-last_moment.ensures.found clean).0) c.enter.ensures.crash
+    (c.as_slice.ensures.value ∙ ap (λ v. v.items) own.0) own.1 c.last_moment.ensures.crash
+    (λ clean. (c.in-Ok-last_moment.ensures.found clean).0)
+    (λ clean journal commands rests next book.
+    keeps_book c.args.mark.now c.args.number journal commands request command small next book (c.args.token.now, own.1) own.2
+    (c.if-not-is_later.ensures.yes commands ((c.in-Ok-last_moment.ensures.found clean).1 journal commands rests next book.says) refl))
+    c.enter.ensures.crash
 
 pub returns-in-Ok-enter-clause-crash : goal.returns-in-Ok-enter-clause-crash
 returns-in-Ok-enter-clause-crash g c =
     let own = c.in-Ok.ensures.ok in
-    entered_after c.args.number c.as_slice.result.now c.args.request.items (state g.S.Store c.args.conn.now)
+    let command = seen_command c.in-Ok.sealed.command in
+    let request = c.args.request.items in
+    let small : c.args.number < 2 ^ 32 = omega (arith, c.ranges.number.fits) in
+    command_left c.args.mark.now c.args.token.now c.args.number c.as_slice.result.now request command (state g.S.Store c.args.conn.now)
     (state g.S.Store c.last_moment.new.conn) (state g.S.Store c.enter.new.conn)
-    (c.as_slice.ensures.value ∙ ap (λ v. v.items) own.0) c.last_moment.ensures.crash
-    (λ clean. (c.in-Ok-last_moment.ensures.found clean).0) c.enter.ensures.crash
+    (c.as_slice.ensures.value ∙ ap (λ v. v.items) own.0) own.1 c.last_moment.ensures.crash
+    (λ clean. (c.in-Ok-last_moment.ensures.found clean).0)
+    (λ clean journal commands rests next book.
+    keeps_book c.args.mark.now c.args.number journal commands request command small next book (c.args.token.now, own.1) own.2
+    (c.if-not-is_later.ensures.yes commands ((c.in-Ok-last_moment.ensures.found clean).1 journal commands rests next book.says) refl))
+    c.enter.ensures.crash

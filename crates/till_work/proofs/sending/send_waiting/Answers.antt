@@ -2,6 +2,7 @@ use Rattle.sql_rows.proofs.Common.{◌∙◌, ◌+◌, ap, refl, state}
 use Rattle.till_work.specs.Told.{IsTold}
 use Rattle.till_work.specs.declared.place.Place.{Place}
 use Rattle.till_work.proofs.GoingOn.{none_sent, tells_sends, tells_one, sends_stays, kept_as, kept_if, why_then}
+use Rattle.till_work.proofs.Stops.{sends_then_leaves}
 use Rattle.till_work.proofs.sending.send_waiting.Goals as goal
 
 pub entries-init : goal.entries-init
@@ -50,3 +51,12 @@ returns-in-Err-clause-why g c clean =
     (state g.S.Store c.entries.conn) (state g.S.Store c.send_oldest.new.conn)
     (c.entries.invariant.2 (c.send_oldest.ensures.clean clean))
     (λ other. c.in-Err.ensures.stays clean (kept_if c.in-Err.fault other)) c.in-Err.ensures.uncounted (c.in-Err.ensures.why clean)
+
+pub returns-in-Err-clause-crash : goal.returns-in-Err-clause-crash
+returns-in-Err-clause-crash g c clean =
+    sends_then_leaves (IsTold (g.V.Server.opens c.args.server.now) g.V.Reader.Read.remaining g.V.Writer.Write.contents)
+    c.args.place.now c.entries.place (state g.S.Store c.args.conn.now) (state g.S.Store c.entries.conn) (state g.S.Store c.send_oldest.new.conn)
+    (tells_sends (IsTold (g.V.Server.opens c.args.server.now) g.V.Reader.Read.remaining g.V.Writer.Write.contents)
+    c.entries.last c.args.place.now c.entries.place (state g.S.Store c.args.conn.now) (state g.S.Store c.entries.conn)
+    (c.entries.invariant.2 (c.send_oldest.ensures.clean clean)))
+    (c.send_oldest.ensures.crash clean)

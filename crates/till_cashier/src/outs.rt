@@ -1,0 +1,152 @@
+//! The copies of films that are out, and who has them.
+
+use crate::caches::Shelf;
+use crate::clock::WallClock;
+use crate::desk::Desk;
+use crate::lists::{List, body_of};
+use crate::members::{number_at, row_with, text_at};
+use serde_json::Value;
+use shop_types::{Ask, CopyNo, CustomerNo, FilmNo};
+use till_client::Answer;
+use till_requests::look_request;
+use till_shows::holder;
+use till_work::Server;
+
+/// For how many seconds the server is asked.
+const SPAN: u64 = 2;
+
+/// A copy that is out, the title of its film, and who has it.
+#[derive(Drop)]
+pub(crate) struct Out {
+    pub(crate) title: String,
+    pub(crate) copy: CopyNo,
+    pub(crate) customer: CustomerNo,
+    /// The customer's first name and last name.
+    pub(crate) name: String,
+    pub(crate) phone: String,
+}
+
+/// The lists of films and of customers.
+#[derive(Drop)]
+struct Lists {
+    films: Value,
+    customers: Value,
+}
+
+/// Returns the list, from the shelf or from the server.
+fn list_of<K: WallClock, V: Server, L: Shelf>(
+    desk: &Desk<'_, K, V, L>,
+    list: List,
+) -> Option<Value> {
+    let body = body_of(desk, list)?;
+    Value::from_slice(desk.alloc, body.as_slice()).ok()
+}
+
+/// Returns both lists.
+fn read_lists<K: WallClock, V: Server, L: Shelf>(desk: &Desk<'_, K, V, L>) -> Option<Lists> {
+    Some(Lists {
+        films: list_of(desk, List::Films)?,
+        customers: list_of(desk, List::Customers)?,
+    })
+}
+
+/// Asks the server once, and returns its answer if that isn't a refusal.
+fn asked<K: WallClock, V: Server, L: Shelf>(desk: &Desk<'_, K, V, L>, ask: &Ask) -> Option<Answer> {
+    let request = look_request(desk.alloc, desk.routes, &desk.settings.token, ask).ok()?;
+    let answer = desk.ask_once(request.as_slice()).ok()?;
+    if answer.status == 200 {
+        Some(answer)
+    } else {
+        None
+    }
+}
+
+/// Returns who has the copy, by the server and the list of customers.
+fn out_of<K: WallClock, V: Server, L: Shelf>(
+    desk: &Desk<'_, K, V, L>,
+    lists: &Lists,
+    title: &str,
+    copy: CopyNo,
+) -> Option<Out> {
+    let answer = asked(desk, &Ask::HeldBy(copy))?;
+    let customer = holder(desk.alloc, answer.body.as_slice()).ok()??;
+    let row = row_with(&lists.customers, "id", customer.get())?;
+    Some(Out {
+        title: String::from_str(desk.alloc, title).ok()?,
+        copy,
+        customer,
+        name: text_at(desk.alloc, row, "name")?,
+        phone: text_at(desk.alloc, row, "phone")?,
+    })
+}
+
+/// Adds the film's copies that are out.
+fn add_outs<K: WallClock, V: Server, L: Shelf>(
+    desk: &Desk<'_, K, V, L>,
+    lists: &Lists,
+    title: &str,
+    film: FilmNo,
+    outs: &mut Vec<Out>,
+) -> Option<()> {
+    let answer = asked(desk, &Ask::FilmNotInStock(film))?;
+    let body = Value::from_slice(desk.alloc, answer.body.as_slice()).ok()?;
+    for number in body.get("copies")?.as_array()?.as_slice() {
+        let copy = CopyNo::new(u32::try_from(number.as_u64()?).ok()?)?;
+        outs.push(out_of(desk, lists, title, copy)?).ok()?;
+    }
+    Some(())
+}
+
+/// Returns the copies that are out of all films with that title. Returns none if the server or a list doesn't say all.
+fn outs_of_title<K: WallClock, V: Server, L: Shelf>(
+    desk: &Desk<'_, K, V, L>,
+    lists: &Lists,
+    title: &str,
+) -> Option<Vec<Out>> {
+    let mut outs = Vec::new(desk.alloc);
+    for film in lists.films.as_array()?.as_slice() {
+        if film.get("title")?.as_str()? == title {
+            let film = FilmNo::new(number_at(film, "film")?)?;
+            add_outs(desk, lists, title, film, &mut outs)?;
+        }
+    }
+    Some(outs)
+}
+
+/// Tests whether the server was asked for long enough.
+fn is_over<K: WallClock, V: Server, L: Shelf>(desk: &Desk<'_, K, V, L>, begun: u64) -> bool {
+    match desk.seconds() {
+        Ok(now) => now < begun || now - begun >= SPAN,
+        Err(_) => true,
+    }
+}
+
+/// Adds the copies that are out of the films with these titles, title by title, for two seconds.
+fn add_titles<K: WallClock, V: Server, L: Shelf>(
+    desk: &Desk<'_, K, V, L>,
+    titles: &[&str],
+    outs: &mut Vec<Out>,
+) -> Option<()> {
+    let begun = desk.seconds().ok()?;
+    let lists = read_lists(desk)?;
+    for title in titles {
+        if is_over(desk, begun) {
+            return Some(());
+        }
+        if let Some(more) = outs_of_title(desk, &lists, *title) {
+            outs.extend(more).ok()?;
+        }
+    }
+    Some(())
+}
+
+/// Returns the copies that are out of the films with these titles. The server is asked for two seconds. If it doesn't say
+/// all of a title, the title has no copy here.
+pub(crate) fn outs_of<K: WallClock, V: Server, L: Shelf>(
+    desk: &Desk<'_, K, V, L>,
+    titles: &[&str],
+) -> Vec<Out> {
+    let mut outs = Vec::new(desk.alloc);
+    let _ = add_titles(desk, titles, &mut outs);
+    outs
+}

@@ -1,0 +1,302 @@
+//! What is overdue, with the numbers of the copies, and of the rentals that the book or the sheet knows.
+
+ghost use Rattle.std.specs.Prelude.{◌≡◌, false};
+ghost use Rattle.sqlite.specs.Held.{state};
+ghost use Rattle.sqlite.specs.State.{HasCleanDisk};
+ghost use Rattle.till_book.specs.Steps.{Stays};
+
+use crate::answers::{says_all, says_list, says_table};
+use crate::caches::Shelf;
+use crate::clock::WallClock;
+use crate::desk::Desk;
+use crate::fault::TillFault;
+use crate::looks::looked;
+use crate::members::text_at;
+use crate::outs::{Out, outs_of};
+use crate::returns::held_at;
+use crate::said::Said;
+use crate::sheet::row_of;
+use serde_json::Value;
+use shop_types::{Ask, CopyNo, CustomerNo, RentalNo};
+use sqlite::{Alter, Connection};
+use std::alloc::{AllocError, Global};
+use till_book::HeldRental;
+use till_shows::{Column, Row, Side, Table};
+use till_work::Server;
+
+/// What is said if nothing is overdue.
+const NONE: &str = "nothing is overdue";
+
+/// What the list has.
+const COLUMNS: [Column; 5] = [
+    Column {
+        heading: "customer",
+        side: Side::Left,
+    },
+    Column {
+        heading: "phone",
+        side: Side::Left,
+    },
+    Column {
+        heading: "title",
+        side: Side::Left,
+    },
+    Column {
+        heading: "copy",
+        side: Side::Right,
+    },
+    Column {
+        heading: "rental",
+        side: Side::Right,
+    },
+];
+
+/// An overdue rental, as the server lists it.
+#[derive(Drop)]
+struct Late {
+    /// The customer's last name, a comma, and the first name.
+    customer: String,
+    phone: String,
+    title: String,
+}
+
+/// Returns the rentals in the body of `GET /overdue/{at}`.
+fn lates_in(alloc: Global, body: &[u8]) -> Option<Vec<Late>> {
+    let list = Value::from_slice(alloc, body).ok()?;
+    let mut lates = Vec::new(alloc);
+    for row in list.as_array()?.as_slice() {
+        let late = Late {
+            customer: text_at(alloc, row, "customer")?,
+            phone: text_at(alloc, row, "phone")?,
+            title: text_at(alloc, row, "title")?,
+        };
+        lates.push(late).ok()?;
+    }
+    Some(lates)
+}
+
+/// Returns the titles, each once.
+fn titles_in(alloc: Global, lates: &[Late]) -> Result<Vec<&str>, AllocError> {
+    let mut titles: Vec<&str> = Vec::new(alloc);
+    for late in lates {
+        let title = late.title.as_str();
+        if !titles.as_slice().iter().any(|it| *it == title) {
+            titles.push(title)?;
+        }
+    }
+    Ok(titles)
+}
+
+/// Tests whether the two rentals are listed alike.
+fn is_alike(one: &Late, two: &Late) -> bool {
+    one.customer == two.customer && one.phone == two.phone && one.title == two.title
+}
+
+/// Tests whether the name is the listed customer's: `MARY SMITH` is `SMITH, MARY`.
+fn is_name_of(listed: &str, name: &str) -> bool {
+    let Some((last, first)) = listed.split_once(", ") else {
+        return false;
+    };
+    match name.strip_prefix(first) {
+        Some(rest) => rest.strip_prefix(" ") == Some(last),
+        None => false,
+    }
+}
+
+/// Tests whether the copy is of the rental's title, and a customer of that name and phone has it.
+fn may_be_of(out: &Out, late: &Late) -> bool {
+    out.title == late.title
+        && out.phone == late.phone
+        && is_name_of(late.customer.as_str(), out.name.as_str())
+}
+
+/// Returns how many of the rentals are listed alike.
+fn count_alike(lates: &[Late], late: &Late) -> usize {
+    let mut count: usize = 0;
+    for it in lates {
+        if is_alike(it, late) {
+            count = count.saturating_add(1);
+        }
+    }
+    count
+}
+
+/// Returns how many of the copies may be the rental's.
+fn count_outs(outs: &[Out], late: &Late) -> usize {
+    let mut count: usize = 0;
+    for out in outs {
+        if may_be_of(out, late) {
+            count = count.saturating_add(1);
+        }
+    }
+    count
+}
+
+/// Returns the copy of that place, counted from 0, among those that may be the rental's.
+fn nth_out<'o>(outs: &'o [Out], late: &Late, place: usize) -> Option<&'o Out> {
+    let mut before = place;
+    for out in outs {
+        if may_be_of(out, late) {
+            if before == 0 {
+                return Some(out);
+            }
+            before = before.saturating_sub(1);
+        }
+    }
+    None
+}
+
+/// Returns the copy of the rental at that place. It is known if as many copies may be the rental's as rentals are listed
+/// alike. Otherwise one of the copies isn't overdue, or one isn't known.
+fn out_at<'o>(lates: &[Late], outs: &'o [Out], at: usize) -> Option<&'o Out> {
+    let late = lates.get(at)?;
+    if count_alike(lates, late) != count_outs(outs, late) {
+        return None;
+    }
+    nth_out(outs, late, count_alike(lates.get(..at)?, late))
+}
+
+/// Returns the rental of a copy that the customer has: the register's, or else the sheet's, if it is that customer's.
+fn rental_by<K: WallClock, V: Server, L: Shelf>(
+    desk: &Desk<'_, K, V, L>,
+    held: Option<HeldRental>,
+    copy: CopyNo,
+    customer: CustomerNo,
+) -> Option<RentalNo> {
+    if let Some(held) = held {
+        if held.customer.get() == customer.get() {
+            return Some(held.rental);
+        }
+    }
+    let row = row_of(desk, copy)?;
+    if row.customer?.get() == customer.get() {
+        row.rental
+    } else {
+        None
+    }
+}
+
+/// Returns the rental of a copy that is out, if the register or the sheet knows it. The book stays.
+fn rental_of<S: Alter, K: WallClock, V: Server, L: Shelf>(
+    desk: &Desk<'_, K, V, L>,
+    conn: &mut Connection<S>,
+    out: &Option<&Out>,
+) -> Result<Option<RentalNo>, TillFault>
+    requires { conn.old.in_transaction ≡ false }
+    ensures ended { conn.new.in_transaction ≡ false }
+    ensures clean { HasCleanDisk (state S.Store conn.new) → HasCleanDisk (state S.Store conn.old) }
+    ensures stays { HasCleanDisk (state S.Store conn.new) → Stays (state S.Store conn.old) (state S.Store conn.new) }
+{
+    let Some(out) = out else {
+        return Ok(None);
+    };
+    let held = held_at(conn, out.copy)?;
+    Ok(rental_by(desk, held, out.copy, out.customer))
+}
+
+/// Returns the number as a text, or an empty text.
+fn number_text(alloc: Global, number: Option<u32>) -> Result<String, AllocError> {
+    match number {
+        Some(number) => format!(in alloc; "{number}"),
+        None => Ok(String::new(alloc)),
+    }
+}
+
+/// Returns the rental's row.
+fn row_text(
+    alloc: Global,
+    late: &Late,
+    out: Option<&Out>,
+    rental: Option<RentalNo>,
+) -> Result<Row, AllocError> {
+    let copy = match out {
+        Some(out) => Some(out.copy.get()),
+        None => None,
+    };
+    let rental = match rental {
+        Some(rental) => Some(rental.get()),
+        None => None,
+    };
+    let mut row = Row::new(alloc);
+    row.push(late.customer.clone()?)?;
+    row.push(late.phone.clone()?)?;
+    row.push(late.title.clone()?)?;
+    row.push(number_text(alloc, copy)?)?;
+    row.push(number_text(alloc, rental)?)?;
+    Ok(row)
+}
+
+/// Adds a row for the rental at that place. The book stays.
+fn add_late<S: Alter, K: WallClock, V: Server, L: Shelf>(
+    desk: &Desk<'_, K, V, L>,
+    conn: &mut Connection<S>,
+    lates: &[Late],
+    outs: &[Out],
+    at: usize,
+    table: &mut Table,
+) -> Result<(), TillFault>
+    requires { conn.old.in_transaction ≡ false }
+    ensures ended { conn.new.in_transaction ≡ false }
+    ensures clean { HasCleanDisk (state S.Store conn.new) → HasCleanDisk (state S.Store conn.old) }
+    ensures stays { HasCleanDisk (state S.Store conn.new) → Stays (state S.Store conn.old) (state S.Store conn.new) }
+{
+    let Some(late) = lates.get(at) else {
+        return Ok(());
+    };
+    let out = out_at(lates, outs, at);
+    let rental = rental_of(desk, conn, &out)?;
+    table.add(row_text(desk.alloc, late, out, rental)?)?;
+    Ok(())
+}
+
+/// Returns the table of the rentals, with the numbers that are known. The book stays.
+fn table_of<S: Alter, K: WallClock, V: Server, L: Shelf>(
+    desk: &Desk<'_, K, V, L>,
+    conn: &mut Connection<S>,
+    lates: &[Late],
+    outs: &[Out],
+) -> Result<Table, TillFault>
+    requires { conn.old.in_transaction ≡ false }
+    ensures ended { conn.new.in_transaction ≡ false }
+    ensures clean { HasCleanDisk (state S.Store conn.new) → HasCleanDisk (state S.Store conn.old) }
+    ensures stays { HasCleanDisk (state S.Store conn.new) → Stays (state S.Store conn.old) (state S.Store conn.new) }
+{
+    let mut table = Table::new(desk.alloc, &COLUMNS)?;
+    'lates: for at in 0..lates.len() {
+        match add_late(desk, conn, lates, outs, at, &mut table) {
+            Ok(()) => continue,
+            Err(fault) => return Err(fault),
+        }
+    }
+    Ok(table)
+}
+
+/// Says what is overdue. It has a rental's copy if the server says who has which copies of the film. It has the rental's
+/// number if the register or the sheet knows that. The book stays.
+pub(crate) fn overdue<S: Alter, K: WallClock, V: Server, L: Shelf>(
+    desk: &Desk<'_, K, V, L>,
+    conn: &mut Connection<S>,
+    said: &mut Said,
+) -> Result<(), TillFault>
+    requires { conn.old.in_transaction ≡ false }
+    ensures ended { conn.new.in_transaction ≡ false }
+    ensures clean { HasCleanDisk (state S.Store conn.new) → HasCleanDisk (state S.Store conn.old) }
+    ensures stays { HasCleanDisk (state S.Store conn.new) → Stays (state S.Store conn.old) (state S.Store conn.new) }
+{
+    let ask = Ask::Overdue(desk.now()?);
+    let answer = looked(desk, &ask)?;
+    if says_all(desk.alloc, desk.is_json, &answer, said)? {
+        return Ok(());
+    }
+    let body = answer.body.as_slice();
+    let Some(lates) = lates_in(desk.alloc, body) else {
+        return Err(TillFault::Foreign);
+    };
+    let titles = titles_in(desk.alloc, lates.as_slice())?;
+    let outs = outs_of(desk, titles.as_slice());
+    if outs.is_empty() {
+        return says_list(desk.alloc, &ask, body, NONE, said);
+    }
+    let table = table_of(desk, conn, lates.as_slice(), outs.as_slice())?;
+    says_table(desk.alloc, &table, NONE, said)
+}
