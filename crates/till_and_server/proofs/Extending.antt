@@ -1,14 +1,15 @@
 -- A book that a till's words extended stays recorded.
 use Rattle.shop_model.proofs.Common.{◌≡◌, ◌∙◌, ℕ, zero, suc, ◌+◌, List, [], ◌∷◌, ◌++◌, length, Option, Some, sym, ap, subst, arith, slice_get, AllByRecursion}
-use Rattle.shop_model.proofs.Common.{Text, Command, OfficeAsk, Rules, Answer, Books}
+use Rattle.shop_model.proofs.Common.{Rules, Answer, Books}
 use Rattle.shop_model.proofs.Resends.{same_some, same_none}
 use Rattle.till_model.proofs.Settled.{all_of}
 use Rattle.till_book.specs.Journal.{Journal}
 use Rattle.till_work.specs.Settling.{OfEntry}
-use Rattle.till_work.specs.Told.{IsTold, IsToldAt, AreTold, IsSettledAt, AreSettled}
+use Rattle.till_work.specs.Told.{IsTold, IsToldAt, AreTold, IsSettledAt}
 use Rattle.till_work.specs.Desk.{Extends}
 use Rattle.till_and_server.specs.Streams.{Streams}
-use Rattle.till_and_server.specs.Lives.{ServedLife, WasRecorded, WereRecorded, WereNoted}
+use Rattle.till_and_server.specs.ServedLives.{ServedLife}
+use Rattle.till_and_server.specs.Lives.{WasRecorded, WereRecorded, WereNoted}
 use Rattle.till_and_server.specs.Laws.{AreAnswered, ExtendedBooksStayRecorded, WordsReachTheDisk}
 use Rattle.till_and_server.proofs.Recorded.{still_at, was_recorded}
 use Rattle.till_and_server.proofs.Settled.{settled_to_disk}

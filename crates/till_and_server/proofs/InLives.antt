@@ -3,7 +3,8 @@ use Rattle.shop_model.proofs.Common.{◌≡◌, ◌∙◌, ℕ, zero, suc, List,
 use Rattle.shop_model.proofs.Resends.{same_some, same_none}
 use Rattle.counter_http.specs.Events.{event_of, known_token}
 use Rattle.counter_http.specs.Exchanges.{Exchange}
-use Rattle.till_and_server.specs.Lives.{life_of, books_then}
+use Rattle.till_and_server.specs.ServedLives.{life_of}
+use Rattle.till_and_server.specs.Lives.{books_then}
 use Rattle.till_and_server.specs.Laws.{ExchangesAreAnswered, RunsAreLives}
 
 pub at_front : {A : Type 0} (front : List A) (x : A) (back : List A) → slice_get (front ++ x ∷ back) (length front) ≡ Some x

@@ -9,3 +9,4 @@ pub mod Recorded
 pub mod Witnesses
 pub mod Settled
 pub mod Extending
+pub mod Isolated

@@ -5,7 +5,8 @@ use Rattle.shop_model.proofs.Resends.{same_some, same_none}
 use Rattle.till_client.specs.Replies.{answer_bytes}
 use Rattle.till_book.specs.Journal.{Journal, waiting, with_reply}
 use Rattle.till_and_server.specs.Streams.{Streams}
-use Rattle.till_and_server.specs.Lives.{ServedLife, WasRecorded, WereRecorded, IsAnsweredBy}
+use Rattle.till_and_server.specs.ServedLives.{ServedLife}
+use Rattle.till_and_server.specs.Lives.{WasRecorded, WereRecorded, IsAnsweredBy}
 use Rattle.till_and_server.specs.Laws.{DeliveriesAreRecorded}
 
 pub still_at : {A : Type 0} (xs ys : List A) (i : ℕ) (x : A) → slice_get xs i ≡ Some x → slice_get (xs ++ ys) i ≡ Some x

@@ -13,7 +13,8 @@ use Rattle.till_book.specs.Read.{in_order}
 use Rattle.till_book.specs.Saying.{Says}
 use Rattle.till_work.specs.Settling.{OfEntry}
 use Rattle.till_and_server.specs.Streams.{Streams}
-use Rattle.till_and_server.specs.Lives.{ServedLife, lives_of, WasRecorded, IsAnsweredBy, WereNoted}
+use Rattle.till_and_server.specs.ServedLives.{ServedLife, lives_of}
+use Rattle.till_and_server.specs.Lives.{WasRecorded, IsAnsweredBy, WereNoted}
 use Rattle.till_and_server.specs.Laws.{SettlementsAreNoted, SettledTillAndServer}
 use Rattle.till_and_server.proofs.Recorded.{still_at, was_recorded}
 use Rattle.till_and_server.proofs.Witnesses.{said_at, decision, was_answered, are_witnesses}

@@ -19,7 +19,8 @@ use Rattle.till_model.proofs.Numbered.{numbered_own}
 use Rattle.till_model.proofs.Press.{press_to_disk}
 use Rattle.till_client.specs.Sealing.{SaysCommand}
 use Rattle.till_book.specs.Saying.{Says, Say}
-use Rattle.till_and_server.specs.Lives.{ServedLife, life_of, lives_of, StandIn, WasRecorded, ComeFromEntries}
+use Rattle.till_and_server.specs.ServedLives.{ServedLife, life_of, lives_of}
+use Rattle.till_and_server.specs.Lives.{StandIn, WasRecorded, ComeFromEntries}
 use Rattle.till_and_server.specs.Laws.{one_exchange, RunsOne, OneEventIsRun, ExchangesAreWitnesses, TillAndServer}
 use Rattle.till_and_server.proofs.OneConnection.{message_read, answer_read}
 use Rattle.till_and_server.proofs.InLives.{unmapped_at, are_answered}

@@ -29,8 +29,8 @@ use Rattle.till_work.specs.Entering.{IsTillsBook}
 use Rattle.till_work.specs.Told.{IsTold}
 use Rattle.till_work.specs.Desk.{Extends}
 use Rattle.till_and_server.specs.Streams.{Streams, Carries, IsWritten, Serving, Serves, ServesThese, WasExchanged}
-use Rattle.till_and_server.specs.Lives.{ServedLife, life_of, lives_of, books_then, StandIn, IsTokenOf, IsAnsweredBy, WereRecorded, StaysRecorded, WereNoted}
-use Rattle.till_and_server.specs.Lives.{StaysNoted, ComeFromEntries}
+use Rattle.till_and_server.specs.ServedLives.{ServedLife, life_of, lives_of}
+use Rattle.till_and_server.specs.Lives.{books_then, StandIn, IsTokenOf, IsAnsweredBy, WereRecorded, StaysRecorded, WereNoted, StaysNoted, ComeFromEntries}
 
 -- ---- one connection
 

@@ -1,3 +1,5 @@
 pub mod Streams
+pub mod ServedLives
 pub mod Lives
+pub mod Isolation
 pub mod Laws

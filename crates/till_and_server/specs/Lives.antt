@@ -1,5 +1,5 @@
--- The lives of a served chain, and the place of a connection's exchanges in a life.
-use Rattle.std.specs.Prelude.{◌≡◌, ◌≢◌, ◌++◌, [], ℕ, Bool, true, List, length, map, slice_get, Some}
+-- The place of a connection's exchanges in a life of a served chain, and what was recorded of them.
+use Rattle.std.specs.Prelude.{◌≡◌, ◌≢◌, ◌++◌, [], ℕ, true, List, length, slice_get, Some}
 use Rattle.std.specs.List.{AllByRecursion}
 use Rattle.std.specs.Io.KnownBytes.{Appends, Consumes}
 use Rattle.http_messages.specs.Input.{HasMessage}
@@ -8,8 +8,7 @@ use Rattle.shop_model.specs.Machine.{Do}
 use Rattle.shop_model.specs.Answers.{Answer}
 use Rattle.shop_model.specs.Books.{Books, Counter, caller_of}
 use Rattle.shop_model.specs.Resends.{Asks, books_at}
-use Rattle.shop_model.specs.Stops.{Life, begun}
-use Rattle.counter_routes.specs.Words.{Meaning}
+use Rattle.shop_model.specs.Stops.{begun}
 use Rattle.counter_http.specs.Events.{known_token}
 use Rattle.counter_http.specs.Exchanges.{Exchange, events_of, answers_of}
 use Rattle.till_client.specs.Sealing.{SaysCommand}
@@ -18,20 +17,8 @@ use Rattle.till_client.specs.Laws.{IsShort}
 use Rattle.till_book.specs.Journal.{Journal, waiting, with_entry, with_reply, with_settled}
 use Rattle.till_work.specs.Settling.{OfEntry}
 use Rattle.till_model.specs.Numbered.{has_mark}
+use Rattle.till_and_server.specs.ServedLives.{ServedLife, lives_of}
 use Rattle.till_and_server.specs.Streams.{Streams, AreJoined, Serving, ServesThese, WasExchanged}
-
--- A chain's exchanges over all its connections, from its opening until it was closed or stopped, and the meaning of head office's words then.
--- `acted` says whether the request at which the store failed had acted all the same.
-pub record ServedLife : Type 0 where
-  pub meaning : Meaning
-  pub exchanges : List Exchange
-  pub acted : Bool
-
-abbrev pub life_of : ServedLife → Life
-life_of life = record { events = events_of life.meaning life.exchanges; answers = answers_of life.exchanges; acted = life.acted }
-
-abbrev pub lives_of : List ServedLife → List Life
-lives_of lives = map life_of lives
 
 -- the books before the exchange at that place of that life
 abbrev pub books_then : Rules → List ServedLife → Books → ℕ → ServedLife → ℕ → Books

@@ -1,6 +1,7 @@
 //! Laws. Each is the contract of a function that does nothing.
 
 ghost use Rattle.till_and_server.specs.Laws.{RunsHaveExchanges, OneMessageIsRead, OneAnswerIsRead, OneEventIsRun, RunsAreLives, ServedOverAStop, OneAmongMany, ExchangesAreAnswered, DeliveriesAreRecorded, ExchangesAreWitnesses, TillAndServer, SettlementsAreNoted, SettledTillAndServer, ExtendedBooksStayRecorded, WordsReachTheDisk};
+ghost use Rattle.till_and_server.specs.Isolation.{LivesSendTheSame, ResentRequestsSendTheSame, OneLifeIsOneHistory};
 
 use sqlite::Alter;
 use till_work::Server;
@@ -91,3 +92,23 @@ pub fn words_reach_the_disk<V: Server>(server: &V)
 {
     let _ = server;
 }
+
+/// Two chains with the same limits live any lives, each with its own stops. Their books begin alike for a branch. If the
+/// branch sees the same over all lives, it is sent the same bytes. Its view says which of its own requests acted without
+/// a reply. Afterwards the books are alike for the branch again.
+pub fn lives_send_the_same()
+    ensures { LivesSendTheSame }
+{}
+
+/// The same law for a branch that sends a request in flight again before it sees anything else. It is sent the same bytes
+/// whether that request had acted or not.
+pub fn resent_requests_send_the_same()
+    ensures { ResentRequestsSendTheSame }
+{}
+
+/// Suppose that no request in flight acted. Then a branch is sent and sees in one life what it is sent and sees in a
+/// history without stops. So of one life each, `lives_send_the_same` says what `branches_are_sent_the_same` of
+/// `counter_http` says of two histories.
+pub fn one_life_is_one_history()
+    ensures { OneLifeIsOneHistory }
+{}
