@@ -129,6 +129,26 @@ fn has_failed(sure: &Result<(), TillFault>) -> bool
     matches!(sure, Err(TillFault::Book))
 }
 
+/// Makes sure of refused entries after a word: after `send` as long as it takes, and else for a short time.
+fn made_sure<S: Alter, K: WallClock, V: Server, L: Shelf>(
+    desk: &Desk<'_, K, V, L>,
+    conn: &mut Connection<S>,
+    is_send: bool,
+    said: &mut Said,
+) -> Result<(), TillFault>
+    requires { conn.old.in_transaction ≡ false }
+    ensures ended { conn.new.in_transaction ≡ false }
+    ensures clean { HasCleanDisk (state S.Store conn.new) → HasCleanDisk (state S.Store conn.old) }
+    ensures same { HasCleanDisk (state S.Store conn.new) → IsBookKept result
+        → EntersNothing (IsTold (V.opens desk.now.server.now) V.Reader.remaining V.Writer.contents) (state S.Store
+        conn.old) (state S.Store conn.new) }
+{
+    if is_send {
+        return make_sure(desk, conn, said);
+    }
+    make_sure_soon(desk, conn, said)
+}
+
 /// Makes sure of refused entries after a word, and prints what that results in. After `send` it takes its time. Returns
 /// whether the book failed.
 fn sure_at<S: Alter, K: WallClock, V: Server, L: Shelf, W: Write, E: Write>(
@@ -146,11 +166,7 @@ fn sure_at<S: Alter, K: WallClock, V: Server, L: Shelf, W: Write, E: Write>(
         conn.old) (state S.Store conn.new) }
 {
     let mut more = Said::done(desk.alloc);
-    let sure = if is_send {
-        make_sure(desk, conn, &mut more)
-    } else {
-        make_sure_soon(desk, conn, &mut more)
-    };
+    let sure = made_sure(desk, conn, is_send, &mut more);
     print(Ok(more), out, err);
     has_failed(&sure)
 }
