@@ -15,7 +15,7 @@ use till_work::Server;
 /// For how many seconds the server is asked.
 const SPAN: u64 = 2;
 
-/// A copy that is out, the title of its film, and who has it.
+/// A copy that is out, the title of its film, and its customer.
 #[derive(Drop)]
 pub(crate) struct Out {
     pub(crate) title: String,

@@ -103,7 +103,7 @@ fn is_name_of(listed: &str, name: &str) -> bool {
     }
 }
 
-/// Tests whether the copy is of the rental's title, and a customer of that name and phone has it.
+/// Tests whether the copy is of the rental's title, and is out to a customer of that name and phone.
 fn may_be_of(out: &Out, late: &Late) -> bool {
     out.title == late.title
         && out.phone == late.phone

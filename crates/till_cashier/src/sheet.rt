@@ -238,7 +238,7 @@ impl Rented {
         }
     }
 
-    /// Returns the title as a rent's line has it: ` (RIVER DAWN)`, or nothing.
+    /// Returns the title for a rent's line: ` (RIVER DAWN)`, or nothing.
     pub(crate) fn title_text(&self, alloc: Global) -> Result<String, TillFault>
         ensures { IfOk result (λ text. string_bytes text ≡ title_text (option_map string_bytes self.now.title)) }
     {
@@ -248,7 +248,7 @@ impl Rented {
         }
     }
 
-    /// Returns the last day as a rent's line has it: `, due Thursday 12 March 2026`, or nothing.
+    /// Returns the last day for a rent's line: `, due Thursday 12 March 2026`, or nothing.
     pub(crate) fn due_text(&self, alloc: Global) -> Result<String, TillFault>
         ensures { IfOk result (λ text. string_bytes text ≡ due_text self.now.due) }
     {

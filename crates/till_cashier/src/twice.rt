@@ -11,7 +11,7 @@ use shop_types::Person;
 use std::alloc::{AllocError, Global};
 use till_work::Server;
 
-/// A customer of the branch, as the list of customers has it.
+/// A customer of the branch, from the list of customers.
 #[derive(Drop)]
 pub(crate) struct KnownCustomer {
     pub(crate) number: u64,
