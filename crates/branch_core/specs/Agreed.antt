@@ -112,6 +112,22 @@ pub record ReceiveAgrees (shop : Shop) (source number : ℕ) (it : RowsFound) : 
 abbrev pub nothing : Named
 nothing = record { city = None; customer = None; copy = None; rental = None }
 
+-- what stands for the rows of an act that names none
+abbrev pub no_rows : RowsFound
+no_rows = record {
+  has_city = false;
+  customer = None;
+  copy = None;
+  has_same = false;
+  rental = None;
+  copies = 0;
+  has_lot = false;
+  stock = Ok [];
+  has_branch = false;
+  listed = record { has_unknown = false; has_away = false; has_out = false; lines = None };
+  arrival = None;
+}
+
 -- the single rows that an act names, if it names no other rows
 abbrev pub named_rows : Act → Named
 named_rows (model.AddCustomer who) = record nothing { city = Some who.person.city }

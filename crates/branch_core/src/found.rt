@@ -1,7 +1,7 @@
 //! Holds what was found of the rows that a command names.
 
 ghost use Rattle.std.specs.Prelude.{◌≡◌, false, None};
-ghost use Rattle.branch_core.specs.Agreed.{nothing};
+ghost use Rattle.branch_core.specs.Agreed.{no_rows, nothing};
 
 use crate::StockRows;
 use shop_types::{
@@ -144,7 +144,9 @@ impl ListedFound {
 
 impl RowsFound {
     /// Returns a value in which nothing was found of any row.
-    pub fn none(alloc: Global) -> RowsFound {
+    pub fn none(alloc: Global) -> RowsFound
+        ensures { result ≡ no_rows }
+    {
         RowsFound {
             has_city: false,
             customer: None,
