@@ -1,7 +1,7 @@
 -- One object as a sheet, with a line for each member that is shown.
 use Rattle.std.specs.Prelude.{◌≡◌, List, [], ◌∷◌, ◌++◌, flat_map, Option, Some, option_map, option_and_then, codes}
 use Rattle.serde_json.specs.Data.{Data}
-use Rattle.shop_model.specs.Calendar.{Moment, moment_text}
+use Rattle.shop_model.specs.Calendar.{Moment, IsMoment, moment_text}
 use Rattle.shop_model.specs.Values.{Text}
 use Rattle.till_shows.specs.Bodies.{body_of, each, text_at}
 use Rattle.till_shows.specs.Fields.{Field, plain_field, money_field, field_text}
@@ -52,6 +52,7 @@ pub record IsCustomerSheet (body sheet : Text) : Type 0 where
   pub value : Data
   pub is_body : body_of body ≡ Some value
   pub created : Moment
+  pub is_moment : IsMoment created
   pub is_created : text_at (codes "created") value ≡ Some (moment_text created)
   pub front : Text
   pub is_front : sheet_of customer_sheet_fields value ≡ Some front

@@ -1,8 +1,8 @@
 //! Shows one object as a sheet, with a line for each part.
 
-ghost use Rattle.std.specs.Prelude.{◌≡◌, ◌++◌, Some, None, IfOk, IfErr, OnOk, IfSome, codes, string_bytes};
+ghost use Rattle.std.specs.Prelude.{◌≡◌, ◌++◌, ℕ, List, Some, None, IfOk, IfErr, OnOk, IfSome, IfNone, codes, string_bytes};
 ghost use Rattle.serde_json.specs.View.{view};
-ghost use Rattle.shop_model.specs.Calendar.{moment_text};
+ghost use Rattle.shop_model.specs.Calendar.{Moment as AnyMoment, IsMoment, moment_text};
 ghost use Rattle.till_shows.specs.Bodies.{text_at};
 ghost use Rattle.till_shows.specs.Sheets.{sheet_line, field_line, sheet_of, film_sheet_fields, customer_sheet_fields};
 ghost use Rattle.till_shows.specs.Sheets.{film_sheet_in, IsCustomerSheet};
@@ -61,14 +61,20 @@ fn customer_parts() -> [Part; 8]
 
 /// Returns the lines that begin every customer's sheet.
 fn customer_front(alloc: Global, value: &Value) -> Result<String, NotShown>
-    ensures { IfOk result (λ sheet. sheet_of customer_sheet_fields (view value.now) ≡ Some (string_bytes sheet)) }
+    ensures shown { IfOk result (λ sheet. sheet_of customer_sheet_fields (view value.now)
+        ≡ Some (string_bytes sheet)) }
+    ensures other { IfErr result (λ fault. fault ≡ OtherForm
+        → sheet_of customer_sheet_fields (view value.now) ≡ None) }
 {
     sheet(alloc, value, customer_parts().as_slice())
 }
 
 /// Returns the moment at which the customer was added.
 fn created(value: &Value) -> Option<Moment>
-    ensures { IfSome result (λ at. text_at (codes "created") (view value.now) ≡ Some (moment_text at)) }
+    ensures moment { IfSome result IsMoment }
+    ensures some { IfSome result (λ at. text_at (codes "created") (view value.now) ≡ Some (moment_text at)) }
+    ensures none { IfNone result ((at : AnyMoment) → IsMoment at
+        → ¬ (text_at (codes "created") (view value.now) ≡ Some (moment_text at))) }
 {
     match text_at(value, "created") {
         Some(text) => Moment::read(text),
@@ -78,8 +84,9 @@ fn created(value: &Value) -> Option<Moment>
 
 /// Adds a line that says when the customer joined.
 fn add_joined(alloc: Global, created: Moment, sheet: &mut String) -> Result<(), NotShown>
-    ensures { OnOk result (string_bytes sheet.new
+    ensures added { OnOk result (string_bytes sheet.new
         ≡ string_bytes sheet.old ++ sheet_line (codes "joined") (moment_in_words created)) }
+    ensures other { IfErr result (λ fault. ¬ (fault ≡ OtherForm)) }
 {
     let words = moment_words(alloc, created)?;
     let line = sheet_line(alloc, "joined", words.as_str())?;
@@ -87,9 +94,12 @@ fn add_joined(alloc: Global, created: Moment, sheet: &mut String) -> Result<(), 
     Ok(())
 }
 
-/// Returns the sheet for the body of `GET /customer/{n}`: a line for each part, each ended by a line feed.
+/// Returns the sheet for the body of `GET /customer/{n}`: a line for each part, each ended by a line feed. Fails with
+/// `OtherForm` only if the body has no sheet, and with `NoMemory` if memory runs out.
 pub fn customer_sheet(alloc: Global, body: &[u8]) -> Result<String, NotShown>
-    ensures { IfOk result (λ sheet. IsCustomerSheet body.now (string_bytes sheet)) }
+    ensures shown { IfOk result (λ sheet. IsCustomerSheet body.now (string_bytes sheet)) }
+    ensures other { IfErr result (λ fault. fault ≡ OtherForm
+        → (sheet : List ℕ) → ¬ IsCustomerSheet body.now sheet) }
 {
     let value = value_of(alloc, body)?;
     let mut sheet = customer_front(alloc, &value)?;
