@@ -12,6 +12,8 @@ use Rattle.till_work.specs.Desk.{IsAt, Stays, Sends, with_replies}
 use Rattle.till_work.proofs.GoingOn.{place_of, at_place, rests_stays, more_then}
 use Rattle.till_cashier.specs.declared.fault.TillFault.{TillFault}
 use Rattle.till_cashier.specs.Giving.{EntersTry}
+use Rattle.till_cashier.specs.Office.{AddsWords}
+use Rattle.till_cashier.proofs.InTurn.{stays_words, added_words}
 use Rattle.till_cashier.specs.Adding.{AreTriesBy, HasTries, AddsTries, AddsNoEntry, EntersPlan, AddsWord, KeepsEntries, EntersWord}
 use Rattle.till_cashier.specs.Doing.{IsPlanOf}
 use Rattle.till_cashier.specs.Word.{IsPlaceOf}
@@ -26,7 +28,7 @@ use Rattle.shop_types.specs.Seen.{seen_act}
 use Rattle.shop_types.specs.declared.command.Act.TheVariants as asked
 use Rattle.till_work.specs.Entering.{IsTillsBook}
 
-by_then : (shows : ℕ → Type 0) (token : Text) (giver : Result ℕ TillFault) (act : Act) (xs ys : List (List ℕ)) (cs ds : List Command)
+pub by_then : (shows : ℕ → Type 0) (token : Text) (giver : Result ℕ TillFault) (act : Act) (xs ys : List (List ℕ)) (cs ds : List Command)
     → AreTriesBy shows token giver act xs cs → AreTriesBy shows token giver act ys ds
     → AreTriesBy shows token giver act (xs ++ ys) (cs ++ ds)
 by_then shows token giver act [] ys [] ds one two = two
@@ -137,7 +139,7 @@ module _ (shows : ℕ → Type 0) (mark token : Text) (giver : Result ℕ TillFa
   pub stays_word : (sheet : Text) (word : TillAct) (old new : State) → book.Stays old new → EntersWord shows mark token giver sheet word old new
   stays_word sheet (typed.Do what) old new stays = nothing_word (seen_act what) old new stays
   stays_word sheet (typed.ReturnCopy copy) old new stays = inl stays
-  stays_word sheet (typed.Office words) old new stays = λ reads. stays
+  stays_word sheet (typed.Office words) old new stays = (stays_words mark token words old new stays, λ reads. stays)
   stays_word sheet typed.Send old new stays =
       λ journal commands rests tills.
       let place : Place = record { entries = length journal.entries; replies = length journal.replies } in
@@ -161,6 +163,14 @@ module _ (shows : ℕ → Type 0) (mark token : Text) (giver : Result ℕ TillFa
       let counted = is journal rests in
       (after, adds journal commands (record { rests = stays journal rests; book = tills; entries = counted.0; replies = counted.1 }))
 
+  office_adds : (reads : Bool) (words : List Text) (it : Plan) (place after : Place) (old mid new : State) → IsPlaceOf place old → book.Stays old mid
+      → it ≡ (if reads then plan.ReadOffice words else plan.Office words)
+      → EntersPlan shows mark token giver it place mid after new → AddsWords mark token words old new
+  office_adds true words it place after old mid new is stays same enters =
+      stays_words mark token words old new (stays_both old mid new stays (enters_as it (plan.ReadOffice words) place mid after new same enters))
+  office_adds false words it place after old mid new is stays same enters =
+      added_words mark token words place after old mid new is stays (enters_as it (plan.Office words) place mid after new same enters)
+
   office_stays : (reads : Bool) (words : List Text) (it : Plan) (before : Place) (old : State) (after : Place) (new : State)
       → it ≡ (if reads then plan.ReadOffice words else plan.Office words)
       → EntersPlan shows mark token giver it before old after new → IsTrue reads → book.Stays old new
@@ -180,8 +190,10 @@ module _ (shows : ℕ → Type 0) (mark token : Text) (giver : Result ℕ TillFa
     added_word (seen_act (asked.TakeBack plans.0.rental)) place after old mid new is (stays_both old read mid first second)
         (enters_as it (plan.Give (asked.TakeBack plans.0.rental) (Some plans.0.customer)) place mid after new plans.2 enters),
   )
-  word_enters sheet (typed.Office words) it place after old read mid new is first second plans enters =
-      λ reads. stays_both old mid new (stays_both old read mid first second) (office_stays (is_reading words) words it place mid after new plans enters reads)
+  word_enters sheet (typed.Office words) it place after old read mid new is first second plans enters = (
+    office_adds (is_reading words) words it place after old mid new is (stays_both old read mid first second) plans enters,
+    λ reads. stays_both old mid new (stays_both old read mid first second) (office_stays (is_reading words) words it place mid after new plans enters reads),
+  )
   word_enters sheet typed.Send it place after old read mid new is first second plans enters =
       λ journal commands rests tills.
       let counted = is journal rests in

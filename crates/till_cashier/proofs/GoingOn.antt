@@ -33,6 +33,17 @@ kept_ok a e = cc
 pub kept_as : {A B : Type 0} (fault : TillFault) → IsBookKept {A = A} (Err fault) → IsBookKept {A = B} (Err fault)
 kept_as fault kept e = kept (let same : fault ≡ word.Book = cc in rw same refl)
 
+-- a fault that was kept, if the fault before it would have stayed the book's
+pub kept_before : {A B : Type 0} (before after : TillFault) → (before ≡ word.Book → after ≡ word.Book) → IsBookKept {A = A} (Err after) → IsBookKept {A = B} (Err before)
+kept_before before after stays kept e =
+    let failed : before ≡ word.Book = cc in
+    kept (let is : after ≡ word.Book = stays failed in rw is refl)
+
+-- and if the result after it would have been
+pub kept_by : {A B : Type 0} (before : TillFault) (after : Result A TillFault) → (before ≡ word.Book → after ≡ Err word.Book) → IsBookKept after
+    → IsBookKept {A = B} (Err before)
+kept_by before after stays kept e = let failed : before ≡ word.Book = cc in kept (stays failed)
+
 pub desk_kept_ok : {A : Type 0} (a : A) → IsDeskKept (Ok a)
 desk_kept_ok a e = cc
 
@@ -171,7 +182,7 @@ module _ (Tells : List ℕ → Answer → Type 0) where
     numbered = tills.numbered;
   }
 
-  same_extends : (s : State) (journal : Journal) (it : IsSame Tells s journal) → Extends Tells journal it.journal
+  pub same_extends : (s : State) (journal : Journal) (it : IsSame Tells s journal) → Extends Tells journal it.journal
   same_extends s journal it = record {
     entries = ([], it.entries ∙ sym (append-nil journal.entries));
     replies = ([], it.replies ∙ sym (append-nil journal.replies), tt);

@@ -1,6 +1,8 @@
 pub mod GoingOn
 pub mod Giving
 pub mod Doing
+pub mod InTurn
+pub mod Keys
 pub mod Adding
 pub mod Returned
 pub mod LastMoment
@@ -9,3 +11,8 @@ pub mod Dates
 pub mod Repeating
 pub mod Printing
 pub mod Saying
+pub mod Stops
+pub mod Reopened
+pub mod OfficeStops
+pub mod Stocked
+pub mod Looking

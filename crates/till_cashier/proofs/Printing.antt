@@ -8,6 +8,7 @@ use Rattle.shop_types.specs.declared.command.Act.{Act as Asked}
 use Rattle.shop_types.specs.declared.command.Act.TheVariants as asked
 use Rattle.shop_model.specs.Values.{Text, Act}
 use Rattle.shop_model.specs.Answers.{Answer}
+use Rattle.shop_model.specs.Calendar.{Moment}
 use Rattle.till_book.specs.Steps as book
 use Rattle.till_work.specs.declared.place.Place.{Place}
 use Rattle.till_requests.specs.Requests.{is_reading}
@@ -19,6 +20,7 @@ use Rattle.till_cashier.specs.declared.word.Plan.{Plan}
 use Rattle.till_cashier.specs.declared.word.Plan.TheVariants as plan
 use Rattle.till_cashier.specs.Asking.{IsOwing}
 use Rattle.till_cashier.specs.Giving.{Gives}
+use Rattle.till_cashier.specs.LastMoment.{TellsMoment}
 use Rattle.till_cashier.specs.Doing.{IsPlanOf}
 use Rattle.till_cashier.specs.Printing.{GivesSaying, SaysPlan, SaysReading, GivesWordSaying, SaysWord}
 use Rattle.till_cashier.specs.Following.{SaysAct}
@@ -53,12 +55,12 @@ module _ (Tells Answers : List ℕ → Answer → Type 0) (shows : ℕ → Type 
       if_ok_so r _ _ says (λ said is. (answer, gives_stays Tells shows mark token giver act answer before after old mid new gives stays, is))
 
   -- what is printed of a plan is printed of the same plan by another name
-  pub says_as : (r : Result Said TillFault) (it other : Plan) (before : Place) (old : State) (after : Place) (new : State) → it ≡ other
-      → IfOk r (λ said. SaysPlan Tells Answers shows mark token giver json sheet other before old after new (string_bytes said.text) said.status)
-      → IfOk r (λ said. SaysPlan Tells Answers shows mark token giver json sheet it before old after new (string_bytes said.text) said.status)
-  says_as r it other before old after new same is =
+  pub says_as : (last : Option Moment) (r : Result Said TillFault) (it other : Plan) (before : Place) (old : State) (after : Place) (new : State) → it ≡ other
+      → IfOk r (λ said. SaysPlan Tells Answers shows mark token giver json sheet last other before old after new (string_bytes said.text) said.status)
+      → IfOk r (λ said. SaysPlan Tells Answers shows mark token giver json sheet last it before old after new (string_bytes said.text) said.status)
+  says_as last r it other before old after new same is =
       subst (λ (p : Plan). IfOk r (λ said.
-      SaysPlan Tells Answers shows mark token giver json sheet p before old after new (string_bytes said.text) said.status))
+      SaysPlan Tells Answers shows mark token giver json sheet last p before old after new (string_bytes said.text) said.status))
       (sym same) is
 
   word_saying : (act : Act) (customer : Option ℕ) (place after : Place) (old mid new : State) (text : Text) (status : ℕ)
@@ -75,54 +77,57 @@ module _ (Tells Answers : List ℕ → Answer → Type 0) (shows : ℕ → Type 
     says.2,
   )
 
-  as_plan : (it other : Plan) (before : Place) (old : State) (after : Place) (new : State) (text : Text) (status : ℕ) → it ≡ other
-      → SaysPlan Tells Answers shows mark token giver json sheet it before old after new text status
-      → SaysPlan Tells Answers shows mark token giver json sheet other before old after new text status
-  as_plan it other before old after new text status same says =
-      subst (λ (p : Plan). SaysPlan Tells Answers shows mark token giver json sheet p before old after new text status) same says
+  as_plan : (last : Option Moment) (it other : Plan) (before : Place) (old : State) (after : Place) (new : State) (text : Text) (status : ℕ) → it ≡ other
+      → SaysPlan Tells Answers shows mark token giver json sheet last it before old after new text status
+      → SaysPlan Tells Answers shows mark token giver json sheet last other before old after new text status
+  as_plan last it other before old after new text status same says =
+      subst (λ (p : Plan). SaysPlan Tells Answers shows mark token giver json sheet last p before old after new text status) same says
 
   -- words of head office that only read
-  reading_says : (reads : Bool) (words : List Text) (it : Plan) (before : Place) (old : State) (after : Place) (new : State) (text : Text) (status : ℕ)
+  reading_says : (last : Option Moment) (reads : Bool) (words : List Text) (it : Plan) (before : Place) (old : State) (after : Place) (new : State)
+      (text : Text) (status : ℕ)
       → it ≡ (if reads then plan.ReadOffice words else plan.Office words)
-      → SaysPlan Tells Answers shows mark token giver json sheet it before old after new text status
+      → SaysPlan Tells Answers shows mark token giver json sheet last it before old after new text status
       → IsTrue reads → SaysReading Answers token json words text status
-  reading_says true words it before old after new text status same says is = as_plan it (plan.ReadOffice words) before old after new text status same says
-  reading_says false words it before old after new text status same says is = absurd (false≢true is)
+  reading_says last true words it before old after new text status same says is =
+      as_plan last it (plan.ReadOffice words) before old after new text status same says
+  reading_says last false words it before old after new text status same says is = absurd (false≢true is)
 
   -- What is printed of the word's plan is printed of the word. The plan was made of the book as it was read.
-  pub word_says : (word : TillAct) (it : Plan) (place after : Place) (old read mid new : State) (text : Text) (status : ℕ)
-      → IsPlaceOf place old → book.Stays old read → book.Stays read mid → IsPlanOf sheet read word it
-      → SaysPlan Tells Answers shows mark token giver json sheet it place mid after new text status
+  pub word_says : (last : Option Moment) (word : TillAct) (it : Plan) (place after : Place) (old read mid new : State) (text : Text) (status : ℕ)
+      → IsPlaceOf place old → TellsMoment last old → book.Stays old read → book.Stays read mid → IsPlanOf sheet read word it
+      → SaysPlan Tells Answers shows mark token giver json sheet last it place mid after new text status
       → SaysWord Tells Answers shows mark token giver json sheet word old new text status
-  word_says (typed.Do what) it place after old read mid new text status is first second plans says = (
+  word_says last (typed.Do what) it place after old read mid new text status is moment first second plans says = (
     plans.0,
     debtor_before what plans.0 old read first plans.1,
     word_saying (seen_act what) plans.0 place after old mid new text status is (stays_both old read mid first second)
-        (as_plan it (plan.Give what plans.0) place mid after new text status plans.2 says),
+        (as_plan last it (plan.Give what plans.0) place mid after new text status plans.2 says),
   )
-  word_says (typed.ReturnCopy copy) it place after old read mid new text status is first second plans says = (
+  word_says last (typed.ReturnCopy copy) it place after old read mid new text status is moment first second plans says = (
     plans.0,
     returned_before sheet copy plans.0 old read first plans.1,
     word_saying (seen_act (asked.TakeBack plans.0.rental)) (Some plans.0.customer) place after old mid new text status is (stays_both old read mid first second)
-        (as_plan it (plan.Give (asked.TakeBack plans.0.rental) (Some plans.0.customer)) place mid after new text status plans.2 says),
+        (as_plan last it (plan.Give (asked.TakeBack plans.0.rental) (Some plans.0.customer)) place mid after new text status plans.2 says),
   )
-  word_says (typed.Office words) it place after old read mid new text status is first second plans says =
-      λ reads. reading_says (is_reading words) words it place mid after new text status plans says reads
-  word_says typed.Send it place after old read mid new text status is first second plans says = tt
-  word_says (typed.Look look) it place after old read mid new text status is first second plans says = tt
-  word_says typed.Waiting it place after old read mid new text status is first second plans says = tt
-  word_says (typed.Last count) it place after old read mid new text status is first second plans says = tt
-  word_says (typed.Day asked) it place after old read mid new text status is first second plans says = tt
-  word_says (typed.Today date) it place after old read mid new text status is first second plans says = tt
-  word_says (typed.Again late) it place after old read mid new text status is first second plans says = tt
-  word_says typed.Slip it place after old read mid new text status is first second plans says = tt
-  word_says typed.Help it place after old read mid new text status is first second plans says =
-      as_plan it plan.Usage place mid after new text status plans says
-  word_says (typed.Zone name) it place after old read mid new text status is first second plans says =
-      as_plan it plan.Usage place mid after new text status plans says
-  word_says (typed.Init beginning) it place after old read mid new text status is first second plans says =
-      as_plan it plan.Usage place mid after new text status plans says
-  word_says (typed.Import file lot) it place after old read mid new text status is first second plans says =
-      as_plan it plan.Usage place mid after new text status plans says
-  word_says typed.Prompt it place after old read mid new text status is first second plans says =
-      as_plan it plan.Usage place mid after new text status plans says
+  word_says last (typed.Office words) it place after old read mid new text status is moment first second plans says =
+      λ reads. reading_says last (is_reading words) words it place mid after new text status plans says reads
+  word_says last typed.Send it place after old read mid new text status is moment first second plans says = tt
+  word_says last (typed.Look look) it place after old read mid new text status is moment first second plans says =
+      (last, moment, as_plan last it (plan.Look look) place mid after new text status plans says)
+  word_says last typed.Waiting it place after old read mid new text status is moment first second plans says = tt
+  word_says last (typed.Last count) it place after old read mid new text status is moment first second plans says = tt
+  word_says last (typed.Day asked) it place after old read mid new text status is moment first second plans says = tt
+  word_says last (typed.Today date) it place after old read mid new text status is moment first second plans says = tt
+  word_says last (typed.Again late) it place after old read mid new text status is moment first second plans says = tt
+  word_says last typed.Slip it place after old read mid new text status is moment first second plans says = tt
+  word_says last typed.Help it place after old read mid new text status is moment first second plans says =
+      as_plan last it plan.Usage place mid after new text status plans says
+  word_says last (typed.Zone name) it place after old read mid new text status is moment first second plans says =
+      as_plan last it plan.Usage place mid after new text status plans says
+  word_says last (typed.Init beginning) it place after old read mid new text status is moment first second plans says =
+      as_plan last it plan.Usage place mid after new text status plans says
+  word_says last (typed.Import file lot) it place after old read mid new text status is moment first second plans says =
+      as_plan last it plan.Usage place mid after new text status plans says
+  word_says last typed.Prompt it place after old read mid new text status is moment first second plans says =
+      as_plan last it plan.Usage place mid after new text status plans says

@@ -17,6 +17,7 @@ use Rattle.till_words.specs.declared.words.TillAct.TheVariants as typed
 use Rattle.till_cashier.specs.declared.word.Plan.{Plan}
 use Rattle.till_cashier.specs.declared.word.Plan.TheVariants as plan
 use Rattle.till_cashier.specs.Giving.{IsTry}
+use Rattle.till_cashier.specs.Office.{AddsInTurn, AddsWords}
 use Rattle.till_cashier.specs.Returns.{IsReturned}
 
 -- each request is a try of the act by its giver, and says the command of its place
@@ -50,10 +51,10 @@ AddsNoEntry mark before old after new =
     (journal : Journal) (commands : List Command) → IsAt mark before old journal commands
     → (next : Journal) × (next.entries ≡ journal.entries) × IsAt mark after new next commands
 
--- What a plan enters, whatever its outcome. Of head office's commands, and of what is entered once more, nothing is said here.
+-- What a plan enters, whatever its outcome. Of what is entered once more nothing is said here.
 abbrev pub EntersPlan : (ℕ → Type 0) → Text → Text → Result ℕ TillFault → Plan → Place → State → Place → State → Type 0
 EntersPlan shows mark token giver (plan.Give what customer) before old after new = AddsTries shows mark token giver (seen_act what) before old after new
-EntersPlan shows mark token giver (plan.Office words) before old after new = ⊤
+EntersPlan shows mark token giver (plan.Office words) before old after new = AddsInTurn mark token words before old after new
 EntersPlan shows mark token giver plan.Send before old after new = AddsNoEntry mark before old after new
 EntersPlan shows mark token giver (plan.Look look) before old after new = Stays old new
 EntersPlan shows mark token giver (plan.ReadOffice words) before old after new = Stays old new
@@ -78,13 +79,13 @@ KeepsEntries mark old new =
     → (place : Place) × (next : Journal) × (next.entries ≡ journal.entries) × IsAt mark place new next commands
 
 -- What a word enters, whatever its outcome: tries of the act that was typed, and nothing else. For a copy that comes back they are tries of the return of the
--- register's rental, or of the sheet's, or there are none. No other word of a branch enters anything, except `again`.
--- Of `again`, and of head office's commands, nothing is said here.
+-- register's rental, or of the sheet's, or there are none. Head office's words are entered in turn, each under the key that is open, and a reading isn't entered.
+-- No other word of a branch enters anything, except `again`. Of `again` nothing is said here.
 abbrev pub EntersWord : (ℕ → Type 0) → Text → Text → Result ℕ TillFault → Text → TillAct → State → State → Type 0
 EntersWord shows mark token giver sheet (typed.Do what) old new = AddsWord shows mark token giver (seen_act what) old new
 EntersWord shows mark token giver sheet (typed.ReturnCopy copy) old new =
     Stays old new ⊎ ((held : HeldRental) × IsReturned sheet copy held old × AddsWord shows mark token giver (seen_act (TakeBack held.rental)) old new)
-EntersWord shows mark token giver sheet (typed.Office words) old new = IsTrue (is_reading words) → Stays old new
+EntersWord shows mark token giver sheet (typed.Office words) old new = AddsWords mark token words old new × (IsTrue (is_reading words) → Stays old new)
 EntersWord shows mark token giver sheet typed.Send old new = KeepsEntries mark old new
 EntersWord shows mark token giver sheet (typed.Look look) old new = Stays old new
 EntersWord shows mark token giver sheet typed.Waiting old new = Stays old new

@@ -38,6 +38,6 @@ giver_of None named = Err word.IsOffice
 giver_of (Some own) None = Ok own
 giver_of (Some own) (Some named) = Ok named
 
--- the server was asked, and gave no reply that counts
+-- the server gave no reply that counts, to the word or to an earlier one
 abbrev pub HasNoReply : TillFault → Type 0
-HasNoReply fault = (fault ≡ word.Unanswered) ⊎ ((fault ≡ word.NotNow) ⊎ (fault ≡ word.Silent))
+HasNoReply fault = (fault ≡ word.Unanswered) ⊎ ((fault ≡ word.NotNow) ⊎ ((fault ≡ word.Silent) ⊎ (fault ≡ word.EarlierWaits)))

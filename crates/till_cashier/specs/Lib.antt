@@ -7,6 +7,7 @@ pub mod Whereabouts
 pub mod Word
 pub mod Returns
 pub mod Doing
+pub mod Office
 pub mod Adding
 pub mod Sure
 pub mod Today
@@ -16,3 +17,6 @@ pub mod Saying
 pub mod Following
 pub mod Printing
 pub mod Asked
+pub mod Stops
+pub mod Stocked
+pub mod Looking

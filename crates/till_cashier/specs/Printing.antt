@@ -2,6 +2,7 @@
 use Rattle.std.specs.Prelude.{◌≡◌, ◌⊎◌, ⊤, ℕ, Bool, List, Option, Some, Result, Ok, IsTrue}
 use Rattle.sqlite.specs.State.{State}
 use Rattle.shop_model.specs.Answers.{Answer}
+use Rattle.shop_model.specs.Calendar.{Moment}
 use Rattle.shop_model.specs.Values.{Text, Act, Command}
 use Rattle.shop_types.specs.Seen.{seen_act}
 use Rattle.shop_types.specs.declared.command.Act.TheVariants.{TakeBack}
@@ -19,6 +20,8 @@ use Rattle.till_requests.specs.Requests.{is_reading}
 use Rattle.till_cashier.specs.Asking.{IsOwing, IsReadOut}
 use Rattle.till_cashier.specs.Following.{SaysAct}
 use Rattle.till_cashier.specs.Giving.{IsGivenAt, Gives}
+use Rattle.till_cashier.specs.LastMoment.{TellsMoment}
+use Rattle.till_cashier.specs.Looking.{PrintsLook}
 use Rattle.till_cashier.specs.Returns.{IsReturned}
 use Rattle.till_cashier.specs.Saying.{SaysOfficeAnswer, status_of}
 use Rattle.till_cashier.specs.Word.{IsDebtor}
@@ -36,23 +39,25 @@ SaysReading Answers token json words text status =
     (status ≡ 2)
     ⊎ ((answer : Answer) × IsReadOut Answers token words answer × SaysOfficeAnswer json answer text × (status ≡ status_of answer.status))
 
--- What a plan prints: of an act the answer that it got, of a reading some answer to it, and of a usage that it is one. Of what other plans print nothing is said.
-abbrev pub SaysPlan : (List ℕ → Answer → Type 0) → (List ℕ → Answer → Type 0) → (ℕ → Type 0) → Text → Text → Result ℕ TillFault → Bool → Text → Plan
-    → Place → State → Place → State → Text → ℕ → Type 0
-SaysPlan Tells Answers shows mark token giver json sheet (plan.Give what customer) before old after new text status =
+-- What a plan prints: the answer that an act got, some answer to a look or a reading, and that a usage is one. Of what other plans print nothing is said.
+-- `last` is the last entry's moment.
+abbrev pub SaysPlan : (List ℕ → Answer → Type 0) → (List ℕ → Answer → Type 0) → (ℕ → Type 0) → Text → Text → Result ℕ TillFault → Bool → Text → Option Moment
+    → Plan → Place → State → Place → State → Text → ℕ → Type 0
+SaysPlan Tells Answers shows mark token giver json sheet last (plan.Give what customer) before old after new text status =
     GivesSaying Tells Answers shows mark token giver json sheet (seen_act what) customer before old after new text status
-SaysPlan Tells Answers shows mark token giver json sheet (plan.Office words) before old after new text status = ⊤
-SaysPlan Tells Answers shows mark token giver json sheet plan.Send before old after new text status = ⊤
-SaysPlan Tells Answers shows mark token giver json sheet (plan.Look look) before old after new text status = ⊤
-SaysPlan Tells Answers shows mark token giver json sheet (plan.ReadOffice words) before old after new text status =
+SaysPlan Tells Answers shows mark token giver json sheet last (plan.Office words) before old after new text status = ⊤
+SaysPlan Tells Answers shows mark token giver json sheet last plan.Send before old after new text status = ⊤
+SaysPlan Tells Answers shows mark token giver json sheet last (plan.Look look) before old after new text status =
+    PrintsLook Answers token shows last json sheet look text status
+SaysPlan Tells Answers shows mark token giver json sheet last (plan.ReadOffice words) before old after new text status =
     SaysReading Answers token json words text status
-SaysPlan Tells Answers shows mark token giver json sheet plan.Waiting before old after new text status = ⊤
-SaysPlan Tells Answers shows mark token giver json sheet (plan.Last count) before old after new text status = ⊤
-SaysPlan Tells Answers shows mark token giver json sheet (plan.Day asked) before old after new text status = ⊤
-SaysPlan Tells Answers shows mark token giver json sheet (plan.Today date) before old after new text status = ⊤
-SaysPlan Tells Answers shows mark token giver json sheet (plan.Again late) before old after new text status = ⊤
-SaysPlan Tells Answers shows mark token giver json sheet plan.Slip before old after new text status = ⊤
-SaysPlan Tells Answers shows mark token giver json sheet plan.Usage before old after new text status = status ≡ 2
+SaysPlan Tells Answers shows mark token giver json sheet last plan.Waiting before old after new text status = ⊤
+SaysPlan Tells Answers shows mark token giver json sheet last (plan.Last count) before old after new text status = ⊤
+SaysPlan Tells Answers shows mark token giver json sheet last (plan.Day asked) before old after new text status = ⊤
+SaysPlan Tells Answers shows mark token giver json sheet last (plan.Today date) before old after new text status = ⊤
+SaysPlan Tells Answers shows mark token giver json sheet last (plan.Again late) before old after new text status = ⊤
+SaysPlan Tells Answers shows mark token giver json sheet last plan.Slip before old after new text status = ⊤
+SaysPlan Tells Answers shows mark token giver json sheet last plan.Usage before old after new text status = status ≡ 2
 
 -- so of a till's book
 abbrev pub GivesWordSaying : (List ℕ → Answer → Type 0) → (List ℕ → Answer → Type 0) → (ℕ → Type 0) → Text → Text → Result ℕ TillFault → Bool → Text → Act
@@ -64,8 +69,8 @@ GivesWordSaying Tells Answers shows mark token giver json sheet act customer old
     × SaysAct (IsOwing Answers token) json sheet act customer answer text status
 
 -- What is printed of an act that was typed, or of a copy's return, is of the very answer that it got. What a return's customer owes is asked of the rental's
--- customer: the register's, or the sheet's if the register has none. Of head office's words that only read it is some answer to them. A word that needs no book
--- is answered as a usage. Of what other words print nothing is said here.
+-- customer: the register's, or the sheet's if the register has none. Of a look, or of head office's words that only read, it is some answer to them. A word
+-- that needs no book is answered as a usage. Of what other words print nothing is said here.
 abbrev pub SaysWord : (List ℕ → Answer → Type 0) → (List ℕ → Answer → Type 0) → (ℕ → Type 0) → Text → Text → Result ℕ TillFault → Bool → Text → TillAct
     → State → State → Text → ℕ → Type 0
 SaysWord Tells Answers shows mark token giver json sheet (typed.Do what) old new text status =
@@ -77,7 +82,8 @@ SaysWord Tells Answers shows mark token giver json sheet (typed.ReturnCopy copy)
 SaysWord Tells Answers shows mark token giver json sheet (typed.Office words) old new text status =
     IsTrue (is_reading words) → SaysReading Answers token json words text status
 SaysWord Tells Answers shows mark token giver json sheet typed.Send old new text status = ⊤
-SaysWord Tells Answers shows mark token giver json sheet (typed.Look look) old new text status = ⊤
+SaysWord Tells Answers shows mark token giver json sheet (typed.Look look) old new text status =
+    (last : Option Moment) × TellsMoment last old × PrintsLook Answers token shows last json sheet look text status
 SaysWord Tells Answers shows mark token giver json sheet typed.Waiting old new text status = ⊤
 SaysWord Tells Answers shows mark token giver json sheet (typed.Last count) old new text status = ⊤
 SaysWord Tells Answers shows mark token giver json sheet (typed.Day asked) old new text status = ⊤

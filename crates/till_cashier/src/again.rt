@@ -6,7 +6,9 @@ ghost use Rattle.sqlite.specs.State.{HasCleanDisk};
 ghost use Rattle.shop_types.specs.Seen.{seen_act};
 ghost use Rattle.till_book.specs.Steps.{Stays};
 ghost use Rattle.till_work.specs.Told.{IsTold};
-ghost use Rattle.till_work.specs.Desk.{GoesOn};
+ghost use Rattle.till_work.specs.Entering.{IsTillsBook};
+ghost use Rattle.till_work.specs.Desk.{GoesOn, HasPlace};
+ghost use Rattle.till_work.specs.Stops.{IsLater, Leaves};
 ghost use Rattle.till_cashier.specs.Clock.{local_clock};
 ghost use Rattle.till_cashier.specs.Faults.{IsBookKept, giver_of};
 ghost use Rattle.till_cashier.specs.Giving.{GivesAct};
@@ -48,6 +50,9 @@ fn give_again<S: Alter, K: WallClock, V: Server, L: Shelf, W: Watch>(
     ensures keeps { HasCleanDisk (state S.Store conn.new) → IsBookKept result
         → GoesOn (IsTold (V.opens desk.now.server.now) V.Reader.remaining V.Writer.contents)
         desk.now.settings.now.mark book.old.place (state S.Store conn.old) book.new.place
+        (state S.Store conn.new) }
+    ensures crash { HasCleanDisk (state S.Store conn.new) → Leaves (HasPlace book.old.place (state S.Store conn.old))
+        (IsTillsBook desk.now.settings.now.mark) (IsLater (IsTold (V.opens desk.now.server.now) V.Reader.remaining V.Writer.contents))
         (state S.Store conn.new) }
 {
     let theirs = desk.by(it.staff);
@@ -93,6 +98,9 @@ fn give_each<S: Alter, K: WallClock, V: Server, L: Shelf, W: Watch>(
     ensures keeps { HasCleanDisk (state S.Store conn.new) → IsBookKept result
         → GoesOn (IsTold (V.opens desk.now.server.now) V.Reader.remaining V.Writer.contents)
         desk.now.settings.now.mark book.old.place (state S.Store conn.old) book.new.place
+        (state S.Store conn.new) }
+    ensures crash { HasCleanDisk (state S.Store conn.new) → Leaves (HasPlace book.old.place (state S.Store conn.old))
+        (IsTillsBook desk.now.settings.now.mark) (IsLater (IsTold (V.opens desk.now.server.now) V.Reader.remaining V.Writer.contents))
         (state S.Store conn.new) }
 {
     'givings: for it in acts {
@@ -188,6 +196,9 @@ pub(crate) fn again<S: Alter, K: WallClock, V: Server, L: Shelf, W: Watch>(
     ensures keeps { HasCleanDisk (state S.Store conn.new) → IsBookKept result
         → GoesOn (IsTold (V.opens desk.now.server.now) V.Reader.remaining V.Writer.contents)
         desk.now.settings.now.mark book.old.place (state S.Store conn.old) book.new.place
+        (state S.Store conn.new) }
+    ensures crash { HasCleanDisk (state S.Store conn.new) → Leaves (HasPlace book.old.place (state S.Store conn.old))
+        (IsTillsBook desk.now.settings.now.mark) (IsLater (IsTold (V.opens desk.now.server.now) V.Reader.remaining V.Writer.contents))
         (state S.Store conn.new) }
 {
     let first = book.place.replies;

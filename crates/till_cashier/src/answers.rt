@@ -1,9 +1,11 @@
 //! What an answer says, as lines: nothing is asked for here.
 
-ghost use Rattle.std.specs.Prelude.{◌≡◌, ◌==◌, ◌++◌, IfOk, OnOk, if◌then◌else◌, option_map, string_bytes};
-ghost use Rattle.shop_types.specs.Seen.{seen_act};
+ghost use Rattle.std.specs.Prelude.{◌≡◌, ◌==◌, ◌++◌, Some, IfOk, OnOk, if◌then◌else◌, option_map, string_bytes};
+ghost use Rattle.shop_types.specs.Seen.{seen_act, seen_ask, seen_view};
 ghost use Rattle.till_client.specs.Replies.{seen_answer};
+ghost use Rattle.till_shows.specs.Looks.{holder_text};
 ghost use Rattle.till_shows.specs.Refusals.{told_text};
+ghost use Rattle.till_cashier.specs.Looking.{Adds, IsLines, ShowsByCategory, ShowsInAll, ShowsList, ShowsSales, lines_in, list_in, name_end, table_or};
 ghost use Rattle.till_cashier.specs.Saying.{AddsAll, SaysOfficeAnswer, SaysOutcome, end_text, ended, status_of};
 
 use crate::fault::TillFault;
@@ -83,7 +85,11 @@ pub(crate) fn says_table(
     table: &Table,
     none: &str,
     said: &mut Said,
-) -> Result<(), TillFault> {
+) -> Result<(), TillFault>
+    ensures said { OnOk result (string_bytes said.new.text
+        ≡ string_bytes said.old.text ++ table_or none.now table.now) }
+    ensures status { said.new.status ≡ said.old.status }
+{
     if table.is_empty() {
         said.line(none)?;
     } else {
@@ -93,7 +99,9 @@ pub(crate) fn says_table(
 }
 
 /// Returns the table of a body that lists what was asked for.
-fn table_in(alloc: Global, ask: &Ask, body: &[u8]) -> Result<Table, NotShown> {
+fn table_in(alloc: Global, ask: &Ask, body: &[u8]) -> Result<Table, NotShown>
+    ensures { IfOk result (λ table. list_in (seen_ask ask.now) body.now ≡ Some table) }
+{
     match ask {
         Ask::Overdue(_) => overdue(alloc, body),
         Ask::Arrivals => arrivals(alloc, body),
@@ -113,13 +121,19 @@ pub(crate) fn says_list(
     body: &[u8],
     none: &str,
     said: &mut Said,
-) -> Result<(), TillFault> {
+) -> Result<(), TillFault>
+    ensures said { OnOk result (Adds (ShowsList (seen_ask ask.now) none.now body.now) (string_bytes said.old.text)
+        (string_bytes said.new.text)) }
+    ensures status { said.new.status ≡ said.old.status }
+{
     let table = table_in(alloc, ask, body)?;
     says_table(alloc, &table, none, said)
 }
 
 /// Returns the lines of a body that reports one thing. `name` is the customer's, if a balance was asked for.
-fn lines_in(alloc: Global, ask: &Ask, name: &str, body: &[u8]) -> Result<String, NotShown> {
+fn lines_in(alloc: Global, ask: &Ask, name: &str, body: &[u8]) -> Result<String, NotShown>
+    ensures { IfOk result (λ lines. lines_in (seen_ask ask.now) name.now body.now ≡ Some (string_bytes lines)) }
+{
     match ask {
         Ask::Film(_) => film_sheet(alloc, body),
         Ask::InStock(copy) => in_stock_line(alloc, *copy, body),
@@ -139,7 +153,11 @@ pub(crate) fn says_lines(
     name: &str,
     body: &[u8],
     said: &mut Said,
-) -> Result<(), TillFault> {
+) -> Result<(), TillFault>
+    ensures said { OnOk result (Adds (IsLines (seen_ask ask.now) name.now body.now) (string_bytes said.old.text)
+        (string_bytes said.new.text)) }
+    ensures status { said.new.status ≡ said.old.status }
+{
     let lines = lines_in(alloc, ask, name, body)?;
     said.line(lines.as_str())?;
     Ok(())
@@ -152,7 +170,11 @@ pub(crate) fn says_holder(
     who: Option<CustomerNo>,
     name: &Option<String>,
     said: &mut Said,
-) -> Result<(), TillFault> {
+) -> Result<(), TillFault>
+    ensures said { OnOk result (string_bytes said.new.text ≡ string_bytes said.old.text
+        ++ ended (holder_text copy who ++ name_end (option_map string_bytes name.now))) }
+    ensures status { said.new.status ≡ said.old.status }
+{
     let mut line = holder_line(alloc, copy, who)?;
     if let Some(name) = name {
         line.push_str(": ")?;
@@ -163,7 +185,10 @@ pub(crate) fn says_holder(
 }
 
 /// Says what customers paid for rentals, in all.
-fn says_sales_in_all(alloc: Global, body: &[u8], said: &mut Said) -> Result<(), TillFault> {
+fn says_sales_in_all(alloc: Global, body: &[u8], said: &mut Said) -> Result<(), TillFault>
+    ensures said { OnOk result (Adds (ShowsInAll body.now) (string_bytes said.old.text) (string_bytes said.new.text)) }
+    ensures status { said.new.status ≡ said.old.status }
+{
     let table = sales_by_store(alloc, body)?;
     if !table.is_empty() {
         said.line("What was paid for rentals, of all time:")?;
@@ -172,7 +197,11 @@ fn says_sales_in_all(alloc: Global, body: &[u8], said: &mut Said) -> Result<(), 
 }
 
 /// Says what customers paid for rentals, by category.
-fn says_sales_by_category(alloc: Global, body: &[u8], said: &mut Said) -> Result<(), TillFault> {
+fn says_sales_by_category(alloc: Global, body: &[u8], said: &mut Said) -> Result<(), TillFault>
+    ensures said { OnOk result (Adds (ShowsByCategory body.now) (string_bytes said.old.text)
+        (string_bytes said.new.text)) }
+    ensures status { said.new.status ≡ said.old.status }
+{
     let table = sales_by_film_category(alloc, body)?;
     if table.is_empty() {
         return Ok(());
@@ -187,7 +216,11 @@ pub(crate) fn says_sales(
     view: View,
     body: &[u8],
     said: &mut Said,
-) -> Result<(), TillFault> {
+) -> Result<(), TillFault>
+    ensures said { OnOk result (Adds (ShowsSales (seen_view view) body.now) (string_bytes said.old.text)
+        (string_bytes said.new.text)) }
+    ensures status { said.new.status ≡ said.old.status }
+{
     match view {
         View::SalesByStore => says_sales_in_all(alloc, body, said),
         View::SalesByFilmCategory => says_sales_by_category(alloc, body, said),

@@ -8,12 +8,15 @@ ghost use Rattle.shop_model.specs.Calendar.{seconds_of};
 ghost use Rattle.till_client.specs.Replies.{seen_answer};
 ghost use Rattle.till_shows.specs.Told.{Tells};
 ghost use Rattle.till_work.specs.Told.{IsTold};
-ghost use Rattle.till_work.specs.Desk.{GoesOn, Stays};
+ghost use Rattle.till_work.specs.Entering.{IsTillsBook};
+ghost use Rattle.till_work.specs.Desk.{GoesOn, HasPlace, Stays};
+ghost use Rattle.till_work.specs.Stops.{Leaves};
 ghost use Rattle.till_cashier.specs.Clock.{local_clock};
 ghost use Rattle.till_cashier.specs.Faults.{IsBookKept, giver_of};
 ghost use Rattle.till_cashier.specs.Giving.{IsDated, IsRequest, EntersTry, Tries, IsBack, Gives};
 ghost use Rattle.till_cashier.specs.Adding.{AddsTries};
 ghost use Rattle.till_cashier.specs.Saying.{IsCalled, IsCalledIn, IsEnd, TellsOutcome, status_of};
+ghost use Rattle.till_cashier.specs.Stops.{IsTriedAfter};
 
 use crate::answers::{besides, command_said};
 use crate::book::Book;
@@ -145,6 +148,10 @@ fn enter_act<S: Alter, K: WallClock, V: Server, L: Shelf>(
         (state S.Store conn.old) book.new.place (state S.Store conn.new)) }
     ensures stays { HasCleanDisk (state S.Store conn.new) → IsBookKept result
         → OnErr result (Stays book.old.place (state S.Store conn.old) book.new.place (state S.Store conn.new)) }
+    ensures crash { HasCleanDisk (state S.Store conn.new) → Leaves (HasPlace book.old.place (state S.Store conn.old))
+        (IsTillsBook desk.now.settings.now.mark) (IsTriedAfter (IsTold (V.opens desk.now.server.now) V.Reader.remaining V.Writer.contents)
+        (local_clock (K.shows desk.now.clock.now) desk.now.settings.now.zone) desk.now.settings.now.token
+        (giver_of desk.now.settings.now.staff desk.now.staff) (seen_act act.now)) (state S.Store conn.new) }
 {
     let Prepared { request, at } = next_request(desk, book, act, ahead)?;
     match enter(desk.alloc, conn, desk.identity(), &mut book.place, request) {
@@ -182,6 +189,10 @@ fn give_once<S: Alter, K: WallClock, V: Server, L: Shelf, W: Watch>(
         desk.now.settings.now.mark desk.now.settings.now.token
         (giver_of desk.now.settings.now.staff desk.now.staff) (seen_act act.now)
         book.old.place (state S.Store conn.old) book.new.place (state S.Store conn.new) }
+    ensures crash { HasCleanDisk (state S.Store conn.new) → Leaves (HasPlace book.old.place (state S.Store conn.old))
+        (IsTillsBook desk.now.settings.now.mark) (IsTriedAfter (IsTold (V.opens desk.now.server.now) V.Reader.remaining V.Writer.contents)
+        (local_clock (K.shows desk.now.clock.now) desk.now.settings.now.zone) desk.now.settings.now.token
+        (giver_of desk.now.settings.now.staff desk.now.staff) (seen_act act.now)) (state S.Store conn.new) }
 {
     match enter_act(desk, conn, book, act, ahead) {
         Ok(()) => {}
@@ -223,6 +234,10 @@ pub(crate) fn give<S: Alter, K: WallClock, V: Server, L: Shelf, W: Watch>(
         desk.now.settings.now.mark desk.now.settings.now.token
         (giver_of desk.now.settings.now.staff desk.now.staff) (seen_act act.now)
         book.old.place (state S.Store conn.old) book.new.place (state S.Store conn.new) }
+    ensures crash { HasCleanDisk (state S.Store conn.new) → Leaves (HasPlace book.old.place (state S.Store conn.old))
+        (IsTillsBook desk.now.settings.now.mark) (IsTriedAfter (IsTold (V.opens desk.now.server.now) V.Reader.remaining V.Writer.contents)
+        (local_clock (K.shows desk.now.clock.now) desk.now.settings.now.zone) desk.now.settings.now.token
+        (giver_of desk.now.settings.now.staff desk.now.staff) (seen_act act.now)) (state S.Store conn.new) }
 {
     let mut told = Err(TillFault::OtherBook);
     'tries: for ahead in AHEAD {

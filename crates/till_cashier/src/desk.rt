@@ -8,6 +8,7 @@ ghost use Rattle.till_cashier.specs.Clock.{local_clock};
 ghost use Rattle.till_requests.specs.Zones.{offset_of};
 ghost use Rattle.till_cashier.specs.Faults.{giver_of};
 ghost use Rattle.till_cashier.specs.Today.{IsOnWall};
+ghost use Rattle.till_cashier.specs.Looking.{IsNowBehind};
 
 use crate::caches::Shelf;
 use crate::clock::WallClock;
@@ -92,7 +93,10 @@ impl<K: WallClock, V: Server, L: Shelf> Desk<'_, K, V, L> {
     }
 
     /// Returns the clock's moment, or the last entry's if that is later, so that what was entered counts.
-    pub(crate) fn now_behind(&self, last: Option<Moment>) -> Result<Moment, TillFault> {
+    pub(crate) fn now_behind(&self, last: Option<Moment>) -> Result<Moment, TillFault>
+        ensures { IfOk result (IsNowBehind
+            (local_clock (K.shows self.now.clock.now) self.now.settings.now.zone) last) }
+    {
         let now = self.now()?;
         match last {
             Some(last) if now.is_earlier(last) => Ok(last),

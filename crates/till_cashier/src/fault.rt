@@ -43,6 +43,8 @@ pub enum TillFault {
     Waits,
     /// The line to the server is down: nothing can be asked.
     Down,
+    /// An earlier word of head office has no reply yet: this one isn't entered.
+    EarlierWaits,
     /// The server had no memory, room or store.
     NotNow,
     /// The server doesn't know the till's token.
@@ -99,6 +101,7 @@ impl TillFault {
             | TillFault::NotSent
             | TillFault::IsOffice
             | TillFault::IsBranch
+            | TillFault::EarlierWaits
             | TillFault::NoZone
             | TillFault::ZoneBehind
             | TillFault::Unsure
@@ -128,13 +131,13 @@ impl TillFault {
         }
     }
 
-    /// Tests whether the server was asked, and gave no reply that counts.
+    /// Tests whether the server gave no reply that counts, to the word or to an earlier one.
     pub fn is_unanswered(self) -> bool
         ensures { IsTrue result ↔ HasNoReply self }
     {
         matches!(
             self,
-            TillFault::Unanswered | TillFault::NotNow | TillFault::Silent
+            TillFault::Unanswered | TillFault::NotNow | TillFault::Silent | TillFault::EarlierWaits
         )
     }
 
@@ -170,6 +173,8 @@ impl TillFault {
                 "The line to the server is down. What was said is in the book and goes by itself, once.",
             TillFault::Down =>
                 "The line to the server is down, so that can't be asked now. Say the word again later.",
+            TillFault::EarlierWaits =>
+                "An earlier word has no answer yet, so this one wasn't done. Say send, and then this word again.",
             TillFault::NotNow =>
                 "The server can't take it now. What was said is in the book and goes again by itself, once.",
             TillFault::NotKnown =>

@@ -1,6 +1,11 @@
 //! The branch's customers and the films, from lists that are kept for ten minutes.
 
-ghost use Rattle.std.specs.Prelude.{IfSome, string_bytes};
+ghost use Rattle.std.specs.Prelude.{◌≡◌, Some, IfOk, IfSome, string_bytes};
+ghost use Rattle.shop_model.specs.Values.{OneView};
+ghost use Rattle.shop_types.specs.Seen.{seen_view};
+ghost use Rattle.till_client.specs.Replies.{seen_answer};
+ghost use Rattle.till_cashier.specs.Asking.{IsAnswered, IsLookedUp};
+ghost use Rattle.till_cashier.specs.Looking.{IsListOf, IsTitled, found_in, none_text, view_of};
 ghost use Rattle.till_cashier.specs.Saying.{IsListed};
 
 use crate::caches::Shelf;
@@ -38,14 +43,18 @@ impl List {
     }
 
     /// Returns what is said if nothing has what is looked for.
-    pub(crate) fn none(self) -> &'static str {
+    pub(crate) fn none(self) -> &'static str
+        ensures { result.now ≡ none_text self }
+    {
         match self {
             List::Customers => "no customer has that in name or phone",
             List::Films => "no film has that in its title",
         }
     }
 
-    fn view(self) -> View {
+    fn view(self) -> View
+        ensures { seen_view result ≡ view_of self }
+    {
         match self {
             List::Customers => View::CustomerList,
             List::Films => View::FilmList,
@@ -53,7 +62,9 @@ impl List {
     }
 
     /// Returns the rows of the list's body that have the part in them.
-    fn with(self, alloc: Global, body: &[u8], part: &str) -> Result<Table, NotShown> {
+    fn with(self, alloc: Global, body: &[u8], part: &str) -> Result<Table, NotShown>
+        ensures { IfOk result (λ table. found_in self part.now body.now ≡ Some table) }
+    {
         match self {
             List::Customers => customers_with(alloc, body, part),
             List::Films => films_with(alloc, body, part),
@@ -86,7 +97,11 @@ fn list_kept<K: WallClock, V: Server, L: Shelf>(
 fn fetched<K: WallClock, V: Server, L: Shelf>(
     desk: &Desk<'_, K, V, L>,
     list: List,
-) -> Result<Answer, TillFault> {
+) -> Result<Answer, TillFault>
+    ensures { IfOk result (λ answer. IsLookedUp
+        (IsAnswered (V.opens desk.now.server.now) V.Reader.remaining V.Writer.contents)
+        desk.now.settings.now.token (OneView (view_of list)) (seen_answer answer)) }
+{
     let request = view_request(desk.alloc, desk.routes, &desk.settings.token, list.view())?;
     let answer = desk.ask(request.as_slice())?;
     if answer.status == 200 {
@@ -115,20 +130,24 @@ pub(crate) fn body_of<K: WallClock, V: Server, L: Shelf>(
 }
 
 /// A list, its rows that were looked for, and how many whole minutes ago the server gave it. If the list was refused,
-/// the table has no row.
+/// there is no table.
 #[derive(Drop)]
 pub(crate) struct Picked {
     pub(crate) answer: Answer,
-    pub(crate) table: Table,
+    pub(crate) table: Option<Table>,
     pub(crate) minutes: u64,
 }
 
 /// Picks the rows of the list in which the part is found.
-fn pick(alloc: Global, list: List, answer: Answer, part: &str) -> Result<Picked, TillFault> {
+fn pick(alloc: Global, list: List, answer: Answer, part: &str) -> Result<Picked, TillFault>
+    ensures answer { IfOk result (λ it. it.answer ≡ answer) }
+    ensures rows { IfOk result (λ it. IfSome it.table (λ table. found_in list part.now it.answer.body.items
+        ≡ Some table)) }
+{
     let body = answer.body.as_slice();
     let table = match refusal_in(answer.status, body) {
-        Some(_) => Table::new(alloc, &[])?,
-        None => list.with(alloc, body, part)?,
+        Some(_) => None,
+        None => Some(list.with(alloc, body, part)?),
     };
     Ok(Picked {
         answer,
@@ -142,14 +161,20 @@ pub(crate) fn found<K: WallClock, V: Server, L: Shelf>(
     desk: &Desk<'_, K, V, L>,
     list: List,
     part: &str,
-) -> Result<Picked, TillFault> {
+) -> Result<Picked, TillFault>
+    ensures listed { IfOk result (λ it. IsListOf (IsLookedUp
+        (IsAnswered (V.opens desk.now.server.now) V.Reader.remaining V.Writer.contents)
+        desk.now.settings.now.token) list (seen_answer it.answer)) }
+    ensures rows { IfOk result (λ it. IfSome it.table (λ table. found_in list part.now it.answer.body.items
+        ≡ Some table)) }
+{
     if let Some(Kept { body, seconds }) = list_kept(desk, list) {
         if let Ok(table) = list.with(desk.alloc, body.as_slice(), part) {
             if !table.is_empty() {
                 let answer = Answer { status: 200, body };
                 return Ok(Picked {
                     answer,
-                    table,
+                    table: Some(table),
                     minutes: seconds / 60,
                 });
             }
@@ -175,7 +200,9 @@ pub(crate) fn name_if_known<K: WallClock, V: Server, L: Shelf>(
 pub(crate) fn name_of<K: WallClock, V: Server, L: Shelf>(
     desk: &Desk<'_, K, V, L>,
     customer: CustomerNo,
-) -> Result<Option<String>, TillFault> {
+) -> Result<Option<String>, TillFault>
+    ensures { IfOk result (λ name. IfSome name (λ name. IsListed customer (string_bytes name))) }
+{
     if let Some(name) = name_if_known(desk, customer) {
         return Ok(Some(name));
     }
@@ -190,7 +217,9 @@ pub(crate) fn name_of<K: WallClock, V: Server, L: Shelf>(
 pub(crate) fn title_of<K: WallClock, V: Server, L: Shelf>(
     desk: &Desk<'_, K, V, L>,
     film: FilmNo,
-) -> Result<Option<String>, TillFault> {
+) -> Result<Option<String>, TillFault>
+    ensures { IfOk result (λ title. IfSome title (λ title. IsTitled film (string_bytes title))) }
+{
     if let Some(list) = list_kept(desk, List::Films) {
         if let Ok(Some(title)) = film_named(desk.alloc, list.body.as_slice(), film) {
             return Ok(Some(title));

@@ -1,9 +1,18 @@
 //! What is looked up, and changes nothing.
 
-ghost use Rattle.std.specs.Prelude.{◌≡◌, false};
+ghost use Rattle.std.specs.Prelude.{◌≡◌, ◌++◌, false, IfOk, IfSome, OnOk, string_bytes};
 ghost use Rattle.sqlite.specs.Held.{state};
 ghost use Rattle.sqlite.specs.State.{HasCleanDisk};
+ghost use Rattle.shop_model.specs.Values.{OneView};
+ghost use Rattle.shop_types.specs.Seen.{seen_ask, seen_view};
 ghost use Rattle.till_book.specs.Steps.{Stays};
+ghost use Rattle.till_client.specs.Replies.{seen_answer};
+ghost use Rattle.till_shows.specs.Sheets.{IsCustomerSheet};
+ghost use Rattle.till_cashier.specs.Asking.{IsAnswered, IsLookedUp};
+ghost use Rattle.till_cashier.specs.Clock.{local_clock};
+ghost use Rattle.till_cashier.specs.Looking.{Adds, SaysLooked, status_with};
+ghost use Rattle.till_cashier.specs.Looking.{AddsCopies, AddsCustomer, AddsLook, AddsOwed, AddsRewards, AddsSales, AddsTitle, AddsView, age_text, none_text, table_or};
+ghost use Rattle.till_cashier.specs.Looking.{IsByPhone, IsListOf, IsNamed, PrintsLook, ShowsFound, ShowsLines, ShowsList, ShowsSales};
 
 use crate::answers::{says_all, says_lines, says_list, says_sales, says_table};
 use crate::book::Book;
@@ -12,7 +21,7 @@ use crate::clock::WallClock;
 use crate::commands::called;
 use crate::desk::Desk;
 use crate::fault::TillFault;
-use crate::lists::{List, found, title_of};
+use crate::lists::{List, Picked, found, title_of};
 use crate::overdue::overdue;
 use crate::said::Said;
 use crate::stock::where_is;
@@ -32,15 +41,24 @@ const SHORT: u32 = 100;
 pub(crate) fn looked<K: WallClock, V: Server, L: Shelf>(
     desk: &Desk<'_, K, V, L>,
     ask: &Ask,
-) -> Result<Answer, TillFault> {
+) -> Result<Answer, TillFault>
+    ensures { IfOk result (λ answer. IsLookedUp
+        (IsAnswered (V.opens desk.now.server.now) V.Reader.remaining V.Writer.contents)
+        desk.now.settings.now.token (seen_ask ask.now) (seen_answer answer)) }
+{
     let request = look_request(desk.alloc, desk.routes, &desk.settings.token, ask)?;
     desk.ask(request.as_slice())
 }
 
+/// Returns the answer to a view.
 fn viewed<K: WallClock, V: Server, L: Shelf>(
     desk: &Desk<'_, K, V, L>,
     view: View,
-) -> Result<Answer, TillFault> {
+) -> Result<Answer, TillFault>
+    ensures { IfOk result (λ answer. IsLookedUp
+        (IsAnswered (V.opens desk.now.server.now) V.Reader.remaining V.Writer.contents)
+        desk.now.settings.now.token (OneView (seen_view view)) (seen_answer answer)) }
+{
     let request = view_request(desk.alloc, desk.routes, &desk.settings.token, view)?;
     desk.ask(request.as_slice())
 }
@@ -51,7 +69,13 @@ fn table_look<K: WallClock, V: Server, L: Shelf>(
     ask: &Ask,
     none: &str,
     said: &mut Said,
-) -> Result<(), TillFault> {
+) -> Result<(), TillFault>
+    ensures { OnOk result (AddsLook (IsLookedUp
+        (IsAnswered (V.opens desk.now.server.now) V.Reader.remaining V.Writer.contents)
+        desk.now.settings.now.token (seen_ask ask.now)) desk.now.is_json
+        (ShowsList (seen_ask ask.now) none.now) (string_bytes said.old.text)
+        said.old.status (string_bytes said.new.text) said.new.status) }
+{
     let answer = looked(desk, ask)?;
     if says_all(desk.alloc, desk.is_json, &answer, said)? {
         return Ok(());
@@ -63,7 +87,9 @@ fn table_look<K: WallClock, V: Server, L: Shelf>(
 fn name_in<K: WallClock, V: Server, L: Shelf>(
     desk: &Desk<'_, K, V, L>,
     ask: &Ask,
-) -> Result<String, TillFault> {
+) -> Result<String, TillFault>
+    ensures { IfOk result (λ name. IsNamed (seen_ask ask.now) (string_bytes name)) }
+{
     if let Ask::Balance { customer, .. } = ask {
         return called(desk, *customer);
     }
@@ -75,7 +101,13 @@ pub(crate) fn line_look<K: WallClock, V: Server, L: Shelf>(
     desk: &Desk<'_, K, V, L>,
     ask: &Ask,
     said: &mut Said,
-) -> Result<(), TillFault> {
+) -> Result<(), TillFault>
+    ensures { OnOk result (AddsLook (IsLookedUp
+        (IsAnswered (V.opens desk.now.server.now) V.Reader.remaining V.Writer.contents)
+        desk.now.settings.now.token (seen_ask ask.now)) desk.now.is_json
+        (ShowsLines (seen_ask ask.now)) (string_bytes said.old.text)
+        said.old.status (string_bytes said.new.text) said.new.status) }
+{
     let answer = looked(desk, ask)?;
     if says_all(desk.alloc, desk.is_json, &answer, said)? {
         return Ok(());
@@ -84,17 +116,37 @@ pub(crate) fn line_look<K: WallClock, V: Server, L: Shelf>(
     says_lines(desk.alloc, ask, name.as_str(), answer.body.as_slice(), said)
 }
 
+/// Says the film's title, if it is known. With `--json` it says nothing.
+fn says_title<K: WallClock, V: Server, L: Shelf>(
+    desk: &Desk<'_, K, V, L>,
+    film: FilmNo,
+    said: &mut Said,
+) -> Result<(), TillFault>
+    ensures said { OnOk result (AddsTitle desk.now.is_json film (string_bytes said.old.text)
+        (string_bytes said.new.text)) }
+    ensures status { said.new.status ≡ said.old.status }
+{
+    if desk.is_json {
+        return Ok(());
+    }
+    if let Ok(Some(title)) = title_of(desk, film) {
+        said.line(title.as_str())?;
+    }
+    Ok(())
+}
+
 /// Says the film's title, and its copies in stock and out.
 fn copies<K: WallClock, V: Server, L: Shelf>(
     desk: &Desk<'_, K, V, L>,
     film: FilmNo,
     said: &mut Said,
-) -> Result<(), TillFault> {
-    if !desk.is_json {
-        if let Ok(Some(title)) = title_of(desk, film) {
-            said.line(title.as_str())?;
-        }
-    }
+) -> Result<(), TillFault>
+    ensures { OnOk result (AddsCopies (IsLookedUp
+        (IsAnswered (V.opens desk.now.server.now) V.Reader.remaining V.Writer.contents)
+        desk.now.settings.now.token) desk.now.is_json film (string_bytes said.old.text)
+        said.old.status (string_bytes said.new.text) said.new.status) }
+{
+    says_title(desk, film, said)?;
     line_look(desk, &Ask::FilmInStock(film), said)?;
     if said.status == 0 {
         line_look(desk, &Ask::FilmNotInStock(film), said)?;
@@ -107,7 +159,13 @@ fn sales_by<K: WallClock, V: Server, L: Shelf>(
     desk: &Desk<'_, K, V, L>,
     view: View,
     said: &mut Said,
-) -> Result<(), TillFault> {
+) -> Result<(), TillFault>
+    ensures { OnOk result (AddsLook (IsLookedUp
+        (IsAnswered (V.opens desk.now.server.now) V.Reader.remaining V.Writer.contents)
+        desk.now.settings.now.token (OneView (seen_view view))) desk.now.is_json
+        (ShowsSales (seen_view view)) (string_bytes said.old.text)
+        said.old.status (string_bytes said.new.text) said.new.status) }
+{
     let answer = viewed(desk, view)?;
     if says_all(desk.alloc, desk.is_json, &answer, said)? {
         return Ok(());
@@ -121,17 +179,48 @@ fn search<K: WallClock, V: Server, L: Shelf>(
     list: List,
     part: &str,
     said: &mut Said,
-) -> Result<(), TillFault> {
-    let it = found(desk, list, part)?;
-    if says_all(desk.alloc, desk.is_json, &it.answer, said)? {
+) -> Result<(), TillFault>
+    ensures { OnOk result (AddsLook (IsListOf (IsLookedUp
+        (IsAnswered (V.opens desk.now.server.now) V.Reader.remaining V.Writer.contents)
+        desk.now.settings.now.token) list) desk.now.is_json
+        (ShowsFound list part.now) (string_bytes said.old.text)
+        said.old.status (string_bytes said.new.text) said.new.status) }
+{
+    let Picked {
+        answer,
+        table,
+        minutes,
+    } = found(desk, list, part)?;
+    if says_all(desk.alloc, desk.is_json, &answer, said)? {
         return Ok(());
     }
-    says_table(desk.alloc, &it.table, list.none(), said)?;
-    says_age(desk.alloc, it.minutes, said)
+    let Some(table) = table else {
+        return Err(TillFault::Foreign);
+    };
+    says_rows(desk.alloc, list, &table, minutes, said)
+}
+
+/// Says the rows of a list that were found, and how old the list is.
+fn says_rows(
+    alloc: Global,
+    list: List,
+    table: &Table,
+    minutes: u64,
+    said: &mut Said,
+) -> Result<(), TillFault>
+    ensures said { OnOk result (string_bytes said.new.text ≡ string_bytes said.old.text
+        ++ (table_or (none_text list) table.now ++ age_text minutes)) }
+    ensures status { said.new.status ≡ said.old.status }
+{
+    says_table(alloc, table, list.none(), said)?;
+    says_age(alloc, minutes, said)
 }
 
 /// Says how old a kept list is, if that is a minute or more.
-fn says_age(alloc: Global, minutes: u64, said: &mut Said) -> Result<(), TillFault> {
+fn says_age(alloc: Global, minutes: u64, said: &mut Said) -> Result<(), TillFault>
+    ensures said { OnOk result (string_bytes said.new.text ≡ string_bytes said.old.text ++ age_text minutes) }
+    ensures status { said.new.status ≡ said.old.status }
+{
     if minutes == 1 {
         said.line("This list is 1 minute old.")?;
     } else if minutes > 1 {
@@ -141,21 +230,47 @@ fn says_age(alloc: Global, minutes: u64, said: &mut Said) -> Result<(), TillFaul
     Ok(())
 }
 
-/// Returns the customers with the number in their telephone number, if no customer of the branch has the number and it
-/// isn't short.
+/// Returns the customers with the number in their telephone number, if there are some. The number isn't short, and is no
+/// customer's of the branch.
 fn with_phone<K: WallClock, V: Server, L: Shelf>(
     desk: &Desk<'_, K, V, L>,
     customer: CustomerNo,
     answer: &Answer,
-) -> Result<Option<Table>, TillFault> {
+) -> Result<Option<Table>, TillFault>
+    ensures { IfOk result (λ it. IfSome it (IsByPhone desk.now.is_json customer (seen_answer answer.now))) }
+{
     let refusal = refusal_in(answer.status, answer.body.as_slice());
     if desk.is_json || customer.get() < SHORT || !matches!(refusal, Some(Refusal::NoCustomer)) {
         return Ok(None);
     }
     let alloc = desk.alloc;
     let digits = format!(in alloc; "{}", customer.get())?;
-    let it = found(desk, List::Customers, digits.as_str())?;
-    Ok(Some(it.table))
+    let Picked { table, .. } = found(desk, List::Customers, digits.as_str())?;
+    let Some(table) = table else {
+        return Ok(None);
+    };
+    if table.is_empty() {
+        return Ok(None);
+    }
+    Ok(Some(table))
+}
+
+/// Says the customer's sheet, or a refusal, or with `--json` the body as it is.
+fn says_customer<K: WallClock, V: Server, L: Shelf>(
+    desk: &Desk<'_, K, V, L>,
+    answer: &Answer,
+    said: &mut Said,
+) -> Result<(), TillFault>
+    ensures said { OnOk result (Adds (SaysLooked desk.now.is_json IsCustomerSheet (seen_answer answer.now))
+        (string_bytes said.old.text) (string_bytes said.new.text)) }
+    ensures status { OnOk result (said.new.status ≡ status_with (seen_answer answer.now) said.old.status) }
+{
+    if says_all(desk.alloc, desk.is_json, answer, said)? {
+        return Ok(());
+    }
+    let sheet = customer_sheet(desk.alloc, answer.body.as_slice())?;
+    said.text.push_str(sheet.as_str())?;
+    Ok(())
 }
 
 /// Says the customer of a number, or those with the number in their telephone number.
@@ -163,25 +278,29 @@ fn customer_look<K: WallClock, V: Server, L: Shelf>(
     desk: &Desk<'_, K, V, L>,
     customer: CustomerNo,
     said: &mut Said,
-) -> Result<(), TillFault> {
+) -> Result<(), TillFault>
+    ensures { OnOk result (AddsCustomer (IsLookedUp
+        (IsAnswered (V.opens desk.now.server.now) V.Reader.remaining V.Writer.contents)
+        desk.now.settings.now.token) desk.now.is_json customer (string_bytes said.old.text)
+        said.old.status (string_bytes said.new.text) said.new.status) }
+{
     let answer = looked(desk, &Ask::Customer(customer))?;
-    if let Some(table) = with_phone(desk, customer, &answer)? {
-        if !table.is_empty() {
-            return says_table(desk.alloc, &table, "", said);
-        }
+    match with_phone(desk, customer, &answer)? {
+        Some(table) => says_table(desk.alloc, &table, "", said),
+        None => says_customer(desk, &answer, said),
     }
-    if !says_all(desk.alloc, desk.is_json, &answer, said)? {
-        let sheet = customer_sheet(desk.alloc, answer.body.as_slice())?;
-        said.text.push_str(sheet.as_str())?;
-    }
-    Ok(())
 }
 
 /// Says what customers paid for rentals, in all and then by category.
 fn sales<K: WallClock, V: Server, L: Shelf>(
     desk: &Desk<'_, K, V, L>,
     said: &mut Said,
-) -> Result<(), TillFault> {
+) -> Result<(), TillFault>
+    ensures { OnOk result (AddsSales (IsLookedUp
+        (IsAnswered (V.opens desk.now.server.now) V.Reader.remaining V.Writer.contents)
+        desk.now.settings.now.token) desk.now.is_json (string_bytes said.old.text)
+        said.old.status (string_bytes said.new.text) said.new.status) }
+{
     sales_by(desk, View::SalesByStore, said)?;
     sales_by(desk, View::SalesByFilmCategory, said)
 }
@@ -192,7 +311,14 @@ fn balance<K: WallClock, V: Server, L: Shelf>(
     customer: CustomerNo,
     last: Option<Moment>,
     said: &mut Said,
-) -> Result<(), TillFault> {
+) -> Result<(), TillFault>
+    ensures { OnOk result (AddsOwed (IsLookedUp
+        (IsAnswered (V.opens desk.now.server.now) V.Reader.remaining V.Writer.contents)
+        desk.now.settings.now.token)
+        (local_clock (K.shows desk.now.clock.now) desk.now.settings.now.zone) last desk.now.is_json customer
+        (string_bytes said.old.text)
+        said.old.status (string_bytes said.new.text) said.new.status) }
+{
     let at = desk.now_behind(last)?;
     line_look(desk, &Ask::Balance { customer, at }, said)
 }
@@ -203,7 +329,14 @@ fn rewards<K: WallClock, V: Server, L: Shelf>(
     purchases: u32,
     cents: u32,
     said: &mut Said,
-) -> Result<(), TillFault> {
+) -> Result<(), TillFault>
+    ensures { OnOk result (AddsRewards (IsLookedUp
+        (IsAnswered (V.opens desk.now.server.now) V.Reader.remaining V.Writer.contents)
+        desk.now.settings.now.token)
+        (local_clock (K.shows desk.now.clock.now) desk.now.settings.now.zone) desk.now.is_json purchases cents
+        (string_bytes said.old.text)
+        said.old.status (string_bytes said.new.text) said.new.status) }
+{
     let ask = Ask::Rewards {
         at: desk.now()?,
         purchases,
@@ -224,6 +357,12 @@ fn put_look<S: Alter, K: WallClock, V: Server, L: Shelf>(
     ensures ended { conn.new.in_transaction ≡ false }
     ensures clean { HasCleanDisk (state S.Store conn.new) → HasCleanDisk (state S.Store conn.old) }
     ensures stays { HasCleanDisk (state S.Store conn.new) → Stays (state S.Store conn.old) (state S.Store conn.new) }
+    ensures says { OnOk result (AddsView (IsLookedUp
+        (IsAnswered (V.opens desk.now.server.now) V.Reader.remaining V.Writer.contents)
+        desk.now.settings.now.token)
+        (local_clock (K.shows desk.now.clock.now) desk.now.settings.now.zone) book.now.last desk.now.is_json desk.now.sheet.now look.now
+        (string_bytes said.old.text)
+        said.old.status (string_bytes said.new.text) said.new.status) }
 {
     match look {
         TillLook::Customer(customer) => customer_look(desk, *customer, said),
@@ -253,6 +392,10 @@ pub(crate) fn look<S: Alter, K: WallClock, V: Server, L: Shelf>(
     ensures ended { conn.new.in_transaction ≡ false }
     ensures clean { HasCleanDisk (state S.Store conn.new) → HasCleanDisk (state S.Store conn.old) }
     ensures stays { HasCleanDisk (state S.Store conn.new) → Stays (state S.Store conn.old) (state S.Store conn.new) }
+    ensures says { IfOk result (λ said. PrintsLook
+        (IsAnswered (V.opens desk.now.server.now) V.Reader.remaining V.Writer.contents)
+        desk.now.settings.now.token (local_clock (K.shows desk.now.clock.now) desk.now.settings.now.zone)
+        book.now.last desk.now.is_json desk.now.sheet.now look (string_bytes said.text) said.status) }
 {
     let mut said = Said::done(desk.alloc);
     put_look(desk, conn, book, &look, &mut said)?;

@@ -1,13 +1,22 @@
 //! Head office's words at a till, over a running server.
 
-ghost use Rattle.std.specs.Prelude.{◌≡◌, false, map, IfOk, string_bytes};
+ghost use Rattle.std.specs.Prelude.{◌≡◌, ℕ, List, Err, true, false, map, string_bytes, IfOk};
 ghost use Rattle.sqlite.specs.Held.{state};
 ghost use Rattle.sqlite.specs.State.{HasCleanDisk};
+ghost use Rattle.shop_model.specs.Refusals.{Decision, KeyUsed};
+ghost use Rattle.shop_model.specs.Values.{Text};
+ghost use Rattle.till_book.specs.Journal.{Journal};
+ghost use Rattle.till_book.specs.Marks.{is_reply_to};
+ghost use Rattle.till_book.specs.Steps.{Rests};
+ghost use Rattle.till_client.specs.Replies.{seen_answer};
 ghost use Rattle.till_work.specs.Told.{IsTold};
-ghost use Rattle.till_work.specs.Desk.{Grows};
+ghost use Rattle.till_work.specs.Desk.{Grows, HasPlace, Sends};
+ghost use Rattle.till_work.specs.Stops.{IsAny, IsLater, IsSettledAfter, Leaves};
 ghost use Rattle.till_cashier.specs.Asking.{IsAnswered};
 ghost use Rattle.till_cashier.specs.Faults.{IsBookKept};
+ghost use Rattle.till_cashier.specs.Office.{AddsInTurn, GivesOne, GrowsInTurn, GrowsUsed, HasTurn, SaysUnder, open_key};
 ghost use Rattle.till_cashier.specs.Printing.{SaysReading};
+ghost use Rattle.till_cashier.specs.Word.{EntersNothing};
 
 use crate::answers::office_said;
 use crate::book::Book;
@@ -15,9 +24,12 @@ use crate::caches::Shelf;
 use crate::clock::WallClock;
 use crate::desk::Desk;
 use crate::fault::TillFault;
+use crate::office_keys::{is_key_used, read_doubtful, read_open_key};
 use crate::said::Said;
-use crate::sendings::send_all;
+use crate::sendings::{send_all, waited};
+use crate::settling::settle_refused;
 use sqlite::{Alter, Connection};
+use till_client::Answer;
 use till_requests::{NotSaid, office_look_request, office_request};
 use till_work::{Place, Server, Watch, enter_request};
 
@@ -51,12 +63,15 @@ pub(crate) fn read_office<K: WallClock, V: Server, L: Shelf>(
     }
 }
 
-/// Returns the bytes of a command of head office, with the key of the entry of that number.
+/// Returns the bytes of a command of head office, under the key of that number.
 fn office_bytes<K: WallClock, V: Server, L: Shelf>(
     desk: &Desk<'_, K, V, L>,
     number: u32,
     words: &[String],
-) -> Result<Vec<u8>, NotSaid> {
+) -> Result<Vec<u8>, NotSaid>
+    ensures { IfOk result (λ bytes. SaysUnder desk.now.settings.now.mark desk.now.settings.now.token
+        (map string_bytes words.now) number bytes.items) }
+{
     let settings = desk.settings;
     let sealed = office_request(
         desk.alloc,
@@ -69,6 +84,75 @@ fn office_bytes<K: WallClock, V: Server, L: Shelf>(
     Ok(sealed.bytes)
 }
 
+/// Returns the fault of a word that isn't entered, since one before it has no reply yet.
+fn earlier_fault(fault: TillFault) -> TillFault
+    ensures { fault ≡ TillFault.Book → result ≡ TillFault.Book }
+{
+    match fault {
+        TillFault::Unanswered | TillFault::NotNow | TillFault::NotKnown => TillFault::EarlierWaits,
+        other => other,
+    }
+}
+
+/// Sends what waits. While the line is down it fails if something waits.
+fn answer_earlier<S: Alter, K: WallClock, V: Server, L: Shelf, W: Watch>(
+    desk: &Desk<'_, K, V, L>,
+    conn: &mut Connection<S>,
+    place: &mut Place,
+    watch: &mut W,
+) -> Result<(), TillFault>
+    requires { conn.old.in_transaction ≡ false }
+    ensures ended { conn.new.in_transaction ≡ false }
+    ensures clean { HasCleanDisk (state S.Store conn.new) → HasCleanDisk (state S.Store conn.old) }
+    ensures sends { HasCleanDisk (state S.Store conn.new) → IsBookKept result
+        → Sends (IsTold (V.opens desk.now.server.now) V.Reader.remaining V.Writer.contents) place.old
+        (state S.Store conn.old) place.new (state S.Store conn.new) }
+    ensures crash { HasCleanDisk (state S.Store conn.new) → Leaves (HasPlace place.old (state S.Store conn.old)) IsAny
+        (IsLater (IsTold (V.opens desk.now.server.now) V.Reader.remaining V.Writer.contents)) (state S.Store conn.new) }
+{
+    if place.replies == place.entries {
+        return Ok(());
+    }
+    if desk.line.is_down() {
+        return Err(TillFault::EarlierWaits);
+    }
+    match send_all(desk, conn, place, watch) {
+        Ok(_) => {}
+        Err(fault) => return Err(earlier_fault(fault)),
+    }
+    Ok(())
+}
+
+/// If an entry was refused because an earlier one has its key, sends the earlier ones under that key once more. Says
+/// which was done. The key is used, so none of them is done by this.
+fn settle_earlier<S: Alter, K: WallClock, V: Server, L: Shelf>(
+    desk: &Desk<'_, K, V, L>,
+    conn: &mut Connection<S>,
+    said: &mut Said,
+) -> Result<(), TillFault>
+    requires { conn.old.in_transaction ≡ false }
+    ensures ended { conn.new.in_transaction ≡ false }
+    ensures clean { HasCleanDisk (state S.Store conn.new) → HasCleanDisk (state S.Store conn.old) }
+    ensures same { HasCleanDisk (state S.Store conn.new) → IsBookKept result
+        → EntersNothing (IsTold (V.opens desk.now.server.now) V.Reader.remaining V.Writer.contents) (state S.Store
+        conn.old) (state S.Store conn.new) }
+    ensures crash { HasCleanDisk (state S.Store conn.new) → Leaves (Rests (state S.Store conn.old)) IsAny
+        (IsSettledAfter (IsTold (V.opens desk.now.server.now) V.Reader.remaining V.Writer.contents)) (state S.Store conn.new) }
+{
+    let entries = read_doubtful(desk.alloc, &desk.settings.mark, conn)?;
+    if entries.is_empty() {
+        return Ok(());
+    }
+    if desk.line.is_down() {
+        return Err(TillFault::EarlierWaits);
+    }
+    match settle_refused(desk, conn, entries.as_slice(), None, said) {
+        Ok(true) => return Ok(()),
+        Ok(false) => return Err(TillFault::EarlierWaits),
+        Err(fault) => return Err(fault),
+    }
+}
+
 /// Enters those bytes, and sends them until they are answered. While the line is down they wait in the book.
 fn give_request<S: Alter, K: WallClock, V: Server, L: Shelf, W: Watch>(
     desk: &Desk<'_, K, V, L>,
@@ -76,13 +160,21 @@ fn give_request<S: Alter, K: WallClock, V: Server, L: Shelf, W: Watch>(
     place: &mut Place,
     request: &[u8],
     watch: &mut W,
-) -> Result<Said, TillFault>
+) -> Result<Answer, TillFault>
     requires { conn.old.in_transaction ≡ false }
     ensures ended { conn.new.in_transaction ≡ false }
     ensures clean { HasCleanDisk (state S.Store conn.new) → HasCleanDisk (state S.Store conn.old) }
-    ensures grows { HasCleanDisk (state S.Store conn.new) → IsBookKept result
-        → Grows (IsTold (V.opens desk.now.server.now) V.Reader.remaining V.Writer.contents) place.old (state S.Store
-        conn.old) place.new (state S.Store conn.new) }
+    ensures turn { HasCleanDisk (state S.Store conn.new) → IsBookKept result → (mark token : Text) (words : List Text)
+        (n : ℕ) → SaysUnder mark token words n request.now → place.old.replies ≡ place.old.entries
+        → (journal : Journal) → HasPlace place.old (state S.Store conn.old) journal → n ≡ open_key journal.replies
+        → HasTurn (IsTold (V.opens desk.now.server.now) V.Reader.remaining V.Writer.contents) mark token words
+        place.new (state S.Store conn.new) journal }
+    ensures given { HasCleanDisk (state S.Store conn.new) → place.old.replies ≡ place.old.entries
+        → IfOk result (λ answer. GivesOne
+        (IsTold (V.opens desk.now.server.now) V.Reader.remaining V.Writer.contents) request.now (seen_answer answer)
+        place.old (state S.Store conn.old) place.new (state S.Store conn.new)) }
+    ensures crash { HasCleanDisk (state S.Store conn.new) → Leaves (HasPlace place.old (state S.Store conn.old)) IsAny
+        (IsLater (IsTold (V.opens desk.now.server.now) V.Reader.remaining V.Writer.contents)) (state S.Store conn.new) }
 {
     match enter_request(conn, place, request) {
         Ok(()) => {}
@@ -92,13 +184,159 @@ fn give_request<S: Alter, K: WallClock, V: Server, L: Shelf, W: Watch>(
         return Err(TillFault::Waits);
     }
     match send_all(desk, conn, place, watch) {
-        Ok(Some(answer)) => office_said(desk.alloc, desk.is_json, &answer),
+        Ok(Some(answer)) => Ok(answer),
         Ok(None) => Err(TillFault::OtherBook),
         Err(fault) => Err(fault),
     }
 }
 
-/// Enters a command of head office, with a key of the book's, and sends it until it is answered.
+/// Enters the words under the open key, and sends them until they are answered. Fails with `OtherBook` if an earlier
+/// entry has no reply.
+fn give_keyed<S: Alter, K: WallClock, V: Server, L: Shelf, W: Watch>(
+    desk: &Desk<'_, K, V, L>,
+    conn: &mut Connection<S>,
+    place: &mut Place,
+    words: &[String],
+    watch: &mut W,
+) -> Result<Answer, TillFault>
+    requires { conn.old.in_transaction ≡ false }
+    ensures ended { conn.new.in_transaction ≡ false }
+    ensures clean { HasCleanDisk (state S.Store conn.new) → HasCleanDisk (state S.Store conn.old) }
+    ensures turn { HasCleanDisk (state S.Store conn.new) → IsBookKept result
+        → GrowsInTurn (IsTold (V.opens desk.now.server.now) V.Reader.remaining V.Writer.contents)
+        desk.now.settings.now.mark desk.now.settings.now.token (map string_bytes words.now) place.old
+        (state S.Store conn.old) place.new (state S.Store conn.new) }
+    ensures used { HasCleanDisk (state S.Store conn.new)
+        → IfOk result (λ answer. is_reply_to (Decision KeyUsed) (seen_answer answer) ≡ true
+        → GrowsUsed (IsTold (V.opens desk.now.server.now) V.Reader.remaining V.Writer.contents)
+        desk.now.settings.now.mark desk.now.settings.now.token (map string_bytes words.now) place.old
+        (state S.Store conn.old) place.new (state S.Store conn.new)) }
+    ensures crash { HasCleanDisk (state S.Store conn.new) → Leaves (HasPlace place.old (state S.Store conn.old)) IsAny
+        (IsLater (IsTold (V.opens desk.now.server.now) V.Reader.remaining V.Writer.contents)) (state S.Store conn.new) }
+{
+    if place.replies != place.entries {
+        return Err(TillFault::OtherBook);
+    }
+    let number = read_open_key(desk.alloc, conn)?;
+    match office_bytes(desk, number, words) {
+        Ok(request) => give_request(desk, conn, place, request.as_slice(), watch),
+        Err(_) => Err(TillFault::NotSent),
+    }
+}
+
+/// Gives the words. If an earlier entry has their key, says which, and gives them under the next key.
+fn give_words<S: Alter, K: WallClock, V: Server, L: Shelf, W: Watch>(
+    desk: &Desk<'_, K, V, L>,
+    conn: &mut Connection<S>,
+    place: &mut Place,
+    words: &[String],
+    said: &mut Said,
+    watch: &mut W,
+) -> Result<Answer, TillFault>
+    requires { conn.old.in_transaction ≡ false }
+    ensures ended { conn.new.in_transaction ≡ false }
+    ensures clean { HasCleanDisk (state S.Store conn.new) → HasCleanDisk (state S.Store conn.old) }
+    ensures turn { HasCleanDisk (state S.Store conn.new) → IsBookKept result
+        → GrowsInTurn (IsTold (V.opens desk.now.server.now) V.Reader.remaining V.Writer.contents)
+        desk.now.settings.now.mark desk.now.settings.now.token (map string_bytes words.now) place.old
+        (state S.Store conn.old) place.new (state S.Store conn.new) }
+    ensures crash { HasCleanDisk (state S.Store conn.new) → Leaves (HasPlace place.old (state S.Store conn.old)) IsAny
+        (IsLater (IsTold (V.opens desk.now.server.now) V.Reader.remaining V.Writer.contents)) (state S.Store conn.new) }
+{
+    match settle_earlier(desk, conn, said) {
+        Ok(()) => {}
+        Err(fault) => return Err(fault),
+    }
+    let answer = match give_keyed(desk, conn, place, words, watch) {
+        Ok(answer) => answer,
+        Err(fault) => return Err(fault),
+    };
+    if !is_key_used(&answer) {
+        return Ok(answer);
+    }
+    let before = said.text.as_str().len();
+    match settle_earlier(desk, conn, said) {
+        Ok(()) => {}
+        Err(fault) => return Err(fault),
+    }
+    if said.text.as_str().len() == before {
+        return Ok(answer);
+    }
+    give_keyed(desk, conn, place, words, watch)
+}
+
+/// Says the answer to a word of head office, the outcomes of what had waited before it, and which earlier entry was done
+/// after all.
+fn told<K: WallClock, V: Server, L: Shelf>(
+    desk: &Desk<'_, K, V, L>,
+    answer: &Answer,
+    waited: &Option<Said>,
+    more: &Said,
+) -> Result<Said, TillFault> {
+    let mut said = office_said(desk.alloc, desk.is_json, answer)?;
+    if let Some(table) = waited {
+        said.line("What had waited was sent first:")?;
+        said.text.push_str(table.text.as_str())?;
+    }
+    said.text.push_str(more.text.as_str())?;
+    Ok(said)
+}
+
+/// Returns the fault of a word. If an earlier entry was done after all, says the fault and that.
+fn fault_told<K: WallClock, V: Server, L: Shelf>(
+    desk: &Desk<'_, K, V, L>,
+    fault: TillFault,
+    more: &Said,
+) -> Result<Said, TillFault>
+    ensures { fault ≡ TillFault.Book → result ≡ Err TillFault.Book }
+{
+    if fault == TillFault::Book || more.text.as_str().is_empty() {
+        return Err(fault);
+    }
+    let alloc = desk.alloc;
+    let text = format!(in alloc; "{fault}\n{}", more.text)?;
+    Ok(Said {
+        text,
+        status: fault.status(),
+    })
+}
+
+/// Sends what waits, and gives the words once each earlier entry has its reply. Says the answer, the outcomes of what
+/// had waited, and which earlier entry was done after all.
+fn give_in_turn<S: Alter, K: WallClock, V: Server, L: Shelf, W: Watch>(
+    desk: &Desk<'_, K, V, L>,
+    conn: &mut Connection<S>,
+    place: &mut Place,
+    words: &[String],
+    watch: &mut W,
+) -> Result<Said, TillFault>
+    requires { conn.old.in_transaction ≡ false }
+    ensures ended { conn.new.in_transaction ≡ false }
+    ensures clean { HasCleanDisk (state S.Store conn.new) → HasCleanDisk (state S.Store conn.old) }
+    ensures turn { HasCleanDisk (state S.Store conn.new) → IsBookKept result
+        → GrowsInTurn (IsTold (V.opens desk.now.server.now) V.Reader.remaining V.Writer.contents)
+        desk.now.settings.now.mark desk.now.settings.now.token (map string_bytes words.now) place.old
+        (state S.Store conn.old) place.new (state S.Store conn.new) }
+    ensures crash { HasCleanDisk (state S.Store conn.new) → Leaves (HasPlace place.old (state S.Store conn.old)) IsAny
+        (IsLater (IsTold (V.opens desk.now.server.now) V.Reader.remaining V.Writer.contents)) (state S.Store conn.new) }
+{
+    let before = *place;
+    match answer_earlier(desk, conn, place, watch) {
+        Ok(()) => {}
+        Err(fault) => return Err(fault),
+    }
+    let table = waited(desk, conn, before)?;
+    let mut more = Said::done(desk.alloc);
+    let answer = match give_words(desk, conn, place, words, &mut more, watch) {
+        Ok(answer) => answer,
+        Err(fault) => return fault_told(desk, fault, &more),
+    };
+    told(desk, &answer, &table, &more)
+}
+
+/// Enters a command of head office, and sends it until it is answered. What waits is sent first: the command is entered
+/// only if each earlier entry has its reply. It gets the key of the entries that were refused since the last one that
+/// was done. If one of them was done after all, that is said, and the command gets the next key.
 pub(crate) fn give_office<S: Alter, K: WallClock, V: Server, L: Shelf, W: Watch>(
     desk: &Desk<'_, K, V, L>,
     conn: &mut Connection<S>,
@@ -112,10 +350,14 @@ pub(crate) fn give_office<S: Alter, K: WallClock, V: Server, L: Shelf, W: Watch>
     ensures grows { HasCleanDisk (state S.Store conn.new) → IsBookKept result
         → Grows (IsTold (V.opens desk.now.server.now) V.Reader.remaining V.Writer.contents) book.old.place (state
         S.Store conn.old) book.new.place (state S.Store conn.new) }
+    ensures adds { HasCleanDisk (state S.Store conn.new) → IsBookKept result
+        → AddsInTurn desk.now.settings.now.mark desk.now.settings.now.token (map string_bytes words.now)
+        book.old.place (state S.Store conn.old) book.new.place (state S.Store conn.new) }
+    ensures crash { HasCleanDisk (state S.Store conn.new) → Leaves (HasPlace book.old.place (state S.Store conn.old)) IsAny
+        (IsLater (IsTold (V.opens desk.now.server.now) V.Reader.remaining V.Writer.contents)) (state S.Store conn.new) }
 {
-    let number = book.place.entries.checked_add(1).ok_or(TillFault::Full)?;
-    match office_bytes(desk, number, words) {
-        Ok(request) => give_request(desk, conn, &mut book.place, request.as_slice(), watch),
+    match office_bytes(desk, 1, words) {
+        Ok(_) => give_in_turn(desk, conn, &mut book.place, words, watch),
         Err(fault) => unsaid(fault),
     }
 }

@@ -1,9 +1,12 @@
 //! What is overdue, with the numbers of the copies, and of the rentals that the book or the sheet knows.
 
-ghost use Rattle.std.specs.Prelude.{◌≡◌, false};
+ghost use Rattle.std.specs.Prelude.{◌≡◌, false, OnOk, string_bytes};
 ghost use Rattle.sqlite.specs.Held.{state};
 ghost use Rattle.sqlite.specs.State.{HasCleanDisk};
 ghost use Rattle.till_book.specs.Steps.{Stays};
+ghost use Rattle.till_cashier.specs.Asking.{IsAnswered, IsLookedUp};
+ghost use Rattle.till_cashier.specs.Clock.{local_clock};
+ghost use Rattle.till_cashier.specs.Looking.{AddsLate};
 
 use crate::answers::{says_all, says_list, says_table};
 use crate::caches::Shelf;
@@ -282,6 +285,12 @@ pub(crate) fn overdue<S: Alter, K: WallClock, V: Server, L: Shelf>(
     ensures ended { conn.new.in_transaction ≡ false }
     ensures clean { HasCleanDisk (state S.Store conn.new) → HasCleanDisk (state S.Store conn.old) }
     ensures stays { HasCleanDisk (state S.Store conn.new) → Stays (state S.Store conn.old) (state S.Store conn.new) }
+    ensures says { OnOk result (AddsLate (IsLookedUp
+        (IsAnswered (V.opens desk.now.server.now) V.Reader.remaining V.Writer.contents)
+        desk.now.settings.now.token)
+        (local_clock (K.shows desk.now.clock.now) desk.now.settings.now.zone) desk.now.is_json
+        (string_bytes said.old.text)
+        said.old.status (string_bytes said.new.text) said.new.status) }
 {
     let ask = Ask::Overdue(desk.now()?);
     let answer = looked(desk, &ask)?;

@@ -6,7 +6,8 @@ ghost use Rattle.sqlite.specs.State.{HasCleanDisk};
 ghost use Rattle.shop_model.specs.Values.{Text};
 ghost use Rattle.till_book.specs.Steps.{Stays};
 ghost use Rattle.till_work.specs.Told.{IsTold};
-ghost use Rattle.till_work.specs.Desk.{GoesOn, Grows, Sends, TellsLast};
+ghost use Rattle.till_work.specs.Desk.{GoesOn, Grows, HasPlace, Sends, TellsLast};
+ghost use Rattle.till_work.specs.Stops.{IsAny, IsSentAfter, Leaves};
 ghost use Rattle.till_cashier.specs.Faults.{IsBookKept};
 ghost use Rattle.till_cashier.specs.Adding.{AddsNoEntry};
 ghost use Rattle.till_cashier.specs.Word.{FailsToSendAll, SendsAll};
@@ -44,6 +45,8 @@ pub(crate) fn send_all<S: Alter, K: WallClock, V: Server, L: Shelf, W: Watch>(
         (V.refuses desk.now.server.now) (V.opens desk.now.server.now) V.Writer.contents place.old (state S.Store
         conn.old) place.new (state S.Store conn.new)) }
     ensures all { OnOk result (place.old.replies ≤ place.old.entries → place.new.replies ≡ place.old.entries) }
+    ensures crash { HasCleanDisk (state S.Store conn.new) → Leaves (HasPlace place.old (state S.Store conn.old)) IsAny
+        (IsSentAfter (IsTold (V.opens desk.now.server.now) V.Reader.remaining V.Writer.contents)) (state S.Store conn.new) }
 {
     match send_waiting(
         desk.alloc,
@@ -80,6 +83,8 @@ pub(crate) fn send<S: Alter, K: WallClock, V: Server, L: Shelf, W: Watch>(
         conn.old) place.new (state S.Store conn.new) }
     ensures adds { HasCleanDisk (state S.Store conn.new) → IsBookKept result → (mark : Text)
         → AddsNoEntry mark place.old (state S.Store conn.old) place.new (state S.Store conn.new) }
+    ensures crash { HasCleanDisk (state S.Store conn.new) → Leaves (HasPlace place.old (state S.Store conn.old)) IsAny
+        (IsSentAfter (IsTold (V.opens desk.now.server.now) V.Reader.remaining V.Writer.contents)) (state S.Store conn.new) }
 {
     let before = place.replies;
     match send_all(desk, conn, place, watch) {

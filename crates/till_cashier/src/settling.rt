@@ -4,10 +4,12 @@ ghost use Rattle.std.specs.Prelude.{◌≡◌, ◌<◌, false};
 ghost use Rattle.sqlite.specs.Held.{state};
 ghost use Rattle.sqlite.specs.State.{HasCleanDisk};
 ghost use Rattle.shop_model.specs.Values.{Text};
-ghost use Rattle.till_book.specs.Steps.{Stays};
+ghost use Rattle.till_book.specs.Steps.{Rests, Stays};
 ghost use Rattle.till_work.specs.Told.{IsTold};
 ghost use Rattle.till_work.specs.Desk.{IsBookKept as IsDeskKept};
+ghost use Rattle.till_work.specs.Stops.{IsAny, IsSettledAfter, Leaves};
 ghost use Rattle.till_cashier.specs.Faults.{IsBookKept};
+ghost use Rattle.till_cashier.specs.Stops.{LeavesATillsBook};
 ghost use Rattle.till_cashier.specs.Word.{EntersNothing, KeepsATillsBook};
 
 use crate::caches::Shelf;
@@ -114,6 +116,8 @@ fn settle_one<S: Alter, K: WallClock, V: Server, L: Shelf>(
     ensures same { HasCleanDisk (state S.Store conn.new) → IsBookKept result
         → EntersNothing (IsTold (V.opens desk.now.server.now) V.Reader.remaining V.Writer.contents) (state S.Store
         conn.old) (state S.Store conn.new) }
+    ensures crash { HasCleanDisk (state S.Store conn.new) → Leaves (Rests (state S.Store conn.old)) IsAny
+        (IsSettledAfter (IsTold (V.opens desk.now.server.now) V.Reader.remaining V.Writer.contents)) (state S.Store conn.new) }
 {
     let Ok((mut reader, mut writer)) = desk.server.connect() else {
         return Ok(false);
@@ -158,6 +162,8 @@ pub(crate) fn settle_refused<S: Alter, K: WallClock, V: Server, L: Shelf>(
     ensures same { HasCleanDisk (state S.Store conn.new) → IsBookKept result
         → EntersNothing (IsTold (V.opens desk.now.server.now) V.Reader.remaining V.Writer.contents) (state S.Store
         conn.old) (state S.Store conn.new) }
+    ensures crash { HasCleanDisk (state S.Store conn.new) → Leaves (Rests (state S.Store conn.old)) IsAny
+        (IsSettledAfter (IsTold (V.opens desk.now.server.now) V.Reader.remaining V.Writer.contents)) (state S.Store conn.new) }
 {
     'entries: for entry in entries {
         if entry.number == 0 || is_over(desk, end) {
@@ -187,6 +193,11 @@ fn make_sure_until<S: Alter, K: WallClock, V: Server, L: Shelf>(
         conn.old) (state S.Store conn.new) }
     ensures keeps { HasCleanDisk (state S.Store conn.new) → IsBookKept result → (mark : Text)
         → KeepsATillsBook (IsTold (V.opens desk.now.server.now) V.Reader.remaining V.Writer.contents) mark (state
+        S.Store conn.old) (state S.Store conn.new) }
+    ensures crash { HasCleanDisk (state S.Store conn.new) → Leaves (Rests (state S.Store conn.old)) IsAny
+        (IsSettledAfter (IsTold (V.opens desk.now.server.now) V.Reader.remaining V.Writer.contents)) (state S.Store conn.new) }
+    ensures crash_keeps { HasCleanDisk (state S.Store conn.new) → (mark : Text)
+        → LeavesATillsBook (IsTold (V.opens desk.now.server.now) V.Reader.remaining V.Writer.contents) mark (state
         S.Store conn.old) (state S.Store conn.new) }
 {
     if desk.settings.staff.is_none() || desk.line.is_down() {
@@ -218,6 +229,11 @@ pub fn make_sure<S: Alter, K: WallClock, V: Server, L: Shelf>(
     ensures keeps { HasCleanDisk (state S.Store conn.new) → IsBookKept result → (mark : Text)
         → KeepsATillsBook (IsTold (V.opens desk.now.server.now) V.Reader.remaining V.Writer.contents) mark (state
         S.Store conn.old) (state S.Store conn.new) }
+    ensures crash { HasCleanDisk (state S.Store conn.new) → Leaves (Rests (state S.Store conn.old)) IsAny
+        (IsSettledAfter (IsTold (V.opens desk.now.server.now) V.Reader.remaining V.Writer.contents)) (state S.Store conn.new) }
+    ensures crash_keeps { HasCleanDisk (state S.Store conn.new) → (mark : Text)
+        → LeavesATillsBook (IsTold (V.opens desk.now.server.now) V.Reader.remaining V.Writer.contents) mark (state
+        S.Store conn.old) (state S.Store conn.new) }
 {
     make_sure_until(desk, conn, None, said)
 }
@@ -237,6 +253,11 @@ pub fn make_sure_soon<S: Alter, K: WallClock, V: Server, L: Shelf>(
         conn.old) (state S.Store conn.new) }
     ensures keeps { HasCleanDisk (state S.Store conn.new) → IsBookKept result → (mark : Text)
         → KeepsATillsBook (IsTold (V.opens desk.now.server.now) V.Reader.remaining V.Writer.contents) mark (state
+        S.Store conn.old) (state S.Store conn.new) }
+    ensures crash { HasCleanDisk (state S.Store conn.new) → Leaves (Rests (state S.Store conn.old)) IsAny
+        (IsSettledAfter (IsTold (V.opens desk.now.server.now) V.Reader.remaining V.Writer.contents)) (state S.Store conn.new) }
+    ensures crash_keeps { HasCleanDisk (state S.Store conn.new) → (mark : Text)
+        → LeavesATillsBook (IsTold (V.opens desk.now.server.now) V.Reader.remaining V.Writer.contents) mark (state
         S.Store conn.old) (state S.Store conn.new) }
 {
     match desk.clock.monotonic() {

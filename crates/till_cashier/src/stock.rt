@@ -1,11 +1,15 @@
 //! Where a copy is: with a customer, in the shop, or gone.
 
-ghost use Rattle.std.specs.Prelude.{◌≡◌, ◌==◌, false, IfOk, string_bytes};
+ghost use Rattle.std.specs.Prelude.{◌≡◌, ◌==◌, Some, false, map, IfOk, IfSome, OnOk, string_bytes};
 ghost use Rattle.std.specs.List.{list_any};
 ghost use Rattle.sqlite.specs.Held.{state};
 ghost use Rattle.sqlite.specs.State.{HasCleanDisk};
-ghost use Rattle.shop_types.specs.Seen.{seen_act};
+ghost use Rattle.shop_types.specs.Seen.{seen_act, seen_ask};
 ghost use Rattle.till_book.specs.Steps.{Stays};
+ghost use Rattle.till_cashier.specs.Asking.{IsAnswered, IsLookedUp};
+ghost use Rattle.serde_json.specs.View.{view};
+ghost use Rattle.till_cashier.specs.Looking.{Adds, AddsPlace, AddsWhere, IsHolderLine, IsInStock, IsListedStock, IsPlace};
+ghost use Rattle.till_cashier.specs.Stocked.{HasLeft, gone_if, has_number, listed_at, stocked_in};
 ghost use Rattle.till_cashier.specs.Whereabouts.{departure, place_text, sent_if, whereabouts_text};
 
 use crate::answers::{says_all, says_holder};
@@ -110,7 +114,9 @@ fn departed_by<K: WallClock, V: Server, L: Shelf>(
     entries: &EntriesAfter,
     at: usize,
     copy: CopyNo,
-) -> Result<Option<Whereabouts>, TillFault> {
+) -> Result<Option<Whereabouts>, TillFault>
+    ensures { IfOk result (λ it. IfSome it HasLeft) }
+{
     let is_accepted = match entries.reply_at(at) {
         Some(reply) => reply.status == 200,
         None => false,
@@ -128,7 +134,9 @@ fn departed<K: WallClock, V: Server, L: Shelf>(
     desk: &Desk<'_, K, V, L>,
     entries: &EntriesAfter,
     copy: CopyNo,
-) -> Result<Option<Whereabouts>, TillFault> {
+) -> Result<Option<Whereabouts>, TillFault>
+    ensures { IfOk result (λ it. IfSome it HasLeft) }
+{
     for at in 0..entries.len() {
         if let Some(it) = departed_by(desk, entries, at, copy)? {
             return Ok(Some(it));
@@ -137,15 +145,35 @@ fn departed<K: WallClock, V: Server, L: Shelf>(
     Ok(None)
 }
 
-/// Tests whether the list in the body of `GET /film-in-stock/{film}` has the copy. Returns none if the body has no list.
-fn is_listed(alloc: Global, body: &[u8], copy: CopyNo) -> Option<bool> {
-    let value = Value::from_slice(alloc, body).ok()?;
-    for it in value.get("copies")?.as_array()?.as_slice() {
-        if it.as_u64()? == u64::from(copy.get()) {
+/// Tests whether the numbers have the copy's. Returns none at a value that is no number.
+fn has_number(rows: &[Value], copy: CopyNo) -> Option<bool>
+    ensures { result ≡ has_number copy (map view rows.now) }
+{
+    for row in rows {
+        let number = row.as_u64()?;
+        if number == u64::from(copy.get()) {
             return Some(true);
         }
     }
     Some(false)
+}
+
+/// Tests whether the object's list of copies has the copy. Returns none if the object has no such list.
+fn lists_copy(value: &Value, copy: CopyNo) -> Option<bool>
+    ensures { IfSome result (λ is. listed_at copy (view value.now) ≡ Some is) }
+{
+    let list = value.get("copies")?.as_array()?;
+    has_number(list.as_slice(), copy)
+}
+
+/// Tests whether the list in the body of `GET /film-in-stock/{film}` has the copy. Returns none if the body has no list.
+fn is_listed(alloc: Global, body: &[u8], copy: CopyNo) -> Option<bool>
+    ensures { IfSome result (λ is. stocked_in copy body.now ≡ Some is) }
+{
+    match Value::from_slice(alloc, body) {
+        Ok(value) => lists_copy(&value, copy),
+        Err(_) => None,
+    }
 }
 
 /// Asks the server whether the film has the copy among those in the shop. Returns none if there is no answer.
@@ -153,7 +181,11 @@ fn is_in_shop<K: WallClock, V: Server, L: Shelf>(
     desk: &Desk<'_, K, V, L>,
     film: FilmNo,
     copy: CopyNo,
-) -> Option<bool> {
+) -> Option<bool>
+    ensures { IfSome result (IsListedStock (IsLookedUp
+        (IsAnswered (V.opens desk.now.server.now) V.Reader.remaining V.Writer.contents)
+        desk.now.settings.now.token) film copy) }
+{
     let answer = looked(desk, &Ask::FilmInStock(film)).ok()?;
     if answer.status != 200 {
         return None;
@@ -165,8 +197,24 @@ fn is_in_shop<K: WallClock, V: Server, L: Shelf>(
 fn in_shop<K: WallClock, V: Server, L: Shelf>(
     desk: &Desk<'_, K, V, L>,
     copy: CopyNo,
-) -> Option<bool> {
-    is_in_shop(desk, row_of(desk, copy)?.film?, copy)
+) -> Option<bool>
+    ensures { IfSome result (IsInStock (IsLookedUp
+        (IsAnswered (V.opens desk.now.server.now) V.Reader.remaining V.Writer.contents)
+        desk.now.settings.now.token) desk.now.sheet.now copy) }
+{
+    let row = row_of(desk, copy)?;
+    let film = row.film?;
+    is_in_shop(desk, film, copy)
+}
+
+/// Returns that the copy is gone, if the server lists its film's copies in stock without it.
+fn gone_if(is_here: Option<bool>) -> Option<Whereabouts>
+    ensures { result ≡ gone_if is_here }
+{
+    match is_here {
+        Some(false) => Some(Whereabouts::Gone),
+        Some(true) | None => None,
+    }
 }
 
 /// Returns where the book's last entries brought the copy, if one of them did. The book stays.
@@ -180,6 +228,7 @@ fn departed_in_book<S: Alter, K: WallClock, V: Server, L: Shelf>(
     ensures ended { conn.new.in_transaction ≡ false }
     ensures clean { HasCleanDisk (state S.Store conn.new) → HasCleanDisk (state S.Store conn.old) }
     ensures stays { HasCleanDisk (state S.Store conn.new) → Stays (state S.Store conn.old) (state S.Store conn.new) }
+    ensures left { IfOk result (λ it. IfSome it HasLeft) }
 {
     let first = book.place.entries.saturating_sub(SEARCHED);
     let entries = EntriesAfter::read(desk.alloc, conn, first)?;
@@ -197,15 +246,17 @@ fn find_whereabouts<S: Alter, K: WallClock, V: Server, L: Shelf>(
     ensures ended { conn.new.in_transaction ≡ false }
     ensures clean { HasCleanDisk (state S.Store conn.new) → HasCleanDisk (state S.Store conn.old) }
     ensures stays { HasCleanDisk (state S.Store conn.new) → Stays (state S.Store conn.old) (state S.Store conn.new) }
+    ensures known { IfOk result (λ it. IfSome it (IsPlace (IsLookedUp
+        (IsAnswered (V.opens desk.now.server.now) V.Reader.remaining V.Writer.contents)
+        desk.now.settings.now.token) desk.now.sheet.now copy)) }
 {
     let is_here = in_shop(desk, copy);
-    if is_here == Some(true) {
+    if let Some(true) = is_here {
         return Ok(Some(Whereabouts::Here));
     }
     match departed_in_book(desk, conn, book, copy)? {
         Some(it) => Ok(Some(it)),
-        None if is_here == Some(false) => Ok(Some(Whereabouts::Gone)),
-        None => Ok(None),
+        None => Ok(gone_if(is_here)),
     }
 }
 
@@ -215,7 +266,11 @@ fn says_who<K: WallClock, V: Server, L: Shelf>(
     copy: CopyNo,
     who: CustomerNo,
     said: &mut Said,
-) -> Result<(), TillFault> {
+) -> Result<(), TillFault>
+    ensures said { OnOk result (Adds (IsHolderLine copy who) (string_bytes said.old.text)
+        (string_bytes said.new.text)) }
+    ensures status { said.new.status ≡ said.old.status }
+{
     let name = name_of(desk, who)?;
     says_holder(desk.alloc, copy, Some(who), &name, said)
 }
@@ -227,7 +282,16 @@ fn says_whereabouts<K: WallClock, V: Server, L: Shelf>(
     copy: CopyNo,
     it: Option<Whereabouts>,
     said: &mut Said,
-) -> Result<(), TillFault> {
+) -> Result<(), TillFault>
+    ensures { desk.now.is_json ≡ false → IfSome it (IsPlace (IsLookedUp
+        (IsAnswered (V.opens desk.now.server.now) V.Reader.remaining V.Writer.contents)
+        desk.now.settings.now.token) desk.now.sheet.now copy)
+        → OnOk result (AddsPlace (IsLookedUp
+        (IsAnswered (V.opens desk.now.server.now) V.Reader.remaining V.Writer.contents)
+        desk.now.settings.now.token) desk.now.sheet.now (seen_ask ask.now) copy
+        (string_bytes said.old.text)
+        said.old.status (string_bytes said.new.text) said.new.status) }
+{
     match it {
         Some(it) => {
             let line = whereabouts_line(desk.alloc, copy, it)?;
@@ -253,6 +317,11 @@ pub(crate) fn where_is<S: Alter, K: WallClock, V: Server, L: Shelf>(
     ensures ended { conn.new.in_transaction ≡ false }
     ensures clean { HasCleanDisk (state S.Store conn.new) → HasCleanDisk (state S.Store conn.old) }
     ensures stays { HasCleanDisk (state S.Store conn.new) → Stays (state S.Store conn.old) (state S.Store conn.new) }
+    ensures says { OnOk result (AddsWhere (IsLookedUp
+        (IsAnswered (V.opens desk.now.server.now) V.Reader.remaining V.Writer.contents)
+        desk.now.settings.now.token) desk.now.is_json desk.now.sheet.now (seen_ask ask.now) copy
+        (string_bytes said.old.text)
+        said.old.status (string_bytes said.new.text) said.new.status) }
 {
     if desk.is_json {
         return line_look(desk, ask, said);

@@ -8,7 +8,9 @@ ghost use Rattle.shop_types.specs.Seen.{seen_act};
 ghost use Rattle.till_book.specs.Steps.{Stays};
 ghost use Rattle.till_client.specs.Replies.{seen_answer};
 ghost use Rattle.till_work.specs.Told.{IsTold};
-ghost use Rattle.till_work.specs.Desk.{GoesOn, Grows};
+ghost use Rattle.till_work.specs.Entering.{IsTillsBook};
+ghost use Rattle.till_work.specs.Desk.{GoesOn, Grows, HasPlace};
+ghost use Rattle.till_work.specs.Stops.{Leaves};
 ghost use Rattle.till_requests.specs.Zones.{offset_of};
 ghost use Rattle.till_cashier.specs.Asking.{IsAnswered, IsOwing};
 ghost use Rattle.till_cashier.specs.Clock.{local_clock};
@@ -28,6 +30,7 @@ ghost use Rattle.till_cashier.specs.Doing.{IsPlanOf, IsCarriedOut, DoesWord, Rep
 ghost use Rattle.till_cashier.specs.Saying.{IsTitleIn};
 ghost use Rattle.till_cashier.specs.Following.{AddsBalance, AddsDebt, AddsRest, AddsUnwritten, AddsWaited, SaysAct, debtor_of};
 ghost use Rattle.till_cashier.specs.Printing.{GivesSaying, SaysPlan, SaysWord};
+ghost use Rattle.till_cashier.specs.Stops.{IsTriedAfter, LeavesPlan, LeavesWord, LeavesATillsBook, LeavesABook};
 ghost use Rattle.till_cashier.specs.Sure as sure;
 ghost use Rattle.till_cashier.specs.Today as dates;
 
@@ -485,6 +488,10 @@ fn give_and_tell<S: Alter, K: WallClock, V: Server, L: Shelf, W: Watch>(
         (giver_of desk.now.settings.now.staff desk.now.staff) desk.now.is_json desk.now.sheet.now
         (seen_act act.now) customer book.old.place (state S.Store conn.old) book.new.place (state S.Store conn.new)
         (string_bytes said.text) said.status) }
+    ensures crash { HasCleanDisk (state S.Store conn.new) → Leaves (HasPlace book.old.place (state S.Store conn.old))
+        (IsTillsBook desk.now.settings.now.mark) (IsTriedAfter (IsTold (V.opens desk.now.server.now) V.Reader.remaining V.Writer.contents)
+        (local_clock (K.shows desk.now.clock.now) desk.now.settings.now.zone) desk.now.settings.now.token
+        (giver_of desk.now.settings.now.staff desk.now.staff) (seen_act act.now)) (state S.Store conn.new) }
 {
     let before = book.place;
     let it = match give(desk, conn, book, act, watch) {
@@ -544,9 +551,14 @@ fn carry_out<S: Alter, K: WallClock, V: Server, L: Shelf, W: Watch>(
         (IsTold (V.opens desk.now.server.now) V.Reader.remaining V.Writer.contents)
         (IsAnswered (V.opens desk.now.server.now) V.Reader.remaining V.Writer.contents)
         (local_clock (K.shows desk.now.clock.now) desk.now.settings.now.zone) desk.now.settings.now.mark desk.now.settings.now.token
-        (giver_of desk.now.settings.now.staff desk.now.staff) desk.now.is_json desk.now.sheet.now
+        (giver_of desk.now.settings.now.staff desk.now.staff) desk.now.is_json desk.now.sheet.now book.old.last
         plan book.old.place (state S.Store conn.old) book.new.place (state S.Store conn.new)
         (string_bytes said.text) said.status) }
+    ensures crash { HasCleanDisk (state S.Store conn.new)
+        → LeavesPlan (IsTold (V.opens desk.now.server.now) V.Reader.remaining V.Writer.contents)
+        (local_clock (K.shows desk.now.clock.now) desk.now.settings.now.zone) desk.now.settings.now.mark desk.now.settings.now.token
+        (giver_of desk.now.settings.now.staff desk.now.staff) plan (HasPlace book.old.place (state S.Store conn.old))
+        (state S.Store conn.new) }
 {
     match plan {
         Plan::Give(act, customer) => give_and_tell(desk, conn, book, &act, customer, watch),
@@ -567,11 +579,12 @@ fn carry_out<S: Alter, K: WallClock, V: Server, L: Shelf, W: Watch>(
 /// Does a word at an open book, and says what it resulted in. An act that was typed is given once. A copy that comes
 /// back is the return of the register's rental, or of the sheet's if the register has none. After `send` each entry has
 /// its reply. A look leaves the book as it is. Whatever its outcome, a word enters nothing but tries of what was typed,
-/// unless the book failed.
+/// unless the book failed. A word of head office is entered only once each earlier entry has its reply, and under the
+/// key that refused entries left.
 ///
 /// What is said of an act is of the very answer that it got. With `--json` that is the body as it is. Else it is what a
 /// refusal means, or the reply's line with its end, and after a return what the rental's customer owes. The status is 0
-/// if that answer's is 200, and else 1. What is said of a reading of head office is of some answer to it.
+/// if that answer's is 200, and else 1. What is said of a look, or of a reading of head office, is of some answer to it.
 ///
 /// A branch's book stays one unless it failed, and what is in it stays, in head office's book too. A branch's command
 /// or look at head office's book is refused, whoever gives it: `IsOffice`. Head office's words at a branch's book are
@@ -641,6 +654,17 @@ pub fn do_word<S: Alter, K: WallClock, V: Server, L: Shelf, W: Watch>(
         (local_clock (K.shows desk.now.clock.now) desk.now.settings.now.zone) desk.now.settings.now.mark desk.now.settings.now.token
         (giver_of desk.now.settings.now.staff desk.now.staff) desk.now.is_json desk.now.sheet.now
         act (state S.Store conn.old) (state S.Store conn.new) (string_bytes said.text) said.status) }
+    ensures crash { HasCleanDisk (state S.Store conn.new) → IsSome desk.now.settings.now.staff
+        → LeavesATillsBook (IsTold (V.opens desk.now.server.now) V.Reader.remaining V.Writer.contents)
+        desk.now.settings.now.mark (state S.Store conn.old) (state S.Store conn.new) }
+    ensures crash_office { HasCleanDisk (state S.Store conn.new) → desk.now.settings.now.staff ≡ None
+        → LeavesABook (IsTold (V.opens desk.now.server.now) V.Reader.remaining V.Writer.contents) (state S.Store
+        conn.old) (state S.Store conn.new) }
+    ensures crash_enters { HasCleanDisk (state S.Store conn.new)
+        → LeavesWord (IsTold (V.opens desk.now.server.now) V.Reader.remaining V.Writer.contents)
+        (local_clock (K.shows desk.now.clock.now) desk.now.settings.now.zone) desk.now.settings.now.mark desk.now.settings.now.token
+        (giver_of desk.now.settings.now.staff desk.now.staff) desk.now.sheet.now act (state S.Store conn.old)
+        (state S.Store conn.new) }
 {
     let wants = wants_yes(&act);
     let enters = enters_acts(&act);

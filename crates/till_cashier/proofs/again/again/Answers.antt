@@ -8,6 +8,7 @@ use Rattle.till_work.proofs.GoingOn.{goes_then}
 use Rattle.till_cashier.specs.Clock.{local_clock}
 use Rattle.till_cashier.proofs.GoingOn.{kept_ok, kept_as, kept_goes, goes_stays}
 use Rattle.till_cashier.proofs.Repeating.{if_ok_then, each_in_book, book_later, book_before}
+use Rattle.till_cashier.proofs.Stops.{goes_leaves, goes_then_leaves}
 use Rattle.till_cashier.proofs.again.again.Goals as goal
 
 pub returns-in-Err-clause-keeps : goal.returns-in-Err-clause-keeps
@@ -67,3 +68,53 @@ returns-clause-given g c clean =
           (c.read.ensures.stays read) (c.in-Ok.ensures.given given none))
           (c.entered.ensures.stays clean),
     ))
+
+pub returns-in_err-entries-clause-crash : goal.returns-in_err-entries-clause-crash
+returns-in_err-entries-clause-crash g c clean =
+    goes_leaves _ c.args.desk.now.settings.now.mark c.args.book.now.place c.args.book.now.place
+    (state g.S.Store c.args.conn.now) (state g.S.Store c.read.new.conn)
+    (kept_goes _ c.args.desk.now.settings.now.mark c.args.book.now.place (state g.S.Store c.args.conn.now) (state g.S.Store c.read.new.conn)
+    (c.read.ensures.stays clean))
+
+pub returns-in_err-repeats-clause-crash : goal.returns-in_err-repeats-clause-crash
+returns-in_err-repeats-clause-crash g c clean =
+    goes_leaves _ c.args.desk.now.settings.now.mark c.args.book.now.place c.args.book.now.place
+    (state g.S.Store c.args.conn.now) (state g.S.Store c.read.new.conn)
+    (kept_goes _ c.args.desk.now.settings.now.mark c.args.book.now.place (state g.S.Store c.args.conn.now) (state g.S.Store c.read.new.conn)
+    (c.read.ensures.stays clean))
+
+pub returns-in-Err-clause-crash : goal.returns-in-Err-clause-crash
+returns-in-Err-clause-crash g c clean =
+    goes_then_leaves _ c.args.desk.now.settings.now.mark c.args.book.now.place c.args.book.now.place
+    (state g.S.Store c.args.conn.now) (state g.S.Store c.read.new.conn) (state g.S.Store c.give_each.new.conn)
+    (kept_goes _ c.args.desk.now.settings.now.mark c.args.book.now.place (state g.S.Store c.args.conn.now) (state g.S.Store c.read.new.conn)
+    (c.read.ensures.stays (c.give_each.ensures.clean clean)))
+    (c.give_each.ensures.crash clean)
+
+pub returns-in_err-table-clause-crash : goal.returns-in_err-table-clause-crash
+returns-in_err-table-clause-crash g c clean =
+    let given = c.entered.ensures.clean clean in
+    goes_leaves _ c.args.desk.now.settings.now.mark c.args.book.now.place c.give_each.new.book.place
+    (state g.S.Store c.args.conn.now) (state g.S.Store c.entered.new.conn)
+    (goes_stays _ c.args.desk.now.settings.now.mark c.args.book.now.place c.give_each.new.book.place
+    (state g.S.Store c.args.conn.now) (state g.S.Store c.give_each.new.conn) (state g.S.Store c.entered.new.conn)
+    (goes_then _ c.args.desk.now.settings.now.mark c.args.book.now.place c.args.book.now.place c.give_each.new.book.place
+    (state g.S.Store c.args.conn.now) (state g.S.Store c.read.new.conn) (state g.S.Store c.give_each.new.conn)
+    (kept_goes _ c.args.desk.now.settings.now.mark c.args.book.now.place (state g.S.Store c.args.conn.now) (state g.S.Store c.read.new.conn)
+    (c.read.ensures.stays (c.give_each.ensures.clean given)))
+    (c.in-Ok.ensures.keeps given (kept_ok _)))
+    (c.entered.ensures.stays clean))
+
+pub returns-clause-crash : goal.returns-clause-crash
+returns-clause-crash g c clean =
+    let given = c.entered.ensures.clean clean in
+    goes_leaves _ c.args.desk.now.settings.now.mark c.args.book.now.place c.give_each.new.book.place
+    (state g.S.Store c.args.conn.now) (state g.S.Store c.entered.new.conn)
+    (goes_stays _ c.args.desk.now.settings.now.mark c.args.book.now.place c.give_each.new.book.place
+    (state g.S.Store c.args.conn.now) (state g.S.Store c.give_each.new.conn) (state g.S.Store c.entered.new.conn)
+    (goes_then _ c.args.desk.now.settings.now.mark c.args.book.now.place c.args.book.now.place c.give_each.new.book.place
+    (state g.S.Store c.args.conn.now) (state g.S.Store c.read.new.conn) (state g.S.Store c.give_each.new.conn)
+    (kept_goes _ c.args.desk.now.settings.now.mark c.args.book.now.place (state g.S.Store c.args.conn.now) (state g.S.Store c.read.new.conn)
+    (c.read.ensures.stays (c.give_each.ensures.clean given)))
+    (c.in-Ok.ensures.keeps given (kept_ok _)))
+    (c.entered.ensures.stays clean))

@@ -5,6 +5,7 @@ use Rattle.till_cashier.specs.declared.refused.Repeat.{Repeat}
 use Rattle.till_work.proofs.GoingOn.{goes_then}
 use Rattle.till_cashier.proofs.GoingOn.{kept_ok}
 use Rattle.till_cashier.proofs.Repeating.{book_next, stopped_kept, stopped_then}
+use Rattle.till_cashier.proofs.Stops.{goes_leaves, goes_then_leaves}
 use Rattle.till_cashier.proofs.again.give_each.Goals as goal
 
 pub givings-preserved : goal.givings-preserved
@@ -32,3 +33,14 @@ returns-in-Err-clause-keeps g c clean kept =
     (state g.S.Store c.args.conn.now) (state g.S.Store c.givings.conn)
     (state g.S.Store c.give_again.new.conn) (c.givings.invariant.2 (c.give_again.ensures.clean clean))
     (c.in-Err.ensures.keeps clean (stopped_kept c.stopped_by.result c.in-Err.fault c.stopped_by.ensures.book kept))
+
+pub returns-in-Err-clause-crash : goal.returns-in-Err-clause-crash
+returns-in-Err-clause-crash g c clean =
+    goes_then_leaves _ c.args.desk.now.settings.now.mark c.args.book.now.place c.givings.book.place
+    (state g.S.Store c.args.conn.now) (state g.S.Store c.givings.conn) (state g.S.Store c.give_again.new.conn)
+    (c.givings.invariant.2 (c.give_again.ensures.clean clean)) (c.give_again.ensures.crash clean)
+
+pub returns-clause-crash : goal.returns-clause-crash
+returns-clause-crash g c clean =
+    goes_leaves _ c.args.desk.now.settings.now.mark c.args.book.now.place c.givings.book.place
+    (state g.S.Store c.args.conn.now) (state g.S.Store c.givings.conn) (c.givings.invariant.2 clean)

@@ -8,6 +8,7 @@ use Rattle.till_cashier.specs.Clock.{local_clock}
 use Rattle.till_cashier.specs.Faults.{giver_of}
 use Rattle.till_cashier.proofs.Giving.{gives_so_far, gave}
 use Rattle.till_cashier.proofs.Adding.{adds_nothing, adds_then}
+use Rattle.till_cashier.proofs.Stops.{so_far_leaves, all_tries_leave}
 use Rattle.till_cashier.proofs.commands.give.Goals as goal
 
 pub returns-in-Err-clause-keeps : goal.returns-in-Err-clause-keeps
@@ -90,3 +91,26 @@ returns-then-not-is_back-clause-adds g c clean kept =
 
 pub returns-clause-adds : goal.returns-clause-adds
 returns-clause-adds g c clean kept = c.tries.invariant.4 clean
+
+pub returns-in-Err-clause-crash : goal.returns-in-Err-clause-crash
+returns-in-Err-clause-crash g c clean =
+    so_far_leaves _ (local_clock (g.K.WallClock.shows c.args.desk.now.clock.now) c.args.desk.now.settings.now.zone) c.args.desk.now.settings.now.token
+    (giver_of c.args.desk.now.settings.now.staff c.args.desk.now.staff) (seen_act c.args.act.now) c.args.desk.now.settings.now.mark
+    (λ (it : Told). seen_answer it.answer) c.tries.told c.args.book.now.place c.tries.book.place
+    (state g.S.Store c.args.conn.now) (state g.S.Store c.tries.conn) (state g.S.Store c.give_once.new.conn)
+    (c.tries.invariant.3 (c.give_once.ensures.clean clean)) (c.give_once.ensures.crash clean)
+
+pub returns-then-not-is_back-clause-crash : goal.returns-then-not-is_back-clause-crash
+returns-then-not-is_back-clause-crash g c clean =
+    so_far_leaves _ (local_clock (g.K.WallClock.shows c.args.desk.now.clock.now) c.args.desk.now.settings.now.zone) c.args.desk.now.settings.now.token
+    (giver_of c.args.desk.now.settings.now.staff c.args.desk.now.staff) (seen_act c.args.act.now) c.args.desk.now.settings.now.mark
+    (λ (it : Told). seen_answer it.answer) c.tries.told c.args.book.now.place c.tries.book.place
+    (state g.S.Store c.args.conn.now) (state g.S.Store c.tries.conn) (state g.S.Store c.give_once.new.conn)
+    (c.tries.invariant.3 (c.give_once.ensures.clean clean)) (c.give_once.ensures.crash clean)
+
+pub returns-clause-crash : goal.returns-clause-crash
+returns-clause-crash g c clean =
+    all_tries_leave _ (local_clock (g.K.WallClock.shows c.args.desk.now.clock.now) c.args.desk.now.settings.now.zone) c.args.desk.now.settings.now.token
+    (giver_of c.args.desk.now.settings.now.staff c.args.desk.now.staff) (seen_act c.args.act.now) c.args.desk.now.settings.now.mark
+    (λ (it : Told). seen_answer it.answer) c.tries.told c.args.book.now.place c.tries.book.place
+    (state g.S.Store c.args.conn.now) (state g.S.Store c.tries.conn) (c.tries.invariant.3 clean)

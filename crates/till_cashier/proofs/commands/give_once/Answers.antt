@@ -6,6 +6,7 @@ use Rattle.till_cashier.specs.Clock.{local_clock}
 use Rattle.till_cashier.specs.Faults.{giver_of}
 use Rattle.till_cashier.proofs.Giving.{try_goes, tries_one}
 use Rattle.till_cashier.proofs.Adding.{adds_nothing, adds_try, try_sent}
+use Rattle.till_cashier.proofs.Stops.{try_then_leaves}
 use Rattle.till_cashier.proofs.commands.give_once.Goals as goal
 
 pub returns-in-Err-clause-keeps : goal.returns-in-Err-clause-keeps
@@ -97,3 +98,24 @@ returns-in-Err-send_all-clause-adds g c clean kept =
     c.args.book.now.place c.enter_act.new.book.place c.send_all.new.place (state g.S.Store c.args.conn.now)
     (state g.S.Store c.enter_act.new.conn) (state g.S.Store c.send_all.new.conn)
     (c.in-Ok.ensures.entered (c.send_all.ensures.clean clean)) (c.in-Err-send_all.ensures.sends clean (kept_as c.in-Err-send_all.fault kept))
+
+pub returns-in-Ok-Some-clause-crash : goal.returns-in-Ok-Some-clause-crash
+returns-in-Ok-Some-clause-crash g c clean =
+    try_then_leaves _ (local_clock (g.K.WallClock.shows c.args.desk.now.clock.now) c.args.desk.now.settings.now.zone) c.args.desk.now.settings.now.token
+    (giver_of c.args.desk.now.settings.now.staff c.args.desk.now.staff) (seen_act c.args.act.now) c.args.desk.now.settings.now.mark
+    c.args.book.now.place c.enter_act.new.book.place (state g.S.Store c.args.conn.now) (state g.S.Store c.enter_act.new.conn)
+    (state g.S.Store c.send_all.new.conn) (c.in-Ok.ensures.entered (c.send_all.ensures.clean clean)) (c.send_all.ensures.crash clean)
+
+pub returns-in-Ok-None-clause-crash : goal.returns-in-Ok-None-clause-crash
+returns-in-Ok-None-clause-crash g c clean =
+    try_then_leaves _ (local_clock (g.K.WallClock.shows c.args.desk.now.clock.now) c.args.desk.now.settings.now.zone) c.args.desk.now.settings.now.token
+    (giver_of c.args.desk.now.settings.now.staff c.args.desk.now.staff) (seen_act c.args.act.now) c.args.desk.now.settings.now.mark
+    c.args.book.now.place c.enter_act.new.book.place (state g.S.Store c.args.conn.now) (state g.S.Store c.enter_act.new.conn)
+    (state g.S.Store c.send_all.new.conn) (c.in-Ok.ensures.entered (c.send_all.ensures.clean clean)) (c.send_all.ensures.crash clean)
+
+pub returns-in-Err-send_all-clause-crash : goal.returns-in-Err-send_all-clause-crash
+returns-in-Err-send_all-clause-crash g c clean =
+    try_then_leaves _ (local_clock (g.K.WallClock.shows c.args.desk.now.clock.now) c.args.desk.now.settings.now.zone) c.args.desk.now.settings.now.token
+    (giver_of c.args.desk.now.settings.now.staff c.args.desk.now.staff) (seen_act c.args.act.now) c.args.desk.now.settings.now.mark
+    c.args.book.now.place c.enter_act.new.book.place (state g.S.Store c.args.conn.now) (state g.S.Store c.enter_act.new.conn)
+    (state g.S.Store c.send_all.new.conn) (c.in-Ok.ensures.entered (c.send_all.ensures.clean clean)) (c.send_all.ensures.crash clean)

@@ -1,8 +1,9 @@
 use Rattle.sqlite.specs.Held.{state}
-use Rattle.till_work.proofs.GoingOn.{sends_goes, sends_grows}
+use Rattle.till_work.proofs.GoingOn.{sends_goes, sends_grows, sends_stays, rests_stays}
 use Rattle.till_cashier.proofs.GoingOn.{kept_ok, kept_as, goes_stays, grows_stays}
 use Rattle.till_cashier.proofs.Doing.{sends_all, all_stays}
 use Rattle.till_cashier.proofs.Adding.{sends_no_entry, no_entry_stays}
+use Rattle.till_work.proofs.Stops.{sends_leaves}
 use Rattle.till_cashier.proofs.sendings.send.Goals as goal
 
 pub returns-in-Err-clause-keeps : goal.returns-in-Err-clause-keeps
@@ -47,3 +48,11 @@ returns-clause-adds g c clean kept mark =
     (state g.S.Store c.send_all.new.conn) (state g.S.Store c.entries_after.new.conn)
     (sends_no_entry _ mark c.args.place.now c.send_all.new.place (state g.S.Store c.args.conn.now) (state g.S.Store c.send_all.new.conn)
     (c.in-Ok.ensures.sends (c.entries_after.ensures.clean clean) (kept_ok _))) (c.entries_after.ensures.stays clean)
+
+pub returns-clause-crash : goal.returns-clause-crash
+returns-clause-crash g c clean =
+    sends_leaves _ c.args.place.now c.send_all.new.place (state g.S.Store c.args.conn.now) (state g.S.Store c.entries_after.new.conn)
+    (sends_stays _ c.args.place.now c.send_all.new.place c.send_all.new.place (state g.S.Store c.args.conn.now)
+    (state g.S.Store c.send_all.new.conn) (state g.S.Store c.entries_after.new.conn)
+    (c.in-Ok.ensures.sends (c.entries_after.ensures.clean clean) (kept_ok _))
+    (rests_stays c.send_all.new.place (state g.S.Store c.send_all.new.conn) (state g.S.Store c.entries_after.new.conn) (c.entries_after.ensures.stays clean)))

@@ -1,5 +1,6 @@
 use Rattle.sqlite.specs.Held.{state}
 use Rattle.till_cashier.proofs.GoingOn.{kept_ok, kept_as, same_then}
+use Rattle.till_cashier.proofs.Stops.{nothing_leaves, nothing_then_leaves}
 use Rattle.till_cashier.proofs.settling.settle_refused.Goals as goal
 
 pub returns-in-Ok-false-clause-same : goal.returns-in-Ok-false-clause-same
@@ -23,3 +24,17 @@ entries-preserved g c = (
 
 pub returns-clause-same : goal.returns-clause-same
 returns-clause-same g c clean kept = c.entries.invariant.2 clean
+
+pub returns-in-Ok-false-clause-crash : goal.returns-in-Ok-false-clause-crash
+returns-in-Ok-false-clause-crash g c clean =
+    nothing_then_leaves _ (state g.S.Store c.args.conn.now) (state g.S.Store c.entries.conn) (state g.S.Store c.settle_one.new.conn)
+    (c.entries.invariant.2 (c.settle_one.ensures.clean clean)) (c.settle_one.ensures.crash clean)
+
+pub returns-in-Err-clause-crash : goal.returns-in-Err-clause-crash
+returns-in-Err-clause-crash g c clean =
+    nothing_then_leaves _ (state g.S.Store c.args.conn.now) (state g.S.Store c.entries.conn) (state g.S.Store c.settle_one.new.conn)
+    (c.entries.invariant.2 (c.settle_one.ensures.clean clean)) (c.settle_one.ensures.crash clean)
+
+pub returns-clause-crash : goal.returns-clause-crash
+returns-clause-crash g c clean =
+    nothing_leaves _ (state g.S.Store c.args.conn.now) (state g.S.Store c.entries.conn) (c.entries.invariant.2 clean)

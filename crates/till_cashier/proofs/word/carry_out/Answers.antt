@@ -4,12 +4,15 @@ use Rattle.till_cashier.specs.Clock.{local_clock}
 use Rattle.till_cashier.specs.Faults.{giver_of}
 use Rattle.till_cashier.specs.declared.word.Plan.TheVariants as plan
 use Rattle.till_cashier.specs.Asking.{IsAnswered}
-use Rattle.std.proofs.Common.{sym}
+use Rattle.std.proofs.Common.{List, sym, subst}
+use Rattle.shop_model.specs.Values.{Text}
+use Rattle.till_cashier.specs.Office.{AddsInTurn}
 use Rattle.till_cashier.proofs.Doing.{on_ok, carried_out}
 use Rattle.till_cashier.proofs.Adding.{enters_as}
 use Rattle.till_cashier.proofs.GoingOn.{kept_goes, kept_grows}
 use Rattle.till_cashier.proofs.Repeating.{repeats_as}
 use Rattle.till_cashier.proofs.Printing.{says_as}
+use Rattle.till_cashier.proofs.Stops.{leaves_by, look_after}
 use Rattle.till_cashier.proofs.word.carry_out.Goals as goal
 
 pub returns-in-Give-clause-keeps : goal.returns-in-Give-clause-keeps
@@ -101,6 +104,15 @@ returns-in-Give-clause-enters g c clean kept =
     c.args.desk.now.settings.now.mark c.args.desk.now.settings.now.token (giver_of c.args.desk.now.settings.now.staff c.args.desk.now.staff)
     (plan.Give c.in-Give.act c.in-Give.customer) c.args.plan _ _ _ _ (sym c.in-Give.is) (c.give_and_tell.ensures.adds clean kept)
 
+pub returns-in-Office-clause-enters : goal.returns-in-Office-clause-enters
+returns-in-Office-clause-enters g c clean kept =
+    enters_as (local_clock (g.K.WallClock.shows c.args.desk.now.clock.now) c.args.desk.now.settings.now.zone)
+    c.args.desk.now.settings.now.mark c.args.desk.now.settings.now.token (giver_of c.args.desk.now.settings.now.staff c.args.desk.now.staff)
+    (plan.Office c.in-Office.words) c.args.plan _ _ _ _ (sym c.in-Office.is)
+    (subst (λ (it : List Text). AddsInTurn c.args.desk.now.settings.now.mark c.args.desk.now.settings.now.token it c.args.book.now.place
+    (state g.S.Store c.args.conn.now) c.give_office.new.book.place (state g.S.Store c.give_office.new.conn)) c.as_slice.ensures
+    (c.give_office.ensures.adds clean kept))
+
 pub returns-in-Send-clause-enters : goal.returns-in-Send-clause-enters
 returns-in-Send-clause-enters g c clean kept =
     enters_as (local_clock (g.K.WallClock.shows c.args.desk.now.clock.now) c.args.desk.now.settings.now.zone)
@@ -148,7 +160,17 @@ returns-in-Give-clause-says g c clean =
     (local_clock (g.K.WallClock.shows c.args.desk.now.clock.now) c.args.desk.now.settings.now.zone)
     c.args.desk.now.settings.now.mark c.args.desk.now.settings.now.token
     (giver_of c.args.desk.now.settings.now.staff c.args.desk.now.staff) c.args.desk.now.is_json c.args.desk.now.sheet.now
-    c.give_and_tell.result c.args.plan (plan.Give c.in-Give.act c.in-Give.customer) _ _ _ _ c.in-Give.is (c.give_and_tell.ensures.says clean)
+    c.args.book.now.last c.give_and_tell.result c.args.plan (plan.Give c.in-Give.act c.in-Give.customer) _ _ _ _ c.in-Give.is
+    (c.give_and_tell.ensures.says clean)
+
+pub returns-in-Look-clause-says : goal.returns-in-Look-clause-says
+returns-in-Look-clause-says g c clean =
+    says_as (IsTold (g.V.Server.opens c.args.desk.now.server.now) g.V.Reader.Read.remaining g.V.Writer.Write.contents)
+    (IsAnswered (g.V.Server.opens c.args.desk.now.server.now) g.V.Reader.Read.remaining g.V.Writer.Write.contents)
+    (local_clock (g.K.WallClock.shows c.args.desk.now.clock.now) c.args.desk.now.settings.now.zone)
+    c.args.desk.now.settings.now.mark c.args.desk.now.settings.now.token
+    (giver_of c.args.desk.now.settings.now.staff c.args.desk.now.staff) c.args.desk.now.is_json c.args.desk.now.sheet.now
+    c.args.book.now.last c.look.result c.args.plan (plan.Look c.in-Look.it) _ _ _ _ c.in-Look.is c.look.ensures.says
 
 pub returns-in-ReadOffice-clause-says : goal.returns-in-ReadOffice-clause-says
 returns-in-ReadOffice-clause-says g c clean =
@@ -157,7 +179,7 @@ returns-in-ReadOffice-clause-says g c clean =
     (local_clock (g.K.WallClock.shows c.args.desk.now.clock.now) c.args.desk.now.settings.now.zone)
     c.args.desk.now.settings.now.mark c.args.desk.now.settings.now.token
     (giver_of c.args.desk.now.settings.now.staff c.args.desk.now.staff) c.args.desk.now.is_json c.args.desk.now.sheet.now
-    c.read_office.result c.args.plan (plan.ReadOffice c.in-ReadOffice.words) _ _ _ _ c.in-ReadOffice.is
+    c.args.book.now.last c.read_office.result c.args.plan (plan.ReadOffice c.in-ReadOffice.words) _ _ _ _ c.in-ReadOffice.is
     (rw c.as_slice-in-ReadOffice.ensures at c.read_office.ensures)
 
 pub returns-in-Usage-clause-says : goal.returns-in-Usage-clause-says
@@ -167,4 +189,102 @@ returns-in-Usage-clause-says g c clean =
     (local_clock (g.K.WallClock.shows c.args.desk.now.clock.now) c.args.desk.now.settings.now.zone)
     c.args.desk.now.settings.now.mark c.args.desk.now.settings.now.token
     (giver_of c.args.desk.now.settings.now.staff c.args.desk.now.staff) c.args.desk.now.is_json c.args.desk.now.sheet.now
-    c.usage.result c.args.plan plan.Usage _ _ _ _ c.in-Usage.is c.usage.ensures
+    c.args.book.now.last c.usage.result c.args.plan plan.Usage _ _ _ _ c.in-Usage.is c.usage.ensures
+
+-- ---- a stop
+
+pub returns-in-Give-clause-crash : goal.returns-in-Give-clause-crash
+returns-in-Give-clause-crash g c clean =
+    leaves_by (IsTold (g.V.Server.opens c.args.desk.now.server.now) g.V.Reader.Read.remaining g.V.Writer.Write.contents)
+    (local_clock (g.K.WallClock.shows c.args.desk.now.clock.now) c.args.desk.now.settings.now.zone)
+    c.args.desk.now.settings.now.mark c.args.desk.now.settings.now.token (giver_of c.args.desk.now.settings.now.staff c.args.desk.now.staff)
+    (plan.Give c.in-Give.act c.in-Give.customer) c.args.plan _ _ (sym c.in-Give.is)
+    (c.give_and_tell.ensures.crash clean)
+
+pub returns-in-Office-clause-crash : goal.returns-in-Office-clause-crash
+returns-in-Office-clause-crash g c clean =
+    leaves_by (IsTold (g.V.Server.opens c.args.desk.now.server.now) g.V.Reader.Read.remaining g.V.Writer.Write.contents)
+    (local_clock (g.K.WallClock.shows c.args.desk.now.clock.now) c.args.desk.now.settings.now.zone)
+    c.args.desk.now.settings.now.mark c.args.desk.now.settings.now.token (giver_of c.args.desk.now.settings.now.staff c.args.desk.now.staff)
+    (plan.Office c.in-Office.words) c.args.plan _ _ (sym c.in-Office.is)
+    (c.give_office.ensures.crash clean)
+
+pub returns-in-Send-clause-crash : goal.returns-in-Send-clause-crash
+returns-in-Send-clause-crash g c clean =
+    leaves_by (IsTold (g.V.Server.opens c.args.desk.now.server.now) g.V.Reader.Read.remaining g.V.Writer.Write.contents)
+    (local_clock (g.K.WallClock.shows c.args.desk.now.clock.now) c.args.desk.now.settings.now.zone)
+    c.args.desk.now.settings.now.mark c.args.desk.now.settings.now.token (giver_of c.args.desk.now.settings.now.staff c.args.desk.now.staff)
+    plan.Send c.args.plan _ _ (sym c.in-Send.is)
+    (c.send.ensures.crash clean)
+
+pub returns-in-Again-clause-crash : goal.returns-in-Again-clause-crash
+returns-in-Again-clause-crash g c clean =
+    leaves_by (IsTold (g.V.Server.opens c.args.desk.now.server.now) g.V.Reader.Read.remaining g.V.Writer.Write.contents)
+    (local_clock (g.K.WallClock.shows c.args.desk.now.clock.now) c.args.desk.now.settings.now.zone)
+    c.args.desk.now.settings.now.mark c.args.desk.now.settings.now.token (giver_of c.args.desk.now.settings.now.staff c.args.desk.now.staff)
+    (plan.Again c.in-Again.late) c.args.plan _ _ (sym c.in-Again.is)
+    (c.again.ensures.crash clean)
+
+pub returns-in-Waiting-clause-crash : goal.returns-in-Waiting-clause-crash
+returns-in-Waiting-clause-crash g c clean =
+    leaves_by (IsTold (g.V.Server.opens c.args.desk.now.server.now) g.V.Reader.Read.remaining g.V.Writer.Write.contents)
+    (local_clock (g.K.WallClock.shows c.args.desk.now.clock.now) c.args.desk.now.settings.now.zone)
+    c.args.desk.now.settings.now.mark c.args.desk.now.settings.now.token (giver_of c.args.desk.now.settings.now.staff c.args.desk.now.staff)
+    plan.Waiting c.args.plan _ _ (sym c.in-Waiting.is)
+    (look_after c.args.book.now.place (state g.S.Store c.args.conn.now) (state g.S.Store c.waiting_entries.new.conn) (c.waiting_entries.ensures.stays clean))
+
+pub returns-in-Last-clause-crash : goal.returns-in-Last-clause-crash
+returns-in-Last-clause-crash g c clean =
+    leaves_by (IsTold (g.V.Server.opens c.args.desk.now.server.now) g.V.Reader.Read.remaining g.V.Writer.Write.contents)
+    (local_clock (g.K.WallClock.shows c.args.desk.now.clock.now) c.args.desk.now.settings.now.zone)
+    c.args.desk.now.settings.now.mark c.args.desk.now.settings.now.token (giver_of c.args.desk.now.settings.now.staff c.args.desk.now.staff)
+    (plan.Last c.in-Last.count) c.args.plan _ _ (sym c.in-Last.is)
+    (look_after c.args.book.now.place (state g.S.Store c.args.conn.now) (state g.S.Store c.last_entries.new.conn) (c.last_entries.ensures.stays clean))
+
+pub returns-in-Day-clause-crash : goal.returns-in-Day-clause-crash
+returns-in-Day-clause-crash g c clean =
+    leaves_by (IsTold (g.V.Server.opens c.args.desk.now.server.now) g.V.Reader.Read.remaining g.V.Writer.Write.contents)
+    (local_clock (g.K.WallClock.shows c.args.desk.now.clock.now) c.args.desk.now.settings.now.zone)
+    c.args.desk.now.settings.now.mark c.args.desk.now.settings.now.token (giver_of c.args.desk.now.settings.now.staff c.args.desk.now.staff)
+    (plan.Day c.in-Day.asked) c.args.plan _ _ (sym c.in-Day.is)
+    (look_after c.args.book.now.place (state g.S.Store c.args.conn.now) (state g.S.Store c.day.new.conn) (c.day.ensures.stays clean))
+
+pub returns-in-Look-clause-crash : goal.returns-in-Look-clause-crash
+returns-in-Look-clause-crash g c clean =
+    leaves_by (IsTold (g.V.Server.opens c.args.desk.now.server.now) g.V.Reader.Read.remaining g.V.Writer.Write.contents)
+    (local_clock (g.K.WallClock.shows c.args.desk.now.clock.now) c.args.desk.now.settings.now.zone)
+    c.args.desk.now.settings.now.mark c.args.desk.now.settings.now.token (giver_of c.args.desk.now.settings.now.staff c.args.desk.now.staff)
+    (plan.Look c.in-Look.it) c.args.plan _ _ (sym c.in-Look.is)
+    (look_after c.args.book.now.place (state g.S.Store c.args.conn.now) (state g.S.Store c.look.new.conn) (c.look.ensures.stays clean))
+
+pub returns-in-ReadOffice-clause-crash : goal.returns-in-ReadOffice-clause-crash
+returns-in-ReadOffice-clause-crash g c clean =
+    leaves_by (IsTold (g.V.Server.opens c.args.desk.now.server.now) g.V.Reader.Read.remaining g.V.Writer.Write.contents)
+    (local_clock (g.K.WallClock.shows c.args.desk.now.clock.now) c.args.desk.now.settings.now.zone)
+    c.args.desk.now.settings.now.mark c.args.desk.now.settings.now.token (giver_of c.args.desk.now.settings.now.staff c.args.desk.now.staff)
+    (plan.ReadOffice c.in-ReadOffice.words) c.args.plan _ _ (sym c.in-ReadOffice.is)
+    (look_after c.args.book.now.place (state g.S.Store c.args.conn.now) (state g.S.Store c.args.conn.now) (λ journal rests. rests))
+
+pub returns-in-Today-clause-crash : goal.returns-in-Today-clause-crash
+returns-in-Today-clause-crash g c clean =
+    leaves_by (IsTold (g.V.Server.opens c.args.desk.now.server.now) g.V.Reader.Read.remaining g.V.Writer.Write.contents)
+    (local_clock (g.K.WallClock.shows c.args.desk.now.clock.now) c.args.desk.now.settings.now.zone)
+    c.args.desk.now.settings.now.mark c.args.desk.now.settings.now.token (giver_of c.args.desk.now.settings.now.staff c.args.desk.now.staff)
+    (plan.Today c.in-Today.date) c.args.plan _ _ (sym c.in-Today.is)
+    (look_after c.args.book.now.place (state g.S.Store c.args.conn.now) (state g.S.Store c.args.conn.now) (λ journal rests. rests))
+
+pub returns-in-Slip-clause-crash : goal.returns-in-Slip-clause-crash
+returns-in-Slip-clause-crash g c clean =
+    leaves_by (IsTold (g.V.Server.opens c.args.desk.now.server.now) g.V.Reader.Read.remaining g.V.Writer.Write.contents)
+    (local_clock (g.K.WallClock.shows c.args.desk.now.clock.now) c.args.desk.now.settings.now.zone)
+    c.args.desk.now.settings.now.mark c.args.desk.now.settings.now.token (giver_of c.args.desk.now.settings.now.staff c.args.desk.now.staff)
+    plan.Slip c.args.plan _ _ (sym c.in-Slip.is)
+    (look_after c.args.book.now.place (state g.S.Store c.args.conn.now) (state g.S.Store c.args.conn.now) (λ journal rests. rests))
+
+pub returns-in-Usage-clause-crash : goal.returns-in-Usage-clause-crash
+returns-in-Usage-clause-crash g c clean =
+    leaves_by (IsTold (g.V.Server.opens c.args.desk.now.server.now) g.V.Reader.Read.remaining g.V.Writer.Write.contents)
+    (local_clock (g.K.WallClock.shows c.args.desk.now.clock.now) c.args.desk.now.settings.now.zone)
+    c.args.desk.now.settings.now.mark c.args.desk.now.settings.now.token (giver_of c.args.desk.now.settings.now.staff c.args.desk.now.staff)
+    plan.Usage c.args.plan _ _ (sym c.in-Usage.is)
+    (look_after c.args.book.now.place (state g.S.Store c.args.conn.now) (state g.S.Store c.args.conn.now) (λ journal rests. rests))

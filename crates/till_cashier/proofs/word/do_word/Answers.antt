@@ -16,6 +16,8 @@ use Rattle.till_cashier.proofs.Dates.{dated_book}
 use Rattle.till_cashier.proofs.Repeating.{if_ok_then, word_repeated}
 use Rattle.till_cashier.specs.Asking.{IsAnswered}
 use Rattle.till_cashier.proofs.Printing.{if_ok_so, word_says}
+use Rattle.till_work.specs.Desk.{HasPlace}
+use Rattle.till_cashier.proofs.Stops.{read_leaves, plan_at_till, plan_at_office, stays_at_till, stays_at_any, stays_left, word_left}
 use Rattle.till_cashier.proofs.word.do_word.Goals as goal
 
 pub returns-in_err-book-clause-keeps : goal.returns-in_err-book-clause-keeps
@@ -340,8 +342,142 @@ returns-clause-says g c clean =
     (IsAnswered (g.V.Server.opens c.args.desk.now.server.now) g.V.Reader.Read.remaining g.V.Writer.Write.contents)
     (local_clock (g.K.WallClock.shows c.args.desk.now.clock.now) c.args.desk.now.settings.now.zone)
     c.args.desk.now.settings.now.mark c.args.desk.now.settings.now.token (giver_of c.args.desk.now.settings.now.staff c.args.desk.now.staff)
-    c.args.desk.now.is_json c.args.desk.now.sheet.now c.args.act c.in_ok-plan.plan c.in_ok-book.book.place c.carry_out.new.book.place
-    (state g.S.Store c.args.conn.now) (state g.S.Store c.read.new.conn)
+    c.args.desk.now.is_json c.args.desk.now.sheet.now c.in_ok-book.book.last c.args.act c.in_ok-plan.plan c.in_ok-book.book.place
+    c.carry_out.new.book.place (state g.S.Store c.args.conn.now) (state g.S.Store c.read.new.conn)
     (state g.S.Store c.plan_of.new.conn) (state g.S.Store c.carry_out.new.conn) (string_bytes said.text) said.status
-    (c.in_ok-book.ensures.place read) (c.read.ensures.stays read) (c.plan_of.ensures.stays planned)
+    (c.in_ok-book.ensures.place read) (c.in_ok-book.ensures.moment read) (c.read.ensures.stays read) (c.plan_of.ensures.stays planned)
     (c.in_ok-plan.ensures.acts planned))
+
+-- ---- a stop
+
+pub returns-in_err-book-clause-crash : goal.returns-in_err-book-clause-crash
+returns-in_err-book-clause-crash g c clean branch =
+    stays_at_till _ c.args.desk.now.settings.now.mark (state g.S.Store c.args.conn.now) (state g.S.Store c.read.new.conn)
+    (c.read.ensures.stays clean)
+
+pub returns-in_err-book-clause-crash_office : goal.returns-in_err-book-clause-crash_office
+returns-in_err-book-clause-crash_office g c clean office =
+    stays_at_any _ (state g.S.Store c.args.conn.now) (state g.S.Store c.read.new.conn)
+    (c.read.ensures.stays clean)
+
+pub returns-in_err-book-clause-crash_enters : goal.returns-in_err-book-clause-crash_enters
+returns-in_err-book-clause-crash_enters g c clean =
+    stays_left (IsTold (g.V.Server.opens c.args.desk.now.server.now) g.V.Reader.Read.remaining g.V.Writer.Write.contents)
+    (local_clock (g.K.WallClock.shows c.args.desk.now.clock.now) c.args.desk.now.settings.now.zone)
+    c.args.desk.now.settings.now.mark c.args.desk.now.settings.now.token (giver_of c.args.desk.now.settings.now.staff c.args.desk.now.staff)
+    c.args.desk.now.sheet.now c.args.act (state g.S.Store c.args.conn.now) (state g.S.Store c.read.new.conn)
+    (c.read.ensures.stays clean)
+
+pub returns-in_err-plan-clause-crash : goal.returns-in_err-plan-clause-crash
+returns-in_err-plan-clause-crash g c clean branch =
+    stays_at_till _ c.args.desk.now.settings.now.mark (state g.S.Store c.args.conn.now) (state g.S.Store c.plan_of.new.conn)
+    (stays_both (state g.S.Store c.args.conn.now) (state g.S.Store c.read.new.conn)
+    (state g.S.Store c.plan_of.new.conn) (c.read.ensures.stays (c.plan_of.ensures.clean clean))
+    (c.plan_of.ensures.stays clean))
+
+pub returns-in_err-plan-clause-crash_office : goal.returns-in_err-plan-clause-crash_office
+returns-in_err-plan-clause-crash_office g c clean office =
+    stays_at_any _ (state g.S.Store c.args.conn.now) (state g.S.Store c.plan_of.new.conn)
+    (stays_both (state g.S.Store c.args.conn.now) (state g.S.Store c.read.new.conn)
+    (state g.S.Store c.plan_of.new.conn) (c.read.ensures.stays (c.plan_of.ensures.clean clean))
+    (c.plan_of.ensures.stays clean))
+
+pub returns-in_err-plan-clause-crash_enters : goal.returns-in_err-plan-clause-crash_enters
+returns-in_err-plan-clause-crash_enters g c clean =
+    stays_left (IsTold (g.V.Server.opens c.args.desk.now.server.now) g.V.Reader.Read.remaining g.V.Writer.Write.contents)
+    (local_clock (g.K.WallClock.shows c.args.desk.now.clock.now) c.args.desk.now.settings.now.zone)
+    c.args.desk.now.settings.now.mark c.args.desk.now.settings.now.token (giver_of c.args.desk.now.settings.now.staff c.args.desk.now.staff)
+    c.args.desk.now.sheet.now c.args.act (state g.S.Store c.args.conn.now) (state g.S.Store c.plan_of.new.conn)
+    (stays_both (state g.S.Store c.args.conn.now) (state g.S.Store c.read.new.conn)
+    (state g.S.Store c.plan_of.new.conn) (c.read.ensures.stays (c.plan_of.ensures.clean clean))
+    (c.plan_of.ensures.stays clean))
+
+pub returns-in_err-dated_if-clause-crash : goal.returns-in_err-dated_if-clause-crash
+returns-in_err-dated_if-clause-crash g c clean branch =
+    stays_at_till _ c.args.desk.now.settings.now.mark (state g.S.Store c.args.conn.now) (state g.S.Store c.plan_of.new.conn)
+    (stays_both (state g.S.Store c.args.conn.now) (state g.S.Store c.read.new.conn)
+    (state g.S.Store c.plan_of.new.conn) (c.read.ensures.stays (c.plan_of.ensures.clean clean))
+    (c.plan_of.ensures.stays clean))
+
+pub returns-in_err-dated_if-clause-crash_office : goal.returns-in_err-dated_if-clause-crash_office
+returns-in_err-dated_if-clause-crash_office g c clean office =
+    stays_at_any _ (state g.S.Store c.args.conn.now) (state g.S.Store c.plan_of.new.conn)
+    (stays_both (state g.S.Store c.args.conn.now) (state g.S.Store c.read.new.conn)
+    (state g.S.Store c.plan_of.new.conn) (c.read.ensures.stays (c.plan_of.ensures.clean clean))
+    (c.plan_of.ensures.stays clean))
+
+pub returns-in_err-dated_if-clause-crash_enters : goal.returns-in_err-dated_if-clause-crash_enters
+returns-in_err-dated_if-clause-crash_enters g c clean =
+    stays_left (IsTold (g.V.Server.opens c.args.desk.now.server.now) g.V.Reader.Read.remaining g.V.Writer.Write.contents)
+    (local_clock (g.K.WallClock.shows c.args.desk.now.clock.now) c.args.desk.now.settings.now.zone)
+    c.args.desk.now.settings.now.mark c.args.desk.now.settings.now.token (giver_of c.args.desk.now.settings.now.staff c.args.desk.now.staff)
+    c.args.desk.now.sheet.now c.args.act (state g.S.Store c.args.conn.now) (state g.S.Store c.plan_of.new.conn)
+    (stays_both (state g.S.Store c.args.conn.now) (state g.S.Store c.read.new.conn)
+    (state g.S.Store c.plan_of.new.conn) (c.read.ensures.stays (c.plan_of.ensures.clean clean))
+    (c.plan_of.ensures.stays clean))
+
+pub returns-in_err-is_answered-clause-crash : goal.returns-in_err-is_answered-clause-crash
+returns-in_err-is_answered-clause-crash g c clean branch =
+    stays_at_till _ c.args.desk.now.settings.now.mark (state g.S.Store c.args.conn.now) (state g.S.Store c.plan_of.new.conn)
+    (stays_both (state g.S.Store c.args.conn.now) (state g.S.Store c.read.new.conn)
+    (state g.S.Store c.plan_of.new.conn) (c.read.ensures.stays (c.plan_of.ensures.clean clean))
+    (c.plan_of.ensures.stays clean))
+
+pub returns-in_err-is_answered-clause-crash_office : goal.returns-in_err-is_answered-clause-crash_office
+returns-in_err-is_answered-clause-crash_office g c clean office =
+    stays_at_any _ (state g.S.Store c.args.conn.now) (state g.S.Store c.plan_of.new.conn)
+    (stays_both (state g.S.Store c.args.conn.now) (state g.S.Store c.read.new.conn)
+    (state g.S.Store c.plan_of.new.conn) (c.read.ensures.stays (c.plan_of.ensures.clean clean))
+    (c.plan_of.ensures.stays clean))
+
+pub returns-in_err-is_answered-clause-crash_enters : goal.returns-in_err-is_answered-clause-crash_enters
+returns-in_err-is_answered-clause-crash_enters g c clean =
+    stays_left (IsTold (g.V.Server.opens c.args.desk.now.server.now) g.V.Reader.Read.remaining g.V.Writer.Write.contents)
+    (local_clock (g.K.WallClock.shows c.args.desk.now.clock.now) c.args.desk.now.settings.now.zone)
+    c.args.desk.now.settings.now.mark c.args.desk.now.settings.now.token (giver_of c.args.desk.now.settings.now.staff c.args.desk.now.staff)
+    c.args.desk.now.sheet.now c.args.act (state g.S.Store c.args.conn.now) (state g.S.Store c.plan_of.new.conn)
+    (stays_both (state g.S.Store c.args.conn.now) (state g.S.Store c.read.new.conn)
+    (state g.S.Store c.plan_of.new.conn) (c.read.ensures.stays (c.plan_of.ensures.clean clean))
+    (c.plan_of.ensures.stays clean))
+
+pub returns-clause-crash : goal.returns-clause-crash
+returns-clause-crash g c clean branch =
+    let planned = c.carry_out.ensures.clean clean in
+    let read = c.plan_of.ensures.clean planned in
+    read_leaves c.in_ok-book.book.place (state g.S.Store c.args.conn.now) (state g.S.Store c.plan_of.new.conn)
+    (state g.S.Store c.carry_out.new.conn) (c.in_ok-book.ensures.place read)
+    (stays_both (state g.S.Store c.args.conn.now) (state g.S.Store c.read.new.conn)
+    (state g.S.Store c.plan_of.new.conn) (c.read.ensures.stays read) (c.plan_of.ensures.stays planned)) _ _
+    (plan_at_till (IsTold (g.V.Server.opens c.args.desk.now.server.now) g.V.Reader.Read.remaining g.V.Writer.Write.contents)
+    (local_clock (g.K.WallClock.shows c.args.desk.now.clock.now) c.args.desk.now.settings.now.zone)
+    c.args.desk.now.settings.now.mark c.args.desk.now.settings.now.token (giver_of c.args.desk.now.settings.now.staff c.args.desk.now.staff)
+    c.args.desk.now.settings.now.staff c.in_ok-plan.plan
+    (HasPlace c.in_ok-book.book.place (state g.S.Store c.plan_of.new.conn)) (state g.S.Store c.carry_out.new.conn) branch c.in_ok-plan.ensures.planned
+    (c.carry_out.ensures.crash clean))
+
+pub returns-clause-crash_office : goal.returns-clause-crash_office
+returns-clause-crash_office g c clean office =
+    let planned = c.carry_out.ensures.clean clean in
+    let read = c.plan_of.ensures.clean planned in
+    read_leaves c.in_ok-book.book.place (state g.S.Store c.args.conn.now) (state g.S.Store c.plan_of.new.conn)
+    (state g.S.Store c.carry_out.new.conn) (c.in_ok-book.ensures.place read)
+    (stays_both (state g.S.Store c.args.conn.now) (state g.S.Store c.read.new.conn)
+    (state g.S.Store c.plan_of.new.conn) (c.read.ensures.stays read) (c.plan_of.ensures.stays planned)) _ _
+    (plan_at_office (IsTold (g.V.Server.opens c.args.desk.now.server.now) g.V.Reader.Read.remaining g.V.Writer.Write.contents)
+    (local_clock (g.K.WallClock.shows c.args.desk.now.clock.now) c.args.desk.now.settings.now.zone)
+    c.args.desk.now.settings.now.mark c.args.desk.now.settings.now.token (giver_of c.args.desk.now.settings.now.staff c.args.desk.now.staff)
+    c.args.desk.now.settings.now.staff c.in_ok-plan.plan
+    (HasPlace c.in_ok-book.book.place (state g.S.Store c.plan_of.new.conn)) (state g.S.Store c.carry_out.new.conn) office c.in_ok-plan.ensures.planned
+    (c.carry_out.ensures.crash clean))
+
+pub returns-clause-crash_enters : goal.returns-clause-crash_enters
+returns-clause-crash_enters g c clean =
+    let planned = c.carry_out.ensures.clean clean in
+    let read = c.plan_of.ensures.clean planned in
+    word_left (IsTold (g.V.Server.opens c.args.desk.now.server.now) g.V.Reader.Read.remaining g.V.Writer.Write.contents)
+    (local_clock (g.K.WallClock.shows c.args.desk.now.clock.now) c.args.desk.now.settings.now.zone)
+    c.args.desk.now.settings.now.mark c.args.desk.now.settings.now.token (giver_of c.args.desk.now.settings.now.staff c.args.desk.now.staff)
+    c.args.desk.now.sheet.now c.args.act c.in_ok-plan.plan c.in_ok-book.book.place (state g.S.Store c.args.conn.now)
+    (state g.S.Store c.read.new.conn) (state g.S.Store c.plan_of.new.conn) (state g.S.Store c.carry_out.new.conn)
+    (c.in_ok-book.ensures.place read) (c.read.ensures.stays read) (c.plan_of.ensures.stays planned)
+    (c.in_ok-plan.ensures.acts planned) (c.carry_out.ensures.crash clean)

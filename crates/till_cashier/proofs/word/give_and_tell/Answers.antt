@@ -9,6 +9,7 @@ use Rattle.till_cashier.proofs.Doing.{gives_told}
 use Rattle.till_cashier.proofs.Printing.{gives_saying}
 use Rattle.till_cashier.proofs.Adding.{adds_stays}
 use Rattle.till_cashier.proofs.GoingOn.{kept_ok, kept_as, goes_stays}
+use Rattle.till_cashier.proofs.Stops.{given_leaves}
 use Rattle.till_cashier.proofs.word.give_and_tell.Goals as goal
 
 pub returns-in-Err-clause-keeps : goal.returns-in-Err-clause-keeps
@@ -65,3 +66,19 @@ returns-clause-says g c clean =
     (seen_act c.args.act.now) c.args.customer (seen_answer c.in-Ok.it.answer) c.args.book.now.place c.give.new.book.place
     (state g.S.Store c.args.conn.now) (state g.S.Store c.give.new.conn) (state g.S.Store c.waited.new.conn)
     (c.in-Ok.ensures.given (c.waited.ensures.clean clean)) (c.waited.ensures.stays clean) c.told.ensures
+
+pub returns-in_err-table-clause-crash : goal.returns-in_err-table-clause-crash
+returns-in_err-table-clause-crash g c clean =
+    given_leaves _ (local_clock (g.K.WallClock.shows c.args.desk.now.clock.now) c.args.desk.now.settings.now.zone) c.args.desk.now.settings.now.token
+    (giver_of c.args.desk.now.settings.now.staff c.args.desk.now.staff) (seen_act c.args.act.now) c.args.desk.now.settings.now.mark
+    (seen_answer c.in-Ok.it.answer) c.args.book.now.place c.give.new.book.place
+    (state g.S.Store c.args.conn.now) (state g.S.Store c.give.new.conn) (state g.S.Store c.waited.new.conn)
+    (c.in-Ok.ensures.given (c.waited.ensures.clean clean)) (c.waited.ensures.stays clean)
+
+pub returns-clause-crash : goal.returns-clause-crash
+returns-clause-crash g c clean =
+    given_leaves _ (local_clock (g.K.WallClock.shows c.args.desk.now.clock.now) c.args.desk.now.settings.now.zone) c.args.desk.now.settings.now.token
+    (giver_of c.args.desk.now.settings.now.staff c.args.desk.now.staff) (seen_act c.args.act.now) c.args.desk.now.settings.now.mark
+    (seen_answer c.in-Ok.it.answer) c.args.book.now.place c.give.new.book.place
+    (state g.S.Store c.args.conn.now) (state g.S.Store c.give.new.conn) (state g.S.Store c.waited.new.conn)
+    (c.in-Ok.ensures.given (c.waited.ensures.clean clean)) (c.waited.ensures.stays clean)
