@@ -10,3 +10,4 @@ pub mod Witnesses
 pub mod Settled
 pub mod Extending
 pub mod Isolated
+pub mod LivingOn

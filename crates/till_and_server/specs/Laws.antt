@@ -1,8 +1,8 @@
 -- Laws of a till and a server at the two ends of a connection.
-use Rattle.std.specs.Prelude.{◌≡◌, ◌⊎◌, ℕ, Bool, false, List, [], ◌∷◌, ◌++◌, length, map, slice_get, Option, Some}
+use Rattle.std.specs.Prelude.{◌≡◌, ◌⊎◌, ⊤, ℕ, Bool, false, List, [], ◌∷◌, ◌++◌, length, map, slice_get, Option, Some}
 use Rattle.sqlite_trees.specs.declared.store.Store.{Ghosts}
-use Rattle.sqlite.specs.Held.{state}
-use Rattle.sqlite.specs.State.{HasCleanDisk}
+use Rattle.sqlite.specs.Held.{Held, state}
+use Rattle.sqlite.specs.State.{State, HasCleanDisk}
 use Rattle.http_messages.specs.Message.{Message}
 use Rattle.shop_model.specs.Values.{Text, Command, OfficeAsk, Rules}
 use Rattle.shop_model.specs.Machine.{Reply}
@@ -25,9 +25,11 @@ use Rattle.till_model.specs.Laws.{entries_of, served_over, WasAnswered, IsWitnes
 use Rattle.till_model.specs.Settled.{BecameSettled}
 use Rattle.till_book.specs.Journal.{Journal}
 use Rattle.till_book.specs.Read.{in_order}
+use Rattle.till_book.specs.Steps.{Rests}
 use Rattle.till_work.specs.Entering.{IsTillsBook}
 use Rattle.till_work.specs.Told.{IsTold}
 use Rattle.till_work.specs.Desk.{Extends}
+use Rattle.till_work.specs.Stops.{IsLater}
 use Rattle.till_and_server.specs.Streams.{Streams, Carries, IsWritten, Serving, Serves, ServesThese, WasExchanged}
 use Rattle.till_and_server.specs.ServedLives.{ServedLife, life_of, lives_of}
 use Rattle.till_and_server.specs.Lives.{books_then, StandIn, IsTokenOf, IsAnsweredBy, WereRecorded, StaysRecorded, WereNoted, StaysNoted, ComeFromEntries}
@@ -191,3 +193,31 @@ WordsReachTheDisk opens remaining contents =
     → Extends (IsTold opens remaining contents) (record { entries = []; replies = []; settled = [] }) journal
     → BecameSettled (has_mark mark) commands journal.replies (in_order journal.settled)
     (served_over (has_mark mark) rules b (lives_of lives) old) (shop_of b new)
+
+-- ---- a till's life
+
+-- From each till's book under the mark with which the one state rests, the other rests with a later one. What was in the book is a front part of that. So it is
+-- over each word, each stop in a word, and each opening of a book that was closed.
+abbrev pub LeadsOn : (List ℕ → Answer → Type 0) → Text → State → State → Type 0
+LeadsOn Tells mark old new =
+    (journal : Journal) (commands : List Command) → Rests old journal → IsTillsBook mark journal commands
+    → ∥ ((next : Journal) × (known : List Command) × Rests new next × IsTillsBook mark next known × IsLater Tells journal commands next known) ∥₁
+
+-- the states of a till's book, each after the one before
+abbrev pub LivesOn : {S : Type 0} → Ghosts S → (List ℕ → Answer → Type 0) → Text → Held S → List (Held S) → Type 0
+LivesOn g Tells mark old [] = ⊤
+LivesOn g Tells mark old (new ∷ books) = LeadsOn Tells mark (state g old) (state g new) × LivesOn g Tells mark new books
+
+-- A book was made, and over words, stops and openings in any order it came to a last state. With some till's book that rests. What that says of its entries is
+-- what they did in the chain's books.
+abbrev pub TillOverAStop : {S R W : Type 0} → Ghosts S → (R → W → Type 0) → (R → Option (List ℕ)) → (W → Option (List ℕ)) → Type 0
+TillOverAStop {S} g opens remaining contents =
+    (mark : Text) (made : Held S) (books : List (Held S)) (last : Held S) → Rests (state g made) (record { entries = []; replies = []; settled = [] })
+    → LivesOn g (IsTold opens remaining contents) mark made (books ++ last ∷ [])
+    → ∥ ((journal : Journal) × (commands : List Command) × Rests (state g last) journal × IsTillsBook mark journal commands
+    × ((rules : Rules) (look : OfficeAsk → Books → Reply) (b : ℕ) (lives : List ServedLife) (old new : Books)
+    → Lives rules look (lives_of lives) old new → HasNumbers old → IsUnused (has_mark mark) (shop_of b old)
+    → ComeFromEntries mark rules b journal.entries lives old → AreAnswered opens remaining contents rules b lives old
+    → WereRecorded rules b lives old journal × WereNoted rules b lives old journal
+    × BecameSettled (has_mark mark) commands journal.replies (in_order journal.settled)
+    (served_over (has_mark mark) rules b (lives_of lives) old) (shop_of b new))) ∥₁

@@ -1,6 +1,6 @@
 //! Laws. Each is the contract of a function that does nothing.
 
-ghost use Rattle.till_and_server.specs.Laws.{RunsHaveExchanges, OneMessageIsRead, OneAnswerIsRead, OneEventIsRun, RunsAreLives, ServedOverAStop, OneAmongMany, ExchangesAreAnswered, DeliveriesAreRecorded, ExchangesAreWitnesses, TillAndServer, SettlementsAreNoted, SettledTillAndServer, ExtendedBooksStayRecorded, WordsReachTheDisk};
+ghost use Rattle.till_and_server.specs.Laws.{RunsHaveExchanges, OneMessageIsRead, OneAnswerIsRead, OneEventIsRun, RunsAreLives, ServedOverAStop, OneAmongMany, ExchangesAreAnswered, DeliveriesAreRecorded, ExchangesAreWitnesses, TillAndServer, SettlementsAreNoted, SettledTillAndServer, ExtendedBooksStayRecorded, WordsReachTheDisk, TillOverAStop};
 ghost use Rattle.till_and_server.specs.Isolation.{LivesSendTheSame, ResentRequestsSendTheSame, OneLifeIsOneHistory};
 
 use sqlite::Alter;
@@ -112,3 +112,12 @@ pub fn resent_requests_send_the_same()
 pub fn one_life_is_one_history()
     ensures { OneLifeIsOneHistory }
 {}
+
+/// A till's life: a book is made, and then come words, stops and openings in any order. The last book says of its
+/// entries what they did in the chain's books, if nobody else used the till's mark. `do_word` and
+/// `do_word_over_a_stop` of `till_cashier` say that each step leads on.
+pub fn till_over_a_stop<S: Alter, V: Server>(server: &V)
+    ensures { TillOverAStop S.Store (V.opens server.now) V.Reader.remaining V.Writer.contents }
+{
+    let _ = server;
+}
