@@ -9,6 +9,7 @@ use crate::line::{Counter, Cut};
 use crate::texts::{Texts, settle, settle_sure};
 use crate::word::{Typist, window_of};
 use crate::world::World;
+use crate::zones::HEAD_OFFICE;
 use std::alloc::Global;
 use std::mem;
 
@@ -129,6 +130,11 @@ impl<'x, D: InMemory, C: Counter> Play<'x, D, C> {
         match what.strip_prefix("at ") {
             Some(at) => self.kit.sets(at),
             None => match what {
+                "office" => {
+                    let number = self.world.zones().number_of(HEAD_OFFICE)?;
+                    self.kit.sets_zone(number);
+                    Ok(())
+                }
                 "copy" => self.book.copies(),
                 "back" => self.book.puts_back(),
                 _ => self.kit.happens(what),

@@ -9,6 +9,13 @@ use till_requests::{Settings, read_settings};
 const SETTINGS: &str =
     "address row:1\ntoken 11111111111111111111111111111111\nstaff 1\nmark tabcdefghij\n";
 
+/// The settings of head office's book.
+const OFFICE: &str =
+    "address row:1\ntoken 00000000000000000000000000000000\noffice\nmark tabcdefghij\n";
+
+/// The name by which the till of head office is found.
+pub const HEAD_OFFICE: &str = "head office";
+
 /// A till in a zone: its settings, and the rules of the clock on the wall.
 #[derive(Drop)]
 pub struct TillZone {
@@ -27,12 +34,18 @@ impl Model for TillZone {
 }
 
 impl TillZone {
-    /// Makes a till in the zone of that name, by the zone's line in the settings and its rules.
-    fn new(alloc: Global, name: &'static str, line: &str, rules: &[u8]) -> Result<TillZone, Fault> {
+    /// Makes a till in the zone of that name, by its settings, the zone's line in them and the zone's rules.
+    fn new(
+        alloc: Global,
+        name: &'static str,
+        settings: &str,
+        line: &str,
+        rules: &[u8],
+    ) -> Result<TillZone, Fault> {
         let Ok(rules) = posix::TimeZone::parse(rules) else {
             return Err(Fault::Line("no rules are read"));
         };
-        let text = format!(in alloc; "{SETTINGS}{line}")?;
+        let text = format!(in alloc; "{settings}{line}")?;
         match read_settings(alloc, text.as_str().as_bytes()) {
             Ok(settings) => Ok(TillZone {
                 name,
@@ -73,23 +86,26 @@ impl Model for Zones {
 pub const NO_ZONE: usize = 0;
 
 impl Zones {
-    /// Makes a till without a zone, and tills in two zones west and east of UTC.
+    /// Makes a till without a zone, tills in two zones west and east of UTC, and head office's.
     pub fn new(alloc: Global) -> Result<Zones, Fault> {
         let mut zones = Vec::new(alloc);
-        for (name, line, rules) in [
-            ("", "", "UTC0"),
+        for (name, settings, line, rules) in [
+            ("", SETTINGS, "", "UTC0"),
             (
                 "America/Edmonton",
+                SETTINGS,
                 "zone America/Edmonton -25200\n",
                 "MST7MDT,M3.2.0,M11.1.0",
             ),
             (
                 "Europe/Berlin",
+                SETTINGS,
                 "zone Europe/Berlin 3600\n",
                 "CET-1CEST,M3.5.0,M10.5.0/3",
             ),
+            (HEAD_OFFICE, OFFICE, "", "UTC0"),
         ] {
-            let zone = TillZone::new(alloc, name, line, rules.as_bytes())?;
+            let zone = TillZone::new(alloc, name, settings, line, rules.as_bytes())?;
             match zones.push(zone) {
                 Ok(()) => {}
                 Err(full) => return Err(AllocError::from(full).into()),
