@@ -4,7 +4,8 @@ use Rattle.std.specs.Str.{bytes_eq}
 use Rattle.shop_model.specs.Rows.{arrived, lacks, Row, Owned, of, owned_by, is_row, put_all, set_rows, update_where, numbered, mem}
 use Rattle.shop_model.specs.Calendar.{Moment}
 use Rattle.shop_model.specs.Values.{Text, Branch, Customer, new_customer, CopyState, Here, Sent, Scrapped, Copy, Rental, Terms, Payment}
-use Rattle.shop_model.specs.Values.{Arrival, Parcel, Act, AddCustomer, SetActive, Rent, TakeBack, Pay, Import, Dispatch, Receive, Scrap, Command, OfficeAsk, Rules}
+use Rattle.shop_model.specs.Values.{Arrival, Parcel, Act, AddCustomer, SetActive, Rent, TakeBack, Pay, Import, Dispatch, Receive, Scrap}
+use Rattle.shop_model.specs.Values.{Command, OfficeAsk, Rules}
 use Rattle.shop_model.specs.Refusals.{NoCounter, NoRoute}
 use Rattle.shop_model.specs.Shop.{Kept, Catalogue, Shop}
 use Rattle.shop_model.specs.Stock.{terms_now}

@@ -37,7 +37,8 @@ returns g c = λ command file. carried_out
     let is : first ≡ next b books.copies = omega (arith, last, c.in_ok-first.ensures.first) in
     let next_is : length (map unmarked (of b books.copies)) + 1 ≡ next b books.copies = ap (λ (n : ℕ). n + 1) (length_map unmarked (of b books.copies)) in
     let lot = said.1.1 counts _ (said.1.0 counts books taken.0 tt) tt in
-    let rows : map seen_copy_row c.as_slice.result.now ≡ copies_from b first films = ap (map seen_copy_row) c.as_slice.ensures.value ∙ c.in_ok-copies.ensures in (
+    let rows : map seen_copy_row c.as_slice.result.now ≡ copies_from b first films =
+    ap (map seen_copy_row) c.as_slice.ensures.value ∙ c.in_ok-copies.ensures in (
       subst (λ (fs : List ℕ). Holds s (with_import b fs c.args.lot.now books)) same
           (import_added s b books low holds.stands.more.termed first m films c.args.lot.now is all
           (subst (λ (rs : List (Row BookCopy)).
