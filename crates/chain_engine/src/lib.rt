@@ -14,5 +14,6 @@ mod stopping;
 pub use chain::Chain;
 pub use chain_files::OpenFault;
 pub use laws::runs_follow;
+pub use paths::NotAtPath;
 pub use restarting::restart;
 pub use stopping::{NotResumed, Resumed, over_a_stop};

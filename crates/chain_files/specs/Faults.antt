@@ -1,5 +1,5 @@
 -- The faults that stop the opening of a chain: each fault's name, and the fault of opening for each fault of the store.
-use Rattle.std.specs.Prelude.{ℕ, Bool, true, false, List, codes}
+use Rattle.std.specs.Prelude.{◌≡◌, ◌⊎◌, ℕ, Bool, true, false, List, codes}
 use Rattle.chain_files.specs.declared.faults.OpenFault.{OpenFault}
 use Rattle.chain_files.specs.declared.faults.OpenFault.TheVariants as fault
 use Rattle.sql_rows.specs.declared.fault.StoreFault.{StoreFault}
@@ -25,3 +25,11 @@ is_store_fault fault.Memory = true
 is_store_fault fault.Size = true
 is_store_fault fault.Store = true
 is_store_fault _ = false
+
+-- a path has no file
+abbrev pub IsMissing : OpenFault → Type 0
+IsMissing why = why ≡ fault.NotAChain
+
+-- a path's files couldn't be opened
+abbrev pub IsUnopened : OpenFault → Type 0
+IsUnopened why = (why ≡ fault.Memory) ⊎ (why ≡ fault.Store)

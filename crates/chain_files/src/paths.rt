@@ -1,7 +1,8 @@
 //! The two files at a path of the operating system.
 
-ghost use Rattle.std.specs.Prelude.{◌≡◌, ◌≢◌, true, false, IfOk, IfErr};
+ghost use Rattle.std.specs.Prelude.{true, false, IfOk, IfErr};
 ghost use Rattle.sqlite_std_file.specs.File.{IsFresh};
+ghost use Rattle.chain_files.specs.Faults.{IsUnopened};
 
 use crate::faults::OpenFault;
 use sqlite_disk::{Files, Unknown};
@@ -12,10 +13,7 @@ use std::io;
 /// Opens the two files, or returns why they can't be opened.
 pub fn files_at(rt: &HostRuntime, path: &str) -> Result<Files<File>, OpenFault>
     ensures fresh { IfOk result (λ files. IsFresh true files.log × IsFresh false files.db) }
-    ensures chain { IfErr result (λ e. e ≢ OpenFault.NotAChain) }
-    ensures version { IfErr result (λ e. e ≢ OpenFault.OtherVersion) }
-    ensures damaged { IfErr result (λ e. e ≢ OpenFault.Damaged) }
-    ensures already { IfErr result (λ e. e ≢ OpenFault.Already) }
+    ensures unopened { IfErr result IsUnopened }
 {
     match sqlite_std_file::open(rt, path, Unknown) {
         Ok(files) => Ok(files),

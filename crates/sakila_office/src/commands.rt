@@ -42,11 +42,13 @@ pub(crate) fn make<W: Write, E: Write>(
             drop(chain.close());
             print(out, b"{\"version\":2}")
         }
-        Err(OpenFault::Already) => {
+        Err((OpenFault::Already, left)) => {
+            drop(left);
             own(rt, &log);
             tell(&Reply::refused(Refusal::Already), out, err)
         }
-        Err(fault) => {
+        Err((fault, left)) => {
+            drop(left);
             own(rt, &log);
             tell_fault(fault, err)
         }
@@ -71,11 +73,13 @@ pub(crate) fn migrate<W: Write, E: Write>(
             drop(chain.close());
             print(out, b"{\"version\":2}")
         }
-        Err(OpenFault::Already) => {
+        Err((OpenFault::Already, left)) => {
+            drop(left);
             own(rt, &log);
             tell(&Reply::refused(Refusal::Already), out, err)
         }
-        Err(fault) => {
+        Err((fault, left)) => {
+            drop(left);
             own(rt, &log);
             tell_fault(fault, err)
         }
@@ -102,7 +106,8 @@ pub(crate) fn put<W: Write, E: Write>(
             drop(chain.close());
             tell(&reply, out, err)
         }
-        Err(fault) => {
+        Err((fault, left)) => {
+            drop(left);
             own(rt, &log);
             tell_fault(fault, err)
         }
@@ -154,7 +159,8 @@ pub(crate) fn serve_in<E: Write>(
             drop(chain.close());
             status
         }
-        Err(fault) => {
+        Err((fault, left)) => {
+            drop(left);
             own(rt, &log);
             tell_fault(fault, err)
         }
