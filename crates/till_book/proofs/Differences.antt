@@ -11,9 +11,8 @@ use Rattle.till_model.specs.Tills.{Entry}
 use Rattle.till_model.specs.Laws.{entries_of}
 use Rattle.till_model.specs.Settled.{accepted_of, or_reply, settled_entry}
 use Rattle.till_book.specs.Journal.{Journal, IsJournal, is_refused}
-use Rattle.till_book.specs.Drawer.{is_accepted, counted_of, worth_of, worth_in, late_of, is_among, is_new, counts, counted_from, counted_since}
+use Rattle.till_book.specs.Drawer.{Came, is_accepted, came, counted_of, worth_of, worth_in, late_of, is_among, is_new, counts, counted_from, counted_since}
 use Rattle.till_book.specs.Drawer.{GoesOn, AreKnown, DrawerIsTheDifference}
-use Rattle.till_book.specs.declared.drawer.Counted.{Counted}
 use Rattle.till_book.specs.declared.drawer.Counted.TheVariants as counted
 use Rattle.till_book.proofs.Refusals.{refused_at}
 
@@ -87,7 +86,7 @@ within (y ∷ xs) (suc i) x there = omega (arith, within xs i x there)
 
 -- ---- one entry
 
-module _ (worth : Counted → ℕ) (refused : worth counted.Refused ≡ 0) (n : ℕ) (known : List ℕ) (old all : Settled)
+module _ (worth : Came → ℕ) (refused : (k : ℕ) → worth (came k counted.Refused) ≡ 0) (n : ℕ) (known : List ℕ) (old all : Settled)
     (knows : (m : ℕ) → is_among m known ≡ is_some (accepted_of m old))
     (stay : (m : ℕ) (answer : Answer) → accepted_of m old ≡ Some answer → accepted_of m all ≡ Some answer) where
   -- what the drawer counts of it
@@ -96,10 +95,7 @@ module _ (worth : Counted → ℕ) (refused : worth counted.Refused ≡ 0) (n : 
 
   -- its worth with these settlements
   abbrev worth_with : Settled → ℕ → Entry → ℕ
-  worth_with settled k entry = worth_of worth (settled_entry settled (k, entry))
-
-  one : (c : Command) → total worth (counted_of c ∷ []) ≡ worth (counted_of c)
-  one c = omega arith
+  worth_with settled k entry = worth_of worth (k, settled_entry settled (k, entry))
 
   -- an entry that was answered before the closing
   answered_before : (k : ℕ) (c : Command) (r : Answer) → k ≤ n → ((answer : Answer) → accepted_of k all ≡ Some answer → (r.status == 200) ≡ false)
@@ -148,7 +144,7 @@ module _ (worth : Counted → ℕ) (refused : worth counted.Refused ≡ 0) (n : 
           let late_not : is_among k (late_of all) ≡ false = late_is k all ∙ ap is_some nothing in
           elim (cases_Bool (r.status == 200)) [
             | inl done ↦ rw (is, nothing, since, known_not, late_not, done) (omega arith)
-            | inr bad ↦ rw (is, nothing, since, known_not, late_not, bad) (omega (arith, refused))
+            | inr bad ↦ rw (is, nothing, since, known_not, late_not, bad) (omega (arith, refused k))
           ]
       go None (Some b) is some =
           let late : is_among k (late_of all) ≡ true = late_is k all ∙ ap is_some some in
@@ -165,12 +161,12 @@ module _ (worth : Counted → ℕ) (refused : worth counted.Refused ≡ 0) (n : 
   -- ---- all entries
 
   abbrev sum_with : Settled → ℕ → List Entry → ℕ
-  sum_with settled k entries = total (worth_of worth) (map (settled_entry settled) (numbered_from k entries))
+  sum_with settled k entries = total (worth_of worth) (numbered_from k (map (settled_entry settled) (numbered_from k entries)))
 
   abbrev sum_new : ℕ → List Entry → ℕ
   sum_new k entries = total worth (counted_from n known (late_of all) k entries)
 
-  split_total : (xs ys : List Counted) → total worth (xs ++ ys) ≡ total worth xs + total worth ys
+  split_total : (xs ys : List Came) → total worth (xs ++ ys) ≡ total worth xs + total worth ys
   split_total [] ys = omega arith
   split_total (x ∷ xs) ys = omega (arith, split_total xs ys)
 
@@ -252,7 +248,7 @@ drawer_is_the_difference worth commands more known closed now refused is_closed 
     let few : length closed.replies ≤ length commands = omega (arith, is_closed.answered, long) in
     let end : 1 + length closed.replies ≡ length closed.replies + 1 = omega arith in
     subst (λ (rs : List Answer).
-    total (worth_of worth) (map (settled_entry now.settled) (numbered_from 1 (entries_of (commands ++ more) rs)))
+    total (worth_of worth) (numbered_from 1 (map (settled_entry now.settled) (numbered_from 1 (entries_of (commands ++ more) rs))))
     ≡ worth_in worth commands closed + total worth (counted_from (length closed.replies) known (late_of now.settled) 1 (entries_of (commands ++ more) rs)))
     (sym replies)
     (both worth refused (length closed.replies) known closed.settled now.settled

@@ -12,8 +12,7 @@ use Rattle.till_book.specs.Saying.{Say, Says}
 use Rattle.till_book.specs.Journal.{Journal}
 use Rattle.till_book.specs.Read.{in_order}
 use Rattle.till_book.specs.Ends.{IsReadAfter}
-use Rattle.till_book.specs.Drawer.{late_of, is_among, is_new, is_answered, counted_of, counts, counted_from, counted_since, IsSince}
-use Rattle.till_book.specs.declared.drawer.Counted.{Counted}
+use Rattle.till_book.specs.Drawer.{Came, late_of, is_among, is_new, is_answered, came, counted_of, counts, counted_from, counted_since, IsSince}
 use Rattle.till_book.specs.declared.drawer.Counted.TheVariants as counted
 use Rattle.till_book.specs.declared.drawer.DrawerRows.{DrawerRows}
 use Rattle.till_book.specs.declared.lists.BookRows.{BookRows}
@@ -73,7 +72,7 @@ past f (y ∷ xs) zero high = absurd (omega (arith, high))
 past f (y ∷ xs) (suc i) high = past f xs i (omega (arith, high))
 
 -- nothing is left to count after the last entry
-pub all_counted : (n : ℕ) (known late : List ℕ) (k i : ℕ) (entries : List (List ℕ)) (commands : List Command) (replies : List Answer) (all : List Counted)
+pub all_counted : (n : ℕ) (known late : List ℕ) (k i : ℕ) (entries : List (List ℕ)) (commands : List Command) (replies : List Answer) (all : List Came)
     → Say entries commands → length entries ≤ i
     → all ++ counted_from n known late (k + i) (drop i (entries_of commands replies)) ≡ counted_from n known late k (entries_of commands replies)
     → all ≡ counted_from n known late k (entries_of commands replies)
@@ -94,7 +93,7 @@ all_counted n known late k i entries commands replies all say high is =
 
 -- one entry more is counted
 pub one_counted : (n : ℕ) (known late : List ℕ) (k i : ℕ) (entries : List (List ℕ)) (request : List ℕ) (commands : List Command) (replies : List Answer)
-    (so_far more : List Counted) → Say entries commands → slice_get entries i ≡ Some request
+    (so_far more : List Came) → Say entries commands → slice_get entries i ≡ Some request
     → ((command : Command) → Says request command → more ≡ counts n known late (k + i) (record { command = command; reply = slice_get replies i }))
     → so_far ++ counted_from n known late (k + i) (drop i (entries_of commands replies)) ≡ counted_from n known late k (entries_of commands replies)
     → (so_far ++ more) ++ counted_from n known late (k + (i + 1)) (drop (i + 1) (entries_of commands replies))
@@ -126,8 +125,8 @@ counted_alike n known one two alike k [] = refl
 counted_alike n known one two alike k (entry ∷ entries) =
     let more = counted_alike n known one two alike (k + 1) entries in
     let same = alike k in
-    λ i. (if nat_lt n k && accepted entry || same i && not (is_among k known) then counted_of entry.command ∷ []
-    else (if is_answered n k entry.reply then counted.Refused ∷ [] else [])) ++ more i
+    λ i. (if nat_lt n k && accepted entry || same i && not (is_among k known) then came k (counted_of entry.command) ∷ []
+    else (if is_answered n k entry.reply then came k counted.Refused ∷ [] else [])) ++ more i
   where
     accepted : Entry → Bool
     accepted it = Rattle.till_book.specs.Drawer.is_accepted it.reply
@@ -164,7 +163,7 @@ pub is_since : (n : ℕ) (known : List ℕ) (from replies : ℕ) (rows : BookRow
     → ((m : ℕ) → 0 < m → is_among m drawer.late.items ≡ true → is_among m known ≡ false → from < m)
     → IsReadAfter from rows journal
     → ((commands : List Command) → Say rows.entries commands
-    → drawer.counted.items ≡ counted_from n known drawer.late.items (from + 1) (entries_of commands rows.replies))
+    → drawer.came.items ≡ counted_from n known drawer.late.items (from + 1) (entries_of commands rows.replies))
     → drawer.replies ≡ length journal.replies → IsSince n known drawer journal
 is_since n known from replies rows journal settled drawer once ordered late low before read counts_it many = record {
   counted = λ commands say.

@@ -14,7 +14,7 @@ use Rattle.till_book.specs.Held.{last_rent, unless_returned, held_in, seen_held}
 use Rattle.till_book.specs.Read.{in_order}
 use Rattle.till_book.specs.declared.rents.HeldRental.{HeldRental}
 use Rattle.till_book.proofs.Numbers.{number, picks_one}
-use Rattle.till_book.proofs.Told.{alike_settled, rents_silent, returns_silent}
+use Rattle.till_book.proofs.Marked.{alike_settled, rents_silent, returns_silent}
 use Rattle.till_book.proofs.ByRents.{register_by_rents}
 use Rattle.till_book.specs.Marks.{rents_told, returns_told}
 

@@ -25,7 +25,7 @@ use Rattle.till_book.specs.Tables.{book_schema, entry_table, reply_table, settle
 use Rattle.till_book.specs.Saying.{Say}
 use Rattle.till_book.specs.Marks.{Rented, Returned}
 use Rattle.till_book.specs.Journal.{Journal, StandsFor, entry_columns, reply_columns, unsure_columns, rented_columns, returned_columns, IsEmptyJournal, Holds}
-use Rattle.till_book.specs.Journal.{TellsBytes, FindsEntry}
+use Rattle.till_book.specs.Journal.{HasBytes, FindsEntry}
 use Rattle.till_book.specs.Statements.{Adds, HasAdded, DropsUnsure}
 use Rattle.till_book.specs.declared.journal.TheConstants.{INSERT_ENTRY, INSERT_REPLY, INSERT_SETTLED, INSERT_UNSURE, DELETE_UNSURE, INSERT_RENTED}
 use Rattle.till_book.specs.declared.journal.TheConstants.{INSERT_RETURNED, SELECT_ENTRY}
@@ -282,11 +282,11 @@ module _ (n : ℕ) (old new : State) (rows : List sql.Row) (h : Shown SELECT_ENT
       ∙ ap (map (λ (it : ℕ × List ℕ). Blob it.1 ∷ [])) here
       ∙ map-map (λ (it : ℕ × List ℕ). Blob it.1 ∷ []) (λ x. (n, x)) (option_to_list (slice_get journal.entries i))
 
-  told : (slice : List sql.Row) → slice ≡ rows → (it : Option (List ℕ)) → TellsBytes it slice
+  told : (slice : List sql.Row) → slice ≡ rows → (it : Option (List ℕ)) → HasBytes it slice
       → (journal : Journal) → Holds old journal → (i : ℕ) → n ≡ i + 1 → it ≡ slice_get journal.entries i
-  told slice same it tells journal holds i is = go it (slice_get journal.entries i) (subst (TellsBytes it) (same ∙ shows_entry journal holds i is) tells)
+  told slice same it tells journal holds i is = go it (slice_get journal.entries i) (subst (HasBytes it) (same ∙ shows_entry journal holds i is) tells)
     where
-      go : (it found : Option (List ℕ)) → TellsBytes it (map (λ x. Blob x ∷ []) (option_to_list found)) → it ≡ found
+      go : (it found : Option (List ℕ)) → HasBytes it (map (λ x. Blob x ∷ []) (option_to_list found)) → it ≡ found
       go None None tells = refl
       go None (Some x) tells = absurd (clash tells)
         where
@@ -307,7 +307,7 @@ module _ (n : ℕ) (old new : State) (rows : List sql.Row) (h : Shown SELECT_ENT
           same_bytes : Blob x ≡ Blob b → b ≡ x
           same_bytes e = cc
 
-  pub finds_entry : (slice : List sql.Row) → slice ≡ rows → (it : Option (List ℕ)) → TellsBytes it slice → FindsEntry n it old new
+  pub finds_entry : (slice : List sql.Row) → slice ≡ rows → (it : Option (List ℕ)) → HasBytes it slice → FindsEntry n it old new
   finds_entry slice same it tells journal holds = (
     still_holds book_schema StandsFor SELECT_ENTRY.now (number_value n ∷ []) old new select_entry_means.plain rows h journal holds,
     λ i is. told slice same it tells journal holds i is,

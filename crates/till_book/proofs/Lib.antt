@@ -1,6 +1,6 @@
 pub mod Numbers
 pub mod Saids
-pub mod Told
+pub mod Marked
 pub mod Marking
 pub mod Refusals
 pub mod ByRents

@@ -10,29 +10,29 @@ use Rattle.till_book.specs.Saying.{Says}
 use Rattle.std.specs.List.{list_any}
 use Rattle.shop_model.specs.Refusals.{Problem}
 use Rattle.till_book.specs.Marks.{Rented, rents_told, returns_told, is_reply_to, final_problems, is_unsure}
-use Rattle.till_book.specs.Marking.{AreTold, IsMarkOf}
+use Rattle.till_book.specs.Marking.{AreMarked, IsMarkOf}
 use Rattle.till_book.specs.declared.marks.Mark.{Mark}
 use Rattle.till_book.specs.declared.marks.Mark.TheVariants as mark
-use Rattle.till_book.proofs.Told.{rents_refused, returns_refused}
+use Rattle.till_book.proofs.Marked.{rents_refused, returns_refused}
 
 abbrev pub rent_rows : ℕ → ℕ → ℕ → Option ℕ → List Rented
 rent_rows n customer copy told = map (λ (rental : ℕ). record { copy = copy; number = n; rental = rental; customer = customer }) (option_to_list told)
 
 pub rent_told : (customer copy rental : ℕ) (answer : Answer) → Some rental ≡ rental_told answer
-    → AreTold (Rent customer copy) answer (mark.Rent copy rental customer)
+    → AreMarked (Rent customer copy) answer (mark.Rent copy rental customer)
 rent_told customer copy rental answer is = record { rents = λ n. ap (rent_rows n customer copy) is; returns = λ n. refl; sure = λ n. refl }
 
-pub rent_untold : (customer copy : ℕ) (answer : Answer) → None ≡ rental_told answer → AreTold (Rent customer copy) answer mark.Nothing
+pub rent_untold : (customer copy : ℕ) (answer : Answer) → None ≡ rental_told answer → AreMarked (Rent customer copy) answer mark.Nothing
 rent_untold customer copy answer is = record { rents = λ n. ap (rent_rows n customer copy) is; returns = λ n. refl; sure = λ n. refl }
 
-pub return_told : (rental : ℕ) (answer : Answer) → answer.status ≡ 200 → AreTold (TakeBack rental) answer (mark.Return rental)
+pub return_told : (rental : ℕ) (answer : Answer) → answer.status ≡ 200 → AreMarked (TakeBack rental) answer (mark.Return rental)
 return_told rental answer done = record { rents = λ n. refl; returns = λ n. rw (equal_test answer.status 200 done) refl; sure = λ n. refl }
 
 says_one : (request : List ℕ) (one two : Command) → Says request one → Says request two → one ≡ two
 says_one request one two first second = one_command request first.0 second.0 one two first.1 second.1
 
 pub mark_of : (request : List ℕ) (answer : Answer) (command : Command) (it : Mark)
-    → Says request command → AreTold command.act answer it → IsMarkOf request answer false it
+    → Says request command → AreMarked command.act answer it → IsMarkOf request answer false it
 mark_of request answer command it says told = record {
   rents = λ other also n. told.rents n ∙ ap (λ (c : Command). rents_told n c.act (Some answer)) (says_one request command other says also);
   returns = λ other also n. told.returns n ∙ ap (λ (c : Command). returns_told n c.act (Some answer)) (says_one request command other says also);
@@ -76,7 +76,7 @@ sure_mark request answer doubt it is no_doubt mark =
     subst (λ (b : Bool). IsMarkOf request answer b it) (sym sure) mark
 
 pub mark_at : (request : List ℕ) (status : ℕ) (body : List ℕ) (command : Command) (it : Mark)
-    → status ≡ 200 → Says request command → AreTold command.act (record { status = 200; body = body }) it
+    → status ≡ 200 → Says request command → AreMarked command.act (record { status = 200; body = body }) it
     → IsMarkOf request (record { status = status; body = body }) false it
 mark_at request status body command it done says told =
     subst (λ (s : ℕ). IsMarkOf request (record { status = s; body = body }) false it)

@@ -23,8 +23,8 @@ use Rattle.till_book.specs.Marking.{IsMarkOf}
 use Rattle.till_book.specs.declared.marks.Mark.{Mark}
 use Rattle.till_book.specs.declared.marks.Mark.TheVariants as mark
 use Rattle.till_book.proofs.Saids.{as_long, said_at, say_before}
-use Rattle.till_book.proofs.Told.{accepted_other, accepted_not, more_entries, more_replies, more_settled, alike_settled, rents_silent, returns_silent}
-use Rattle.till_book.proofs.Told.{rents_refused, returns_refused}
+use Rattle.till_book.proofs.Marked.{accepted_other, accepted_not, more_entries, more_replies, more_settled, alike_settled, rents_silent, returns_silent}
+use Rattle.till_book.proofs.Marked.{rents_refused, returns_refused}
 use Rattle.till_book.proofs.Refusals.{refused_at, stay_refused, one_refused, none_settled, none_accepted, one_if, unsure_more, unsure_less, unsure_once}
 use Rattle.till_book.proofs.Numbers.{differ_push, none_of, nothing_in}
 

@@ -58,17 +58,24 @@ cents_by who counted.Refused = 0
 
 -- ---- what the book has brought, from its first entry on
 
--- the worth of an entry, which is 0 unless its last reply accepts it
-abbrev pub worth_of : (Counted → ℕ) → Entry → ℕ
-worth_of worth entry = if is_accepted entry.reply then worth (counted_of entry.command) else 0
+-- an entry's number, and how it is counted
+abbrev pub Came : Type 0
+Came = ℕ × Counted
+
+abbrev pub came : ℕ → Counted → Came
+came number what = (number, what)
+
+-- the worth of an entry with its number, which is 0 unless its last reply accepts it
+abbrev pub worth_of : (Came → ℕ) → ℕ × Entry → ℕ
+worth_of worth it = if is_accepted it.1.reply then worth (came it.0 (counted_of it.1.command)) else 0
 
 -- the worth of all entries of a journal that says these commands
-abbrev pub worth_in : (Counted → ℕ) → List Command → Journal → ℕ
-worth_in worth commands journal = total (worth_of worth) (entries_in commands journal)
+abbrev pub worth_in : (Came → ℕ) → List Command → Journal → ℕ
+worth_in worth commands journal = total (worth_of worth) (numbered (entries_in commands journal))
 
 -- the sum of the accepted payments
 abbrev pub paid_in : List Command → Journal → ℕ
-paid_in = worth_in cents_of
+paid_in = worth_in (λ (it : Came). cents_of it.1)
 
 -- ---- what came since the drawer was closed
 
@@ -89,23 +96,23 @@ abbrev pub is_answered : ℕ → ℕ → Option Answer → Bool
 is_answered n number reply = nat_lt n number && has_reply reply
 
 -- how the drawer counts the entry of that number
-abbrev pub counts : ℕ → List ℕ → List ℕ → ℕ → Entry → List Counted
+abbrev pub counts : ℕ → List ℕ → List ℕ → ℕ → Entry → List Came
 counts n known late number entry =
-    if is_new n known late number entry.reply then counted_of entry.command ∷ []
-    else (if is_answered n number entry.reply then counted.Refused ∷ [] else [])
+    if is_new n known late number entry.reply then came number (counted_of entry.command) ∷ []
+    else (if is_answered n number entry.reply then came number counted.Refused ∷ [] else [])
 
 -- how it counts entries that are numbered from k on
-abbrev pub counted_from : ℕ → List ℕ → List ℕ → ℕ → List Entry → List Counted
+abbrev pub counted_from : ℕ → List ℕ → List ℕ → ℕ → List Entry → List Came
 counted_from n known late k [] = []
 counted_from n known late k (entry ∷ entries) = counts n known late k entry ++ counted_from n known late (k + 1) entries
 
 -- How the drawer counts what came after a closing. The book had n replies then, and settlements had accepted the entries of the known numbers.
-abbrev pub counted_since : ℕ → List ℕ → List Command → Journal → List Counted
+abbrev pub counted_since : ℕ → List ℕ → List Command → Journal → List Came
 counted_since n known commands journal = counted_from n known (late_of journal.settled) 1 (entries_of commands journal.replies)
 
 -- what was read is what came after that closing, how many replies the book has now, and which entries settlements accepted
 pub record IsSince (n : ℕ) (known : List ℕ) (rows : DrawerRows) (journal : Journal) : Type 0 where
-  pub counted : (commands : List Command) → Say journal.entries commands → rows.counted.items ≡ counted_since n known commands journal
+  pub counted : (commands : List Command) → Say journal.entries commands → rows.came.items ≡ counted_since n known commands journal
   pub replies : rows.replies ≡ length journal.replies
   pub late : rows.late.items ≡ late_of (in_order journal.settled)
 
@@ -121,10 +128,11 @@ pub record GoesOn (closed now : Journal) : Type 0 where
 abbrev pub AreKnown : List ℕ → Journal → Type 0
 AreKnown known journal = (n : ℕ) → is_among n known ≡ is_among n (late_of journal.settled)
 
--- What came since a closing is worth the difference of the book then and now. Entries may be valued in any way that makes a refused one worth nothing.
+-- What came since a closing is worth the difference of the book then and now. Entries may be valued in any way that makes a refused one worth nothing:
+-- also by their numbers, so that entries of other drawers are worth nothing.
 abbrev pub DrawerIsTheDifference : Type 0
 DrawerIsTheDifference =
-    (worth : Counted → ℕ) (commands more : List Command) (known : List ℕ) (closed now : Journal) → worth counted.Refused ≡ 0
+    (worth : Came → ℕ) (commands more : List Command) (known : List ℕ) (closed now : Journal) → ((n : ℕ) → worth (came n counted.Refused) ≡ 0)
     → IsJournal closed → IsJournal now → GoesOn closed now → AreKnown known closed → length commands ≡ length closed.entries
     → worth_in worth (commands ++ more) now
     ≡ worth_in worth commands closed + total worth (counted_since (length closed.replies) known (commands ++ more) now)

@@ -154,9 +154,9 @@ abbrev pub IsEmptyJournal : State → Type 0
 IsEmptyJournal s = Holds s (record { entries = []; replies = []; settled = [] })
 
 -- the bytes in the first column of the first row, if there is a row
-abbrev pub TellsBytes : Option (List ℕ) → List sql.Row → Type 0
-TellsBytes None rows = slice_get rows 0 ≡ None
-TellsBytes (Some bytes) rows = (row : sql.Row) × (slice_get rows 0 ≡ Some row) × (sql.column row 0 ≡ Blob bytes)
+abbrev pub HasBytes : Option (List ℕ) → List sql.Row → Type 0
+HasBytes None rows = slice_get rows 0 ≡ None
+HasBytes (Some bytes) rows = (row : sql.Row) × (slice_get rows 0 ≡ Some row) × (sql.column row 0 ≡ Blob bytes)
 
 -- `Says` holds for the journal, and the journal stays
 abbrev pub Finds : (Journal → Type 0) → State → State → Type 0

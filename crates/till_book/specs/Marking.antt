@@ -8,7 +8,7 @@ use Rattle.till_book.specs.Statements.{rents_marked, returns_marked, unsure_mark
 use Rattle.till_book.specs.declared.marks.Mark.{Mark}
 
 -- the mark is what the act and its reply mean
-pub record AreTold (act : Act) (answer : Answer) (mark : Mark) : Type 0 where
+pub record AreMarked (act : Act) (answer : Answer) (mark : Mark) : Type 0 where
   pub rents : (n : ℕ) → rents_marked n mark ≡ rents_told n act (Some answer)
   pub returns : (n : ℕ) → returns_marked n mark ≡ returns_told n act (Some answer)
   pub sure : (n : ℕ) → unsure_marked n mark ≡ []

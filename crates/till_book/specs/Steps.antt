@@ -22,8 +22,8 @@ abbrev pub Stays : State → State → Type 0
 Stays old new = (journal : Journal) → Rests old journal → Rests new journal
 
 -- `Says` holds for the book's journal, and the book stays
-abbrev pub Tells : (Journal → Type 0) → State → State → Type 0
-Tells Says old new = (journal : Journal) → Rests old journal → Rests new journal × Says journal
+abbrev pub FindsAtRest : (Journal → Type 0) → State → State → Type 0
+FindsAtRest Says old new = (journal : Journal) → Rests old journal → Rests new journal × Says journal
 
 -- If this is given of the journal, the book rests with the changed journal.
 abbrev pub Comes : (Journal → Type 0) → (Journal → Journal) → State → State → Type 0
@@ -79,4 +79,4 @@ ReadsBook rows old new = (journal : Journal) → Rests old journal → Rests new
 
 -- the copy's rental is that of the journal; the book stays
 abbrev pub FindsHeld : ℕ → Option HeldRental → State → State → Type 0
-FindsHeld copy it = Tells (IsHeld copy it)
+FindsHeld copy it = FindsAtRest (IsHeld copy it)

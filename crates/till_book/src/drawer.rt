@@ -11,8 +11,8 @@ ghost use Rattle.till_model.specs.Laws.{entries_of};
 ghost use Rattle.till_book.specs.Saying.{Say, Says};
 ghost use Rattle.till_book.specs.Seen.{seen_reply, seen_settlement};
 ghost use Rattle.till_book.specs.Journal.{Finds};
-ghost use Rattle.till_book.specs.Steps.{Stays, Tells};
-ghost use Rattle.till_book.specs.Drawer.{IsSince, counted_from, counted_of, counts, is_among, is_answered, is_new, late_of};
+ghost use Rattle.till_book.specs.Steps.{Stays, FindsAtRest};
+ghost use Rattle.till_book.specs.Drawer.{IsSince, came, counted_from, counted_of, counts, is_among, is_answered, is_new, late_of};
 
 use crate::ends::reply_count;
 use crate::reading::{all_settled, rows_after};
@@ -39,10 +39,13 @@ pub enum Counted {
     Refused,
 }
 
+/// An entry that came: its number, and how the drawer counts it.
+pub type Came = (u32, Counted);
+
 /// What came into the drawer since a closing, and what the next closing has to know of the book.
 #[derive(Drop)]
 pub struct DrawerRows {
-    pub counted: Vec<Counted>,
+    pub came: Vec<Came>,
     /// How many replies the book has.
     pub replies: u32,
     /// The numbers of the entries that settlements accepted.
@@ -127,6 +130,16 @@ fn counted_request(
     }
 }
 
+/// Returns the entry of that number with how it is counted, if it is.
+fn came_as(number: u32, counted: Option<Counted>) -> Option<Came>
+    ensures { result ≡ option_map (came number) counted }
+{
+    match counted {
+        Some(what) => Some((number, what)),
+        None => None,
+    }
+}
+
 /// Returns how the drawer counts the entry of that number, if it came since the closing.
 fn counted_at(
     alloc: Global,
@@ -137,16 +150,17 @@ fn counted_at(
     number: u32,
     request: &[u8],
     reply: Option<&BookReply>,
-) -> Result<Option<Counted>, StoreFault>
+) -> Result<Option<Came>, StoreFault>
     ensures { IfOk result (λ it. (command : Written) → Says request.now command → option_to_list it
         ≡ counts replies known.now late.now number
         (record { command = command; reply = option_map (λ it. seen_reply it.now) reply.entry })) }
 {
     if is_new(replies, known, late, number, reply) {
-        return counted_request(alloc, routes, request);
+        let counted = counted_request(alloc, routes, request)?;
+        return Ok(came_as(number, counted));
     }
     if number > replies && reply.is_some() {
-        return Ok(Some(Counted::Refused));
+        return Ok(came_as(number, Some(Counted::Refused)));
     }
     Ok(None)
 }
@@ -178,7 +192,7 @@ fn reply_at(answers: &[BookReply], at: usize) -> Option<&BookReply>
 }
 
 /// Adds what is counted, if there is something.
-fn push_counted(it: Option<Counted>, all: &mut Vec<Counted>) -> Result<(), StoreFault>
+fn push_counted(it: Option<Came>, all: &mut Vec<Came>) -> Result<(), StoreFault>
     ensures { OnOk result (all.new.items ≡ all.old.items ++ option_to_list it) }
 {
     if let Some(it) = it {
@@ -197,7 +211,7 @@ fn count_rows(
     from: u32,
     entries: &[BookEntry],
     answers: &[BookReply],
-) -> Result<Vec<Counted>, StoreFault>
+) -> Result<Vec<Came>, StoreFault>
     ensures { IfOk result (λ all. (commands : List Written) → Say (map (λ row. row.request) entries.now) commands
         → all.items ≡ counted_from replies known.now late.now (from + 1)
         (entries_of commands (map seen_reply answers.now))) }
@@ -230,7 +244,7 @@ fn rows_since<S: Alter>(
     let from = first_needed(replies, known, late.as_slice());
     let rows = rows_after(alloc, tx, from)?;
     let (entries, answers) = (rows.entries.as_slice(), rows.replies.as_slice());
-    let counted = count_rows(
+    let came = count_rows(
         alloc,
         routes,
         replies,
@@ -242,7 +256,7 @@ fn rows_since<S: Alter>(
     )?;
     let replies = reply_count(tx)?;
     Ok(DrawerRows {
-        counted,
+        came,
         replies,
         late,
     })
@@ -260,7 +274,7 @@ pub fn drawer_since<S: Alter>(
     requires { conn.old.in_transaction ≡ false }
     ensures ended { conn.new.in_transaction ≡ false }
     ensures found { HasCleanDisk (state S.Store conn.new)
-        → IfOk result (λ it. Tells (IsSince replies known.now it) (state S.Store conn.old) (state S.Store conn.new)) }
+        → IfOk result (λ it. FindsAtRest (IsSince replies known.now it) (state S.Store conn.old) (state S.Store conn.new)) }
     ensures stays { HasCleanDisk (state S.Store conn.new) → Stays (state S.Store conn.old) (state S.Store conn.new) }
     ensures crash { Survives (state S.Store conn.old) (state S.Store conn.new) (λ _. ⊥) }
 {

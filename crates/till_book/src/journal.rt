@@ -6,7 +6,7 @@ ghost use Rattle.sqlite.specs.State.{HasCleanDisk, Survives, KeepsCommit};
 ghost use Rattle.sql_rows.specs.Books.{no_schema};
 ghost use Rattle.sql_rows.specs.Calls.{DoesInside};
 ghost use Rattle.till_book.specs.Tables.{entry_table, reply_table, settled_table, unsure_table, rented_table, returned_table};
-ghost use Rattle.till_book.specs.Journal.{IsEmptyJournal, FindsEntry, TellsBytes, entry_columns, reply_columns, unsure_columns, rented_columns, returned_columns};
+ghost use Rattle.till_book.specs.Journal.{IsEmptyJournal, FindsEntry, HasBytes, entry_columns, reply_columns, unsure_columns, rented_columns, returned_columns};
 ghost use Rattle.till_book.specs.Statements.{Adds, DropsUnsure};
 
 use shop_types::{CopyNo, CustomerNo, RentalNo};
@@ -158,7 +158,7 @@ const SELECT_ENTRY: &str = "SELECT request FROM entry WHERE number = ?1";
 
 /// Returns the bytes in the first row.
 fn first_bytes(rows: &[Row]) -> Result<Option<Bytes>, StoreFault>
-    ensures { IfOk result (λ it. TellsBytes it rows.now) }
+    ensures { IfOk result (λ it. HasBytes it rows.now) }
 {
     match rows.first() {
         None => Ok(None),

@@ -16,7 +16,7 @@ mod rows;
 mod steps;
 mod sums;
 
-pub use drawer::{Counted, DrawerRows, drawer_since};
+pub use drawer::{Came, Counted, DrawerRows, drawer_since};
 pub use ends::{BookEnd, EntryNumber};
 pub use journal::{drop_unsure, make_journal};
 pub use laws::a_drawer_is_the_difference;

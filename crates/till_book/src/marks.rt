@@ -7,7 +7,7 @@ ghost use Rattle.shop_types.specs.Seen.{seen_act, seen_refusal};
 ghost use Rattle.sql_rows.specs.Calls.{DoesWithin};
 ghost use Rattle.till_book.specs.Marks.{is_reply_to, final_problems, is_unsure};
 ghost use Rattle.till_book.specs.Statements.{Marks};
-ghost use Rattle.till_book.specs.Marking.{IsMarkOf, IsReplyMark, AreTold};
+ghost use Rattle.till_book.specs.Marking.{IsMarkOf, IsReplyMark, AreMarked};
 
 use crate::journal::{add_rented, add_returned, add_unsure};
 use counter_routes::Routes;
@@ -64,7 +64,7 @@ fn is_unsure(status: u32, body: &[u8]) -> bool
 
 /// Returns what an accepted command adds.
 fn accepted_mark(alloc: Global, act: &Act, body: &[u8]) -> Result<Mark, StoreFault>
-    ensures { IfOk result (AreTold (seen_act act.now) (record { status = 200; body = body.now })) }
+    ensures { IfOk result (AreMarked (seen_act act.now) (record { status = 200; body = body.now })) }
 {
     match act {
         Act::Rent { customer, copy } => match rental_in_reply(alloc, 200, body)? {

@@ -3,7 +3,7 @@
 ghost use Rattle.std.specs.Prelude.{◌≡◌, false, map, option_map, take, OnOk, IfOk};
 ghost use Rattle.sqlite.specs.Held.{state};
 ghost use Rattle.sqlite.specs.State.{HasCleanDisk, Survives};
-ghost use Rattle.till_book.specs.Steps.{IsEntered, LeavesEntered, IsRecorded, LeavesRecorded, IsNoted, LeavesNoted, FindsNumbered, FindsWaiting, FindsSettled, ReadsBook, Stays, Tells, FindsHeld};
+ghost use Rattle.till_book.specs.Steps.{IsEntered, LeavesEntered, IsRecorded, LeavesRecorded, IsNoted, LeavesNoted, FindsNumbered, FindsWaiting, FindsSettled, ReadsBook, Stays, FindsAtRest, FindsHeld};
 ghost use Rattle.till_book.specs.Register.{IsRenter};
 ghost use Rattle.till_book.specs.Ends.{IsEndOf, IsReadAfter, unsure_before};
 ghost use Rattle.till_book.specs.Ends as ends;
@@ -176,7 +176,7 @@ pub fn read_end<S: Alter>(conn: &mut Connection<S>) -> Result<BookEnd, StoreFaul
     requires { conn.old.in_transaction ≡ false }
     ensures ended { conn.new.in_transaction ≡ false }
     ensures found { HasCleanDisk (state S.Store conn.new)
-        → IfOk result (λ it. Tells (IsEndOf it) (state S.Store conn.old) (state S.Store conn.new)) }
+        → IfOk result (λ it. FindsAtRest (IsEndOf it) (state S.Store conn.old) (state S.Store conn.new)) }
     ensures stays { HasCleanDisk (state S.Store conn.new) → Stays (state S.Store conn.old) (state S.Store conn.new) }
     ensures crash { Survives (state S.Store conn.old) (state S.Store conn.new) (λ _. ⊥) }
 {
@@ -195,7 +195,7 @@ pub fn read_after<S: Alter>(
     requires { conn.old.in_transaction ≡ false }
     ensures ended { conn.new.in_transaction ≡ false }
     ensures found { HasCleanDisk (state S.Store conn.new)
-        → IfOk result (λ it. Tells (IsReadAfter number it) (state S.Store conn.old) (state S.Store conn.new)) }
+        → IfOk result (λ it. FindsAtRest (IsReadAfter number it) (state S.Store conn.old) (state S.Store conn.new)) }
     ensures stays { HasCleanDisk (state S.Store conn.new) → Stays (state S.Store conn.old) (state S.Store conn.new) }
     ensures crash { Survives (state S.Store conn.old) (state S.Store conn.new) (λ _. ⊥) }
 {
@@ -233,7 +233,7 @@ pub fn renter_of<S: Alter>(
     requires { conn.old.in_transaction ≡ false }
     ensures ended { conn.new.in_transaction ≡ false }
     ensures found { HasCleanDisk (state S.Store conn.new)
-        → IfOk result (λ it. Tells (IsRenter rental it) (state S.Store conn.old) (state S.Store conn.new)) }
+        → IfOk result (λ it. FindsAtRest (IsRenter rental it) (state S.Store conn.old) (state S.Store conn.new)) }
     ensures stays { HasCleanDisk (state S.Store conn.new) → Stays (state S.Store conn.old) (state S.Store conn.new) }
     ensures crash { Survives (state S.Store conn.old) (state S.Store conn.new) (λ _. ⊥) }
 {
@@ -248,7 +248,7 @@ pub fn last_accepted<S: Alter>(conn: &mut Connection<S>) -> Result<Option<EntryN
     requires { conn.old.in_transaction ≡ false }
     ensures ended { conn.new.in_transaction ≡ false }
     ensures found { HasCleanDisk (state S.Store conn.new)
-        → IfOk result (λ it. Tells (λ journal. option_map (λ row. row.number) it ≡ ends.last_accepted journal) (state S.Store conn.old) (state S.Store conn.new)) }
+        → IfOk result (λ it. FindsAtRest (λ journal. option_map (λ row. row.number) it ≡ ends.last_accepted journal) (state S.Store conn.old) (state S.Store conn.new)) }
     ensures stays { HasCleanDisk (state S.Store conn.new) → Stays (state S.Store conn.old) (state S.Store conn.new) }
     ensures crash { Survives (state S.Store conn.old) (state S.Store conn.new) (λ _. ⊥) }
 {
@@ -268,7 +268,7 @@ pub fn unsure_of<S: Alter>(
     requires { conn.old.in_transaction ≡ false }
     ensures ended { conn.new.in_transaction ≡ false }
     ensures found { HasCleanDisk (state S.Store conn.new)
-        → IfOk result (λ it. Tells (λ journal. map (λ row. row.number) it.items ≡ take 10 (unsure_before number journal)) (state S.Store conn.old) (state S.Store conn.new)) }
+        → IfOk result (λ it. FindsAtRest (λ journal. map (λ row. row.number) it.items ≡ take 10 (unsure_before number journal)) (state S.Store conn.old) (state S.Store conn.new)) }
     ensures stays { HasCleanDisk (state S.Store conn.new) → Stays (state S.Store conn.old) (state S.Store conn.new) }
     ensures crash { Survives (state S.Store conn.old) (state S.Store conn.new) (λ _. ⊥) }
 {

@@ -25,7 +25,7 @@ use Rattle.till_book.specs.Journal.{unsure_of, unsure_columns, rented_columns, r
 use Rattle.till_book.specs.Read.{IsReadOf, in_order}
 use Rattle.till_book.specs.declared.lists.BookRows.{BookRows}
 use Rattle.till_book.proofs.Numbers.{number}
-use Rattle.till_book.proofs.Told.{none_told, alike_settled, rents_silent, returns_silent}
+use Rattle.till_book.proofs.Marked.{none_told, alike_settled, rents_silent, returns_silent}
 use Rattle.till_book.proofs.InOrder.{accepted_in_order}
 use Rattle.till_book.proofs.JournalTexts.{entry_text, reply_text, settled_text, makes_entry, makes_reply, makes_settled, unsure_text, rented_text}
 use Rattle.till_book.proofs.JournalTexts.{returned_text, rented_as_text, stage, placeless, rented_as, makes_unsure, makes_rented, makes_returned}

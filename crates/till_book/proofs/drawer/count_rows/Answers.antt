@@ -2,8 +2,7 @@ use Rattle.sql_rows.proofs.Common.{◌≡◌, ◌∙◌, ◌+◌, ◌++◌, ◌<
 use Rattle.shop_model.specs.Values.{Command}
 use Rattle.till_book.specs.Saying.{Says}
 use Rattle.till_book.specs.Seen.{seen_reply}
-use Rattle.till_book.specs.Drawer.{counts, counted_from}
-use Rattle.till_book.specs.declared.drawer.Counted.{Counted}
+use Rattle.till_book.specs.Drawer.{Came, counts, counted_from}
 use Rattle.till_model.specs.Laws.{entries_of}
 use Rattle.sql_rows.proofs.Bags.{length-map}
 use Rattle.std.specs.Prelude.{drop}
@@ -30,7 +29,7 @@ loop-at-preserved c commands say =
     c.in_ok-it.ensures command (subst (λ (bytes : List ℕ). Says bytes command) (sym asked) says)
     ∙ ap (λ o. counts n known late c.in_ok-number.number (record { command = command; reply = o })) c.reply_at-reply.ensures
     ∙ ap (λ (m : ℕ). counts n known late m (record { command = command; reply = slice_get answers i })) place in
-    ap (λ (l : List Counted). l ++ counted_from n known late (k + (i + 1)) (drop (i + 1) (entries_of commands answers))) c.in_ok-push_counted.ensures
+    ap (λ (l : List Came). l ++ counted_from n known late (k + (i + 1)) (drop (i + 1) (entries_of commands answers))) c.in_ok-push_counted.ensures
     ∙ one_counted n known late k i requests entry.request commands answers c.loop-at.all.items
     (option_to_list c.in_ok-it.it) say there counts_it (c.loop-at.invariant commands say)
 

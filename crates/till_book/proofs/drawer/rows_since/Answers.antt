@@ -30,7 +30,7 @@ returns g c =
       is_since n known from c.in_ok-replies.replies c.in_ok-rows.rows journal c.in_ok-settled.settled _ holds.stands.is.once settled.1
           (c.in_ok-late.ensures ∙ ap late_of c.as_slice.ensures) low before rows.1
           (λ commands say.
-          c.in_ok-counted.ensures commands (subst (λ l. Say l commands) (sym c.as_slice-entries.ensures) say)
+          c.in_ok-came.ensures commands (subst (λ l. Say l commands) (sym c.as_slice-entries.ensures) say)
           ∙ ap (λ l. counted_from n known l (from + 1) (entries_of commands answers)) c.as_slice-3.ensures.value
           ∙ ap (λ l. counted_from n known late (from + 1) (entries_of commands l)) c.as_slice-answers.ensures)
           replies.1,
