@@ -1,6 +1,8 @@
 -- Which row of a sheet is a copy's, and what it says.
 use Rattle.std.specs.Prelude.{ℕ, ◌==◌, ◌&&◌, Bool, false, List, [], ◌∷◌, length, take, nat_lt, Option, Some, None, if◌then◌else◌, codes, unwrap_or}
+use Rattle.std.specs.Prelude.{chars, encode_utf8_all}
 use Rattle.std.specs.Str.{bytes_eq}
+use Rattle.caseless.specs.Caseless.{default_case_fold}
 use Rattle.csv.specs.Reading.{default_config, records_from, strip_bom}
 use Rattle.csv.specs.Records.{field_at}
 use Rattle.csv.specs.declared.parser.State.TheVariants as st
@@ -51,6 +53,29 @@ row_of fields = record {
 abbrev pub first_row : ℕ → List (List Text) → Option Row
 first_row copy [] = None
 first_row copy (fields ∷ more) = if is_row_of copy fields then Some (row_of fields) else first_row copy more
+
+-- ---- lines with names
+
+-- the text without upper and lower case, of any script (Unicode's default case folding)
+abbrev pub folded : Text → Text
+folded text = encode_utf8_all (default_case_fold (chars text))
+
+-- the record is a line of that kind with that name, but for upper and lower case
+abbrev pub is_named : Text → Text → List Text → Bool
+is_named kind name fields = bytes_eq (text_at 0 fields) kind && bytes_eq (folded (text_at 5 fields)) (folded name)
+
+-- the number in the first line of that kind with that name
+abbrev pub first_number : Text → Text → List (List Text) → Option ℕ
+first_number kind name [] = None
+first_number kind name (fields ∷ more) = if is_named kind name fields then number_at 3 fields else first_number kind name more
+
+-- ---- a sheet
+
+-- The number that a sheet has for a name of that kind, if it has one; none of a text that doesn't begin as a sheet does. Only the first million records are
+-- read.
+unfoldable pub number_in_sheet : Text → Text → Text → Option (Option ℕ)
+number_in_sheet kind name text =
+    if has_header text then Some (first_number kind name (records_from default_config 1000000 st.StartRecord (strip_bom text))) else None
 
 -- The first row of the copy in a sheet, if it has one; none of a text that doesn't begin as a sheet does. Only the first million records are read.
 unfoldable pub row_in_sheet : ℕ → Text → Option (Option Row)

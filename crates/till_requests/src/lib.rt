@@ -22,7 +22,8 @@ pub use moments::{moment_at, next_moment};
 pub use office::{
     NotSaid, OfficeLookSealed, OfficeSealed, is_office_look, office_look_request, office_request,
 };
+pub use same::is_same_act;
 pub use settings::{NoSettings, Settings, read_settings, settings_text};
-pub use sheet::{SheetFault, SheetRow, find_row};
+pub use sheet::{SheetFault, SheetRow, find_number, find_row};
 pub use zone_parts::{ZoneName, ZoneOffset};
 pub use zones::{Zone, zone_offset, zone_second};

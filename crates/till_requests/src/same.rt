@@ -23,7 +23,7 @@ fn is_same_list<const KIND: u8>(one: &Numbers<KIND>, two: &Numbers<KIND>) -> boo
 }
 
 /// Returns true only if both acts do the same.
-pub(crate) fn is_same_act(one: &Act, two: &Act) -> bool
+pub fn is_same_act(one: &Act, two: &Act) -> bool
     ensures { result ≡ true → seen_act one.now ≡ seen_act two.now }
 {
     match (one, two) {

@@ -7,10 +7,12 @@ ghost use Rattle.csv.specs.declared.parser.State.{State};
 ghost use Rattle.csv.specs.declared.parser.State.TheVariants as st;
 ghost use Rattle.till_requests.specs.SheetProgress.{IsAt, Found};
 ghost use Rattle.till_requests.specs.SheetRows.{text_at, has_header, is_row_of, row_of, first_row, row_in_sheet};
+ghost use Rattle.till_requests.specs.SheetRows.{folded, is_named, first_number, number_in_sheet};
 ghost use Rattle.till_requests.specs.SheetSeen.{seen_row};
 
+use caseless::default_case_fold_str;
 use csv::{ByteRecord, Reader, ReaderBuilder};
-use shop_types::{CopyNo, CustomerNo, FilmNo, RentalNo};
+use shop_types::{CopyNo, CustomerNo, FilmNo, RentalNo, RowNumber};
 use std::alloc::Global;
 
 /// The line that a sheet begins with.
@@ -165,4 +167,76 @@ pub fn find_row(alloc: Global, text: &[u8], copy: CopyNo) -> Result<Option<Sheet
     }
     let mut reader = start(alloc, text);
     row_among(alloc, &mut reader, copy)
+}
+
+// ---- lines with names
+
+/// Returns the text without upper and lower case.
+fn folded(alloc: Global, text: &str) -> Result<String, SheetFault>
+    ensures text { IfOk result (λ s. string_bytes s ≡ folded text.now) }
+    ensures fault { IfErr result (λ fault. fault ≡ SheetFault.OtherHeader → ⊥) }
+{
+    match default_case_fold_str(alloc, text) {
+        Ok(text) => Ok(text),
+        Err(_) => Err(SheetFault::Memory),
+    }
+}
+
+/// Tests whether a record is a line of that kind with that name, but for upper and lower case. Fails with `NotText` if
+/// it is of that kind, and its name isn't text.
+fn is_named(alloc: Global, fields: &ByteRecord, kind: &str, name: &str) -> Result<bool, SheetFault>
+    ensures is { IfOk result (λ it. it ≡ is_named kind.now name.now (fields_of fields.now)) }
+    ensures fault { IfErr result (λ fault. fault ≡ SheetFault.OtherHeader → ⊥) }
+{
+    if text_at(fields, 0) != kind.as_bytes() {
+        return Ok(false);
+    }
+    let Ok(own) = std::str::from_utf8(text_at(fields, 5)) else {
+        return Err(SheetFault::NotText);
+    };
+    let own = folded(alloc, own)?;
+    let other = folded(alloc, name)?;
+    Ok(own.as_bytes() == other.as_bytes())
+}
+
+/// Returns the number in the first line of that kind with that name among the records that are left.
+fn number_among<const KIND: u8>(
+    alloc: Global,
+    reader: &mut Reader<&[u8]>,
+    kind: &str,
+    name: &str,
+) -> Result<Option<RowNumber<KIND>>, SheetFault>
+    ensures number { IfOk result (λ number. (s : State) (rest : List ℕ) → IsAt reader.old s rest
+        → first_number kind.now name.now (records_from default_config 1000000 s rest) ≡ number) }
+    ensures fault { IfErr result (λ fault. fault ≡ SheetFault.OtherHeader → ⊥) }
+{
+    let mut fields = ByteRecord::new(alloc);
+    for at in 0..MOST {
+        if !next(reader, &mut fields)? {
+            return Ok(None);
+        }
+        if is_named(alloc, &fields, kind, name)? {
+            return Ok(RowNumber::read(text_at(&fields, 3)));
+        }
+    }
+    Ok(None)
+}
+
+/// Returns the number that a sheet of version 1 has for a name of that kind, if it has one: `city` for cities, and `staff`
+/// for members of the branch's staff. Upper and lower case are the same. Fails with `OtherHeader` if the text doesn't
+/// begin as a sheet does.
+pub fn find_number<const KIND: u8>(
+    alloc: Global,
+    text: &[u8],
+    kind: &str,
+    name: &str,
+) -> Result<Option<RowNumber<KIND>>, SheetFault>
+    ensures number { IfOk result (λ number. number_in_sheet kind.now name.now text.now ≡ Some number) }
+    ensures header { IfErr result (λ fault. fault ≡ SheetFault.OtherHeader → has_header text.now ≡ false) }
+{
+    if !has_header(text) {
+        return Err(SheetFault::OtherHeader);
+    }
+    let mut reader = start(alloc, text);
+    number_among(alloc, &mut reader, kind, name)
 }

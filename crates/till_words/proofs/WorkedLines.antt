@@ -12,7 +12,7 @@ use Rattle.till_words.specs.PromptLine.{words_of}
 
 -- a line with nothing before its word
 abbrev line : TillAct → TillLine
-line act = record { book = None; is_json = false; is_sure = false; staff = None; act = act }
+line act = record { book = None; is_json = false; is_sure = false; staff = None; drawer = None; act = act }
 
 -- ---- places and names
 
@@ -127,16 +127,32 @@ init_of_an_office = refl
 -- ---- options before the word, and words after `office`
 
 pub yes_before : till_line_of (codes "--yes" ∷ codes "scrap" ∷ codes "4" ∷ [])
-    ≡ Some (record { book = None; is_json = false; is_sure = true; staff = None; act = till.Do (act.Scrap 4) })
+    ≡ Some (record { book = None; is_json = false; is_sure = true; staff = None; drawer = None; act = till.Do (act.Scrap 4) })
 unfolding clap_on_literals read_of till_line_of
 yes_before = refl
+
+pub drawer_before : till_line_of (codes "--drawer" ∷ codes "2" ∷ codes "day" ∷ [])
+    ≡ Some (record { book = None; is_json = false; is_sure = false; staff = None; drawer = Some 2; act = till.Day drawer.Since })
+unfolding clap_on_literals read_of till_line_of
+drawer_before = refl
+
+pub drawer_of_no_number : till_line_of (codes "--drawer" ∷ codes "0" ∷ codes "day" ∷ []) ≡ None
+unfolding clap_on_literals read_of till_line_of
+drawer_of_no_number = refl
 
 pub no_words : till_line_of [] ≡ Some (line till.Prompt)
 unfolding clap_on_literals read_of till_line_of
 no_words = refl
 
 pub office_of_a_book : till_line_of (codes "--book" ∷ codes "b" ∷ codes "--json" ∷ codes "office" ∷ codes "audit" ∷ codes "--db" ∷ [])
-    ≡ Some (record { book = Some (codes "b"); is_json = true; is_sure = false; staff = None; act = till.Office (codes "audit" ∷ codes "--db" ∷ []) })
+    ≡ Some (record {
+      book = Some (codes "b");
+      is_json = true;
+      is_sure = false;
+      staff = None;
+      drawer = None;
+      act = till.Office (codes "audit" ∷ codes "--db" ∷ []);
+    })
 unfolding clap_on_literals read_of till_line_of
 office_of_a_book = refl
 

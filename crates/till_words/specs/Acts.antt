@@ -9,6 +9,7 @@ use Rattle.till_words.specs.declared.acts.Names.{Names}
 use Rattle.till_words.specs.declared.acts.Contact.{Contact}
 use Rattle.till_words.specs.declared.acts.Owner.{Owner}
 use Rattle.till_words.specs.declared.words.Beginning.{Beginning}
+use Rattle.till_words.specs.declared.words.PersonIn.{PersonIn}
 use Rattle.till_words.specs.declared.words.TillLook.{TillLook}
 use Rattle.till_words.specs.declared.words.TillLook.TheVariants as look
 use Rattle.till_words.specs.declared.words.TillAct.{TillAct}
@@ -60,9 +61,24 @@ contact_of rows =
     with_value (text_given 0 45 (codes "phone") rows) (λ phone.
     Some (record { address = address; postal = postal; phone = phone }))))
 
-abbrev pub person_of : List Row → Option Person
-person_of rows =
-    with_value (row_given (codes "city") rows) (λ city.
+-- who joins in the city of that number
+abbrev pub person_of : ℕ → List Row → Option Person
+person_of city rows =
+    with_value (names_of rows) (λ names.
+    with_value (contact_of rows) (λ contact.
+    Some (record {
+      first = names.first;
+      last = names.last;
+      address = contact.address;
+      postal = contact.postal;
+      phone = contact.phone;
+      city = city;
+    })))
+
+-- who joins in a city that is named
+abbrev pub person_in : List Row → Option PersonIn
+person_in rows =
+    with_value (text_given 1 128 (codes "city") rows) (λ city.
     with_value (names_of rows) (λ names.
     with_value (contact_of rows) (λ contact.
     Some (record {
@@ -73,6 +89,14 @@ person_of rows =
       phone = contact.phone;
       city = city;
     }))))
+
+abbrev pub join_to : Option ℕ → List Row → Option TillAct
+join_to (Some city) rows = option_map (λ person. till.Do (act.Customer (record { person = person }))) (person_of city rows)
+join_to None rows = option_map till.JoinIn (person_in rows)
+
+-- a city that isn't written as a number is a name
+abbrev pub join_of : List Row → Option TillAct
+join_of rows = join_to (row_given (codes "city") rows) rows
 
 abbrev pub active_of : Bool → List Row → Option Act
 active_of active rows = option_map (λ customer. act.Active customer active) (row_given (codes "customer") rows)
@@ -178,7 +202,7 @@ abbrev pub counter_act_of : Text → List Row → Option TillAct
 counter_act_of name rows = if bytes_eq name (codes "rent") then option_map till.Do (rent_of rows)
     else (if bytes_eq name (codes "return") then return_of rows
     else (if bytes_eq name (codes "pay") then option_map till.Do (pay_of rows)
-    else (if bytes_eq name (codes "join") then option_map (λ person. till.Do (act.Customer (record { person = person }))) (person_of rows)
+    else (if bytes_eq name (codes "join") then join_of rows
     else (if bytes_eq name (codes "bar") then option_map till.Do (active_of false rows)
     else (if bytes_eq name (codes "unbar") then option_map till.Do (active_of true rows)
     else stock_act_of name rows)))))

@@ -1,4 +1,5 @@
--- The command line of a till, as the library `clap` sees it: `[--book FILE] [--json] [--staff N] [--yes] WORD [OPTION]..`, without the program's name.
+-- The command line of a till, as the library `clap` sees it, without the program's name:
+-- `[--book FILE] [--drawer N] [--json] [--staff N] [--yes] WORD [OPTION]..`.
 use Rattle.std.specs.Prelude.{true, List, [], ◌∷◌, Some, codes, fold}
 use Rattle.clap.specs.Words.{App, Rule, Shape, Text, new_rule, with_subcommand}
 use Rattle.clap.specs.Simple.{new_shape}
@@ -62,7 +63,7 @@ pay_shape = word_shape (codes "pay")
 abbrev pub join_shape : Shape
 join_shape = word_shape (codes "join")
     (text_rule (codes "first") ∷ text_rule (codes "last") ∷ text_rule (codes "address") ∷ text_rule (codes "phone")
-    ∷ row_rule (codes "city") ∷ default_rule (codes "postal") [] ∷ [])
+    ∷ text_rule (codes "city") ∷ default_rule (codes "postal") [] ∷ [])
 
 abbrev pub import_shape : Shape
 import_shape = word_shape (codes "import") (text_rule (codes "file") ∷ text_rule (codes "lot") ∷ [])
@@ -123,7 +124,8 @@ till_shapes = word_shape (codes "waiting") [] ∷ word_shape (codes "send") [] �
 abbrev pub top_app : App
 top_app = record {
   top = record (new_shape (codes "till")) {
-    rules = optional_rule (codes "book") ∷ flag_rule (codes "json") ∷ optional_row_rule (codes "staff") ∷ flag_rule (codes "yes") ∷ [];
+    rules = optional_rule (codes "book") ∷ optional_row_rule (codes "drawer") ∷ flag_rule (codes "json") ∷ optional_row_rule (codes "staff")
+        ∷ flag_rule (codes "yes") ∷ [];
     no_binary_name = true;
     disable_help_subcommand = true;
   };

@@ -21,9 +21,16 @@ entered_act office (Some entered) = act_of office entered.0 entered.1
 abbrev pub line_from : List Text → List Row → Option (Text × List Row) → Option TillLine
 line_from office rows entered =
     with_value (optional_row_given (codes "staff") rows) (λ staff.
+    with_value (optional_row_given (codes "drawer") rows) (λ drawer.
     with_value (optional_text_given 1 1000 (codes "book") rows) (λ book.
-    with_value (entered_act office entered) (λ act.
-    Some (record { book = book; is_json = flag_given (codes "json") rows; is_sure = flag_given (codes "yes") rows; staff = staff; act = act }))))
+    with_value (entered_act office entered) (λ act. Some (record {
+      book = book;
+      is_json = flag_given (codes "json") rows;
+      is_sure = flag_given (codes "yes") rows;
+      staff = staff;
+      drawer = drawer;
+      act = act;
+    })))))
 
 -- the line, if clap finds no fault with the words
 unfoldable pub read_of : List Text → List Text → Option TillLine

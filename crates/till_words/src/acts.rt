@@ -5,11 +5,11 @@ ghost use Rattle.till_words.specs.Places as places;
 ghost use Rattle.till_words.specs.declared.words.TillLook.TheVariants as look;
 
 use crate::given::{NUMBER, PAYMENT, RETURN, TOKEN, WHOSE, ZONE};
-use crate::words::{Beginning, TillAct, TillLook, WordList, ZoneText};
+use crate::words::{Beginning, PersonIn, TillAct, TillLook, WordList, ZoneText};
 use crate::{days, given, named};
 use clap::ArgMatches;
 use shop_types::{
-    Act, CopyNo, L45, NewCustomer, Person, RentalNo, RowNumber, StaffNo, T45, T128, Usage,
+    Act, CityNo, CopyNo, L45, NewCustomer, Person, RentalNo, RowNumber, StaffNo, T45, T128, Usage,
 };
 use std::alloc::Global;
 
@@ -90,10 +90,10 @@ fn contact_details(alloc: Global, given: &ArgMatches<'_>) -> Result<Contact, Usa
     })
 }
 
-fn person(alloc: Global, given: &ArgMatches<'_>) -> Result<Person, Usage>
-    ensures { Reads result (spec.person_of (values_of given.now)) }
+/// Returns who joins in the city of that number.
+fn person(alloc: Global, given: &ArgMatches<'_>, city: CityNo) -> Result<Person, Usage>
+    ensures { Reads result (spec.person_of city (values_of given.now)) }
 {
-    let city = given::of_kind(alloc, given::row(given, "city"), NUMBER)?;
     let names = name_details(alloc, given)?;
     let contact = contact_details(alloc, given)?;
     Ok(Person {
@@ -104,6 +104,35 @@ fn person(alloc: Global, given: &ArgMatches<'_>) -> Result<Person, Usage>
         phone: contact.phone,
         city,
     })
+}
+
+/// Returns who joins in a city that is named.
+fn person_in(alloc: Global, given: &ArgMatches<'_>) -> Result<PersonIn, Usage>
+    ensures { Reads result (spec.person_in (values_of given.now)) }
+{
+    let city = given::text(alloc, given, "city")?;
+    let names = name_details(alloc, given)?;
+    let contact = contact_details(alloc, given)?;
+    Ok(PersonIn {
+        first: names.first,
+        last: names.last,
+        address: contact.address,
+        postal: contact.postal,
+        phone: contact.phone,
+        city,
+    })
+}
+
+/// Returns what the word `join` asks for. A city that isn't written as a number is a name.
+fn joined(alloc: Global, given: &ArgMatches<'_>) -> Result<TillAct, Usage>
+    ensures { Reads result (spec.join_of (values_of given.now)) }
+{
+    match given::row(given, "city") {
+        Some(city) => Ok(TillAct::Do(Act::Customer(NewCustomer {
+            person: person(alloc, given, city)?,
+        }))),
+        None => Ok(TillAct::JoinIn(person_in(alloc, given)?)),
+    }
 }
 
 fn active(given: &ArgMatches<'_>, active: bool) -> Option<Act>
@@ -321,9 +350,7 @@ fn counter_act(alloc: Global, name: &str, given: &ArgMatches<'_>) -> Result<Till
         "rent" => Ok(TillAct::Do(given::of_kind(alloc, rent(given), NUMBER)?)),
         "return" => given::of_kind(alloc, returned(given), RETURN),
         "pay" => Ok(TillAct::Do(given::of_kind(alloc, pay(given), PAYMENT)?)),
-        "join" => Ok(TillAct::Do(Act::Customer(NewCustomer {
-            person: person(alloc, given)?,
-        }))),
+        "join" => joined(alloc, given),
         "bar" => Ok(TillAct::Do(given::of_kind(alloc, active(given, false), NUMBER)?)),
         "unbar" => Ok(TillAct::Do(given::of_kind(alloc, active(given, true), NUMBER)?)),
         _ => stock_act(alloc, name, given),

@@ -113,6 +113,7 @@ fn line(alloc: Global, words: &[String], found: &ArgMatches<'_>) -> Result<TillL
         (subcommand_rows_of found.now)) }
 {
     let staff = given::of_kind(alloc, given::optional_row(found, "staff"), given::NUMBER)?;
+    let drawer = given::of_kind(alloc, given::optional_row(found, "drawer"), given::NUMBER)?;
     let book = given::optional_text(alloc, found, "book")?;
     let act = entered(alloc, words, found)?;
     Ok(TillLine {
@@ -120,6 +121,7 @@ fn line(alloc: Global, words: &[String], found: &ArgMatches<'_>) -> Result<TillL
         is_json: given::flag(found, "json"),
         is_sure: given::flag(found, "yes"),
         staff,
+        drawer,
         act,
     })
 }

@@ -21,8 +21,9 @@ pub(crate) struct Subcommand {
 }
 
 /// The options before the word.
-static OPTIONS: [(&'static str, Kind); 4] = [
+static OPTIONS: [(&'static str, Kind); 5] = [
     ("book", Kind::OptionalText),
+    ("drawer", Kind::OptionalRow),
     ("json", Kind::Flag),
     ("staff", Kind::OptionalRow),
     ("yes", Kind::Flag),
@@ -35,7 +36,7 @@ pub(crate) fn top_word() -> Subcommand
     Subcommand {
         name: "till",
         about: "Do a word of the till: till WORD ..",
-        usage: "till [--book FILE] [--staff N] [--json] [--yes] WORD ..",
+        usage: "till [--book FILE] [--staff N] [--drawer N] [--json] [--yes] WORD ..",
         example: "till rent 17 4",
         options: &OPTIONS,
     }
@@ -79,7 +80,7 @@ pub(crate) static SUBCOMMANDS: [Subcommand; 32] = [
             ("last", Kind::Text),
             ("address", Kind::Text),
             ("phone", Kind::Text),
-            ("city", Kind::Row),
+            ("city", Kind::Text),
             ("postal", Kind::DefaultText("")),
         ],
     },

@@ -19,5 +19,6 @@ mod words;
 pub use clap_words::{asks_for_help, help_text, read_till_words};
 pub use lines::split_line;
 pub use words::{
-    Beginning, DayText, Drawer, FileName, TillAct, TillLine, TillLook, WordList, ZoneText,
+    Beginning, DayText, Drawer, DrawerNo, FileName, PersonIn, TillAct, TillLine, TillLook,
+    WordList, ZoneText,
 };

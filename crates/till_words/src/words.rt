@@ -1,10 +1,15 @@
 ghost use Rattle.std.specs.Prelude.{◌≡◌, map, string_bytes};
 
-use shop_types::{Act, CopyNo, CustomerNo, FilmNo, LotName, StaffNo, T128, Text, Token};
+use shop_types::{
+    Act, CopyNo, CustomerNo, FilmNo, L45, LotName, RowNumber, StaffNo, T45, T128, Text, Token,
+};
 use std::marker::Model;
 
 /// The name of a file: 1 to 1,000 bytes of UTF-8 with no control byte.
 pub type FileName = Text<1, 1000>;
+
+/// The number of a drawer, from 1 on. No table has that kind of number.
+pub type DrawerNo = RowNumber<100>;
 
 /// The name of a zone, as it was typed: 1 to 60 bytes of UTF-8 with no control byte.
 pub type ZoneText = Text<1, 60>;
@@ -78,6 +83,19 @@ pub enum TillLook {
     Sales,
 }
 
+/// Who a customer is, with the city's name in the place of its number.
+#[derive(Drop)]
+pub struct PersonIn {
+    pub first: T45,
+    pub last: T45,
+    pub address: T128,
+    /// The postal code, which may be empty.
+    pub postal: L45,
+    /// The telephone number, which may be empty.
+    pub phone: L45,
+    pub city: T128,
+}
+
 /// A date as it is typed, in 10 bytes: `2026-03-09`.
 pub type DayText = Text<10, 10>;
 
@@ -99,6 +117,8 @@ pub enum TillAct {
     Init(Beginning),
     /// To enter a command of a branch.
     Do(Act),
+    /// To add a customer whose city is named. The branch's sheet has its number.
+    JoinIn(PersonIn),
     /// To take a copy back, for whichever rental of the copy the till knows.
     ReturnCopy(CopyNo),
     /// To enter an import of this stock file, under this lot's name.
@@ -139,5 +159,7 @@ pub struct TillLine {
     pub is_sure: bool,
     /// The member of staff at the till, if another than the one that the book was made for.
     pub staff: Option<StaffNo>,
+    /// The drawer at which the line is said, if one is named.
+    pub drawer: Option<DrawerNo>,
     pub act: TillAct,
 }

@@ -6,4 +6,5 @@ use Rattle.till_requests.proofs.sheet.row_among.Given as goal
 
 abbrev pub invariant-loop-at : goal.invariant-loop-at
 invariant-loop-at l =
-    (s : State) (rest : Text) → IsAt l.fn.reader s rest → Going l.fn.copy (first_row l.fn.copy (rest_of 1000000 s rest)) l.at l.reader
+    (s : State) (rest : Text) → IsAt l.fn.reader s rest
+    → Going (first_row l.fn.copy) (first_row l.fn.copy (rest_of 1000000 s rest)) l.at l.reader

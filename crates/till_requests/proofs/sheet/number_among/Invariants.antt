@@ -1,0 +1,10 @@
+use Rattle.csv.specs.declared.parser.State.{State}
+use Rattle.till_requests.specs.SheetProgress.{IsAt}
+use Rattle.till_requests.specs.SheetRows.{Text, first_number}
+use Rattle.till_requests.proofs.SheetLemmas.{Going, rest_of}
+use Rattle.till_requests.proofs.sheet.number_among.Given as goal
+
+abbrev pub invariant-loop-at : goal.invariant-loop-at
+invariant-loop-at g l =
+    (s : State) (rest : Text) → IsAt l.fn.reader s rest
+    → Going (first_number l.fn.kind l.fn.name) (first_number l.fn.kind l.fn.name (rest_of 1000000 s rest)) l.at l.reader
