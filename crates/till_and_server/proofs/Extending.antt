@@ -5,7 +5,7 @@ use Rattle.shop_model.proofs.Resends.{same_some, same_none}
 use Rattle.till_model.proofs.Settled.{all_of}
 use Rattle.till_book.specs.Journal.{Journal}
 use Rattle.till_work.specs.Settling.{OfEntry}
-use Rattle.till_work.specs.Told.{IsTold, IsToldAt, AreTold, IsSettledAt}
+use Rattle.till_work.specs.Exchanged.{IsExchanged, IsExchangedAt, AreExchanged, IsSettledAt}
 use Rattle.till_work.specs.Desk.{Extends}
 use Rattle.till_and_server.specs.Streams.{Streams}
 use Rattle.till_and_server.specs.ServedLives.{ServedLife}
@@ -29,30 +29,31 @@ all_join : {X : Type 0} (P : X → Type 0) (xs ys : List X) → AllByRecursion P
 all_join P [] ys one two = two
 all_join P (x ∷ xs) ys one two = (one.0, all_join P xs ys one.1 two)
 
-told_at : (Tells : List ℕ → Answer → Type 0) (entries : List (List ℕ)) (n : ℕ) (answers : List Answer)
-    → AreTold Tells entries n answers → (i : ℕ) (answer : Answer)
-    → slice_get answers i ≡ Some answer → IsToldAt Tells entries (n + i) answer
-told_at Tells entries n [] told i answer there = absurd (same_none answer there)
-told_at Tells entries n (x ∷ answers) told zero answer there =
+told_at : (Exchanged : List ℕ → Answer → Type 0) (entries : List (List ℕ)) (n : ℕ) (answers : List Answer)
+    → AreExchanged Exchanged entries n answers → (i : ℕ) (answer : Answer)
+    → slice_get answers i ≡ Some answer → IsExchangedAt Exchanged entries (n + i) answer
+told_at Exchanged entries n [] told i answer there = absurd (same_none answer there)
+told_at Exchanged entries n (x ∷ answers) told zero answer there =
     let same : x ≡ answer = same_some x answer there in
-    subst (λ (k : ℕ). IsToldAt Tells entries k answer) (omega arith) (subst (λ (a : Answer). IsToldAt Tells entries n a) same told.0)
-told_at Tells entries n (x ∷ answers) told (suc i) answer there =
+    subst (λ (k : ℕ). IsExchangedAt Exchanged entries k answer) (omega arith) (subst (λ (a : Answer). IsExchangedAt Exchanged entries n a) same told.0)
+told_at Exchanged entries n (x ∷ answers) told (suc i) answer there =
     let place : n + 1 + i ≡ n + suc i = omega arith in
-    subst (λ (k : ℕ). IsToldAt Tells entries k answer) place (told_at Tells entries (n + 1) answers told.1 i answer there)
+    subst (λ (k : ℕ). IsExchangedAt Exchanged entries k answer) place (told_at Exchanged entries (n + 1) answers told.1 i answer there)
 
 -- ---- a book
 
 module _ {R W : Type 0} (opens : R → W → Type 0) (remaining : R → Option (List ℕ))
     (contents : W → Option (List ℕ)) (rules : Rules) (b : ℕ) (lives : List ServedLife) (old : Books) where
   -- an exchange that the chain answered was recorded
-  was_answered : AreAnswered opens remaining contents rules b lives old → (request : List ℕ) (answer : Answer) → IsTold opens remaining contents request answer
+  was_answered : AreAnswered opens remaining contents rules b lives old → (request : List ℕ) (answer : Answer)
+      → IsExchanged opens remaining contents request answer
       → WasRecorded rules b lives old request answer
   was_answered answered request answer it =
       let till : Streams = record { input = remaining it.reader; left = remaining it.read; output = contents it.writer; written = contents it.written } in
       was_recorded rules b lives old request answer till it.writes it.reads it.decided (answered request answer it)
 
   module _ (before after : Journal) (answered : AreAnswered opens remaining contents rules b lives old)
-      (extends : Extends (IsTold opens remaining contents) before after) where
+      (extends : Extends (IsExchanged opens remaining contents) before after) where
     abbrev Was : ℕ → Answer → Type 0
     Was i answer = (request : List ℕ) × (slice_get after.entries i ≡ Some request) × WasRecorded rules b lives old request answer
 
@@ -60,7 +61,7 @@ module _ {R W : Type 0} (opens : R → W → Type 0) (remaining : R → Option (
     there_still : (i : ℕ) (request : List ℕ) → slice_get before.entries i ≡ Some request → slice_get after.entries i ≡ Some request
     there_still i request there = ap (λ (es : List (List ℕ)). slice_get es i) extends.entries.1 ∙ still_at before.entries extends.entries.0 i request there
 
-    from_told : (i : ℕ) (answer : Answer) → IsToldAt (IsTold opens remaining contents) after.entries i answer → Was i answer
+    from_told : (i : ℕ) (answer : Answer) → IsExchangedAt (IsExchanged opens remaining contents) after.entries i answer → Was i answer
     from_told i answer told = (told.0, told.1, was_answered answered told.0 answer told.2)
 
     stay_recorded : WereRecorded rules b lives old before → WereRecorded rules b lives old after
@@ -68,7 +69,7 @@ module _ {R W : Type 0} (opens : R → W → Type 0) (remaining : R → Option (
         each_place Was before.replies extends.replies.0 (λ k a at. let it = recorded k a at in (it.0, there_still k it.0 it.1, it.2))
         (λ k a at.
         from_told (length before.replies + k) a
-        (told_at (IsTold opens remaining contents) after.entries (length before.replies) extends.replies.0 extends.replies.2 k a at))
+        (told_at (IsExchanged opens remaining contents) after.entries (length before.replies) extends.replies.0 extends.replies.2 k a at))
         i answer
         (ap (λ (rs : List Answer). slice_get rs i) (sym extends.replies.1) ∙ there)
 
@@ -78,17 +79,17 @@ module _ {R W : Type 0} (opens : R → W → Type 0) (remaining : R → Option (
     noted_still : (it : ℕ × Answer) → Noted before it → Noted after it
     noted_still it was i is = let e = was i is in (e.0, there_still i e.0 e.1, e.2)
 
-    settled_noted : (it : ℕ × Answer) → IsSettledAt (IsTold opens remaining contents) after.entries it → Noted after it
+    settled_noted : (it : ℕ × Answer) → IsSettledAt (IsExchanged opens remaining contents) after.entries it → Noted after it
     settled_noted it settled i is =
         let first = settled.1 in
         let place : settled.0 ≡ i = omega (arith, first, is) in
-        from_told i it.1 (subst (λ (k : ℕ). IsToldAt (IsTold opens remaining contents) after.entries k it.1) place settled.2)
+        from_told i it.1 (subst (λ (k : ℕ). IsExchangedAt (IsExchanged opens remaining contents) after.entries k it.1) place settled.2)
 
     stay_noted : WereNoted rules b lives old before → WereNoted rules b lives old after
     stay_noted noted =
         subst (λ (all : List (ℕ × Answer)). AllByRecursion (Noted after) all) (sym extends.settled.1)
         (all_join (Noted after) before.settled extends.settled.0 (all_of (Noted before) (Noted after) noted_still before.settled noted)
-        (all_of (IsSettledAt (IsTold opens remaining contents) after.entries) (Noted after) settled_noted extends.settled.0 extends.settled.2))
+        (all_of (IsSettledAt (IsExchanged opens remaining contents) after.entries) (Noted after) settled_noted extends.settled.0 extends.settled.2))
 
 pub stays : {R W : Type 0} (opens : R → W → Type 0) (remaining : R → Option (List ℕ)) (contents : W → Option (List ℕ))
     → ExtendedBooksStayRecorded opens remaining contents

@@ -9,7 +9,7 @@ use Rattle.shop_model.proofs.Resends.{same_none}
 use Rattle.till_book.specs.Journal.{Journal}
 use Rattle.till_book.specs.Steps.{Rests}
 use Rattle.till_work.specs.Entering.{IsTillsBook}
-use Rattle.till_work.specs.Told.{IsTold}
+use Rattle.till_work.specs.Exchanged.{IsExchanged}
 use Rattle.till_work.specs.Stops.{IsLater}
 use Rattle.till_work.proofs.Stops.{later_then}
 use Rattle.till_and_server.specs.Laws.{LeadsOn, LivesOn, TillOverAStop}
@@ -17,12 +17,12 @@ use Rattle.till_and_server.proofs.Extending.{stays, words_reach}
 
 -- ---- one state after another
 
-module _ (Tells : List ℕ → Answer → Type 0) (mark : Text) where
+module _ (Exchanged : List ℕ → Answer → Type 0) (mark : Text) where
   abbrev RestsOn : State → Journal → List Command → Type 0
   RestsOn s journal commands =
-      (next : Journal) × (known : List Command) × Rests s next × IsTillsBook mark next known × IsLater Tells journal commands next known
+      (next : Journal) × (known : List Command) × Rests s next × IsTillsBook mark next known × IsLater Exchanged journal commands next known
 
-  leads_then : (old mid new : State) → LeadsOn Tells mark old mid → LeadsOn Tells mark mid new → LeadsOn Tells mark old new
+  leads_then : (old mid new : State) → LeadsOn Exchanged mark old mid → LeadsOn Exchanged mark mid new → LeadsOn Exchanged mark old new
   leads_then old mid new one two journal commands rests is =
       ∥∥₁_elim (one journal commands rests is) squash₁ (λ it.
       ∥∥₁_map (two it.0 it.1 it.2 it.3) (λ next.
@@ -31,11 +31,11 @@ module _ (Tells : List ℕ → Answer → Type 0) (mark : Text) where
         next.1,
         next.2,
         next.3,
-        later_then Tells journal it.0 next.0 commands it.1 next.1 it.4 next.4,
+        later_then Exchanged journal it.0 next.0 commands it.1 next.1 it.4 next.4,
       ) in r))
 
-  leads_to_last : {S : Type 0} (g : Ghosts S) (made : Held S) (books : List (Held S)) (last : Held S) → LivesOn g Tells mark made (books ++ last ∷ [])
-      → LeadsOn Tells mark (state g made) (state g last)
+  leads_to_last : {S : Type 0} (g : Ghosts S) (made : Held S) (books : List (Held S)) (last : Held S) → LivesOn g Exchanged mark made (books ++ last ∷ [])
+      → LeadsOn Exchanged mark (state g made) (state g last)
   leads_to_last g made [] last lives = lives.0
   leads_to_last g made (next ∷ books) last lives =
       leads_then (state g made) (state g next) (state g last) lives.0 (leads_to_last g next books last lives.1)
@@ -58,7 +58,7 @@ empty_is_tills mark = record {
 pub lives_reach : {S R W : Type 0} (g : Ghosts S) (opens : R → W → Type 0) (remaining : R → Option (List ℕ)) (contents : W → Option (List ℕ))
     → TillOverAStop g opens remaining contents
 lives_reach g opens remaining contents mark made books last rests life =
-    ∥∥₁_map (leads_to_last (IsTold opens remaining contents) mark g made books last life empty [] rests (empty_is_tills mark)) (λ it. (
+    ∥∥₁_map (leads_to_last (IsExchanged opens remaining contents) mark g made books last life empty [] rests (empty_is_tills mark)) (λ it. (
       it.0,
       it.1,
       it.2,

@@ -27,7 +27,7 @@ use Rattle.till_book.specs.Journal.{Journal}
 use Rattle.till_book.specs.Read.{in_order}
 use Rattle.till_book.specs.Steps.{Rests}
 use Rattle.till_work.specs.Entering.{IsTillsBook}
-use Rattle.till_work.specs.Told.{IsTold}
+use Rattle.till_work.specs.Exchanged.{IsExchanged}
 use Rattle.till_work.specs.Desk.{Extends}
 use Rattle.till_work.specs.Stops.{IsLater}
 use Rattle.till_and_server.specs.Streams.{Streams, Carries, IsWritten, Serving, Serves, ServesThese, WasExchanged}
@@ -172,7 +172,7 @@ SettledTillAndServer =
 -- the chain, in some life, answers each exchange over streams that a till's server opened
 abbrev pub AreAnswered : {R W : Type 0} → (R → W → Type 0) → (R → Option (List ℕ)) → (W → Option (List ℕ)) → Rules → ℕ → List ServedLife → Books → Type 0
 AreAnswered opens remaining contents rules b lives old =
-    (request : List ℕ) (answer : Answer) (it : IsTold opens remaining contents request answer)
+    (request : List ℕ) (answer : Answer) (it : IsExchanged opens remaining contents request answer)
     → IsAnsweredBy rules b lives old request answer
     (record { input = remaining it.reader; left = remaining it.read; output = contents it.writer; written = contents it.written })
 
@@ -180,7 +180,7 @@ AreAnswered opens remaining contents rules b lives old =
 abbrev pub ExtendedBooksStayRecorded : {R W : Type 0} → (R → W → Type 0) → (R → Option (List ℕ)) → (W → Option (List ℕ)) → Type 0
 ExtendedBooksStayRecorded opens remaining contents =
     (rules : Rules) (b : ℕ) (lives : List ServedLife) (old : Books) (before after : Journal) → AreAnswered opens remaining contents rules b lives old
-    → Extends (IsTold opens remaining contents) before after
+    → Extends (IsExchanged opens remaining contents) before after
     → (WereRecorded rules b lives old before → WereRecorded rules b lives old after) × (WereNoted rules b lives old before → WereNoted rules b lives old after)
 
 -- So it is from an empty book on, over any words: what the book says of its entries is what they did in the chain's books.
@@ -190,7 +190,7 @@ WordsReachTheDisk opens remaining contents =
     (journal : Journal) (commands : List Command) (lives : List ServedLife) (old new : Books)
     → Lives rules look (lives_of lives) old new → HasNumbers old → IsUnused (has_mark mark) (shop_of b old) → IsTillsBook mark journal commands
     → ComeFromEntries mark rules b journal.entries lives old → AreAnswered opens remaining contents rules b lives old
-    → Extends (IsTold opens remaining contents) (record { entries = []; replies = []; settled = [] }) journal
+    → Extends (IsExchanged opens remaining contents) (record { entries = []; replies = []; settled = [] }) journal
     → BecameSettled (has_mark mark) commands journal.replies (in_order journal.settled)
     (served_over (has_mark mark) rules b (lives_of lives) old) (shop_of b new)
 
@@ -199,21 +199,21 @@ WordsReachTheDisk opens remaining contents =
 -- From each till's book under the mark with which the one state rests, the other rests with a later one. What was in the book is a front part of that. So it is
 -- over each word, each stop in a word, and each opening of a book that was closed.
 abbrev pub LeadsOn : (List ℕ → Answer → Type 0) → Text → State → State → Type 0
-LeadsOn Tells mark old new =
+LeadsOn Exchanged mark old new =
     (journal : Journal) (commands : List Command) → Rests old journal → IsTillsBook mark journal commands
-    → ∥ ((next : Journal) × (known : List Command) × Rests new next × IsTillsBook mark next known × IsLater Tells journal commands next known) ∥₁
+    → ∥ ((next : Journal) × (known : List Command) × Rests new next × IsTillsBook mark next known × IsLater Exchanged journal commands next known) ∥₁
 
 -- the states of a till's book, each after the one before
 abbrev pub LivesOn : {S : Type 0} → Ghosts S → (List ℕ → Answer → Type 0) → Text → Held S → List (Held S) → Type 0
-LivesOn g Tells mark old [] = ⊤
-LivesOn g Tells mark old (new ∷ books) = LeadsOn Tells mark (state g old) (state g new) × LivesOn g Tells mark new books
+LivesOn g Exchanged mark old [] = ⊤
+LivesOn g Exchanged mark old (new ∷ books) = LeadsOn Exchanged mark (state g old) (state g new) × LivesOn g Exchanged mark new books
 
 -- A book was made, and over words, stops and openings in any order it came to a last state. With some till's book that rests. What that says of its entries is
 -- what they did in the chain's books.
 abbrev pub TillOverAStop : {S R W : Type 0} → Ghosts S → (R → W → Type 0) → (R → Option (List ℕ)) → (W → Option (List ℕ)) → Type 0
 TillOverAStop {S} g opens remaining contents =
     (mark : Text) (made : Held S) (books : List (Held S)) (last : Held S) → Rests (state g made) (record { entries = []; replies = []; settled = [] })
-    → LivesOn g (IsTold opens remaining contents) mark made (books ++ last ∷ [])
+    → LivesOn g (IsExchanged opens remaining contents) mark made (books ++ last ∷ [])
     → ∥ ((journal : Journal) × (commands : List Command) × Rests (state g last) journal × IsTillsBook mark journal commands
     × ((rules : Rules) (look : OfficeAsk → Books → Reply) (b : ℕ) (lives : List ServedLife) (old new : Books)
     → Lives rules look (lives_of lives) old new → HasNumbers old → IsUnused (has_mark mark) (shop_of b old)

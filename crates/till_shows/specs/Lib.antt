@@ -5,7 +5,7 @@ pub mod Bodies
 pub mod Fields
 pub mod Entries
 pub mod Refusals
-pub mod Told
+pub mod Refused
 pub mod Lines
 pub mod Tables
 pub mod Lists

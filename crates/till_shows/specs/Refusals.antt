@@ -81,6 +81,6 @@ advice_text refusal.Size = codes "Stop, and call whoever keeps the program."
 advice_text refusal.StoreFailed = codes "Call whoever keeps the program; the till tries again by itself."
 
 -- both sentences; for a stock file at fault, the text names the line
-abbrev pub told_text : Refusal → Text
-told_text (refusal.BadCsv fault) = codes "The stock file is at fault in line " ++ (decimal fault.line ++ (codes ". " ++ advice_text (refusal.BadCsv fault)))
-told_text it = fact_text it ++ (codes " " ++ advice_text it)
+abbrev pub refusal_text : Refusal → Text
+refusal_text (refusal.BadCsv fault) = codes "The stock file is at fault in line " ++ (decimal fault.line ++ (codes ". " ++ advice_text (refusal.BadCsv fault)))
+refusal_text it = fact_text it ++ (codes " " ++ advice_text it)

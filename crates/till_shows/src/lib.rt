@@ -13,11 +13,11 @@ mod numbers;
 mod parts;
 mod questions;
 mod refusals;
+mod refused;
 mod replies;
 mod sheets;
 mod slips;
 mod tables;
-mod told;
 
 pub use bodies::NotShown;
 pub use cents::money;
@@ -33,9 +33,9 @@ pub use looks::{
 };
 pub use moments::{age_words, day_words, moment_words};
 pub use questions::{is_covered, is_grave, owed_cents, question_on};
-pub use refusals::{Sentences, sentences_on, told_refusal};
+pub use refusals::{Sentences, refusal_sentences, sentences_on};
+pub use refused::refusal_in;
 pub use replies::reply_line;
 pub use sheets::{customer_sheet, film_sheet};
 pub use slips::{Slip, SlipKind, last_slip, rental_in, slip_text};
 pub use tables::{Column, Row, Side, Table};
-pub use told::refusal_in;

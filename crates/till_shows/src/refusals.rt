@@ -1,7 +1,7 @@
 //! What a refusal means to somebody at a counter, and what to do about it.
 
 ghost use Rattle.std.specs.Prelude.{◌≡◌, ◌++◌, codes, decimal, IfOk, string_bytes};
-ghost use Rattle.till_shows.specs.Refusals.{fact_text, advice_text, told_text};
+ghost use Rattle.till_shows.specs.Refusals.{fact_text, advice_text, refusal_text};
 
 use shop_types::Refusal;
 use std::alloc::{AllocError, Global};
@@ -104,7 +104,7 @@ fn advice(refusal: Refusal) -> &'static str
     }
 }
 
-/// Returns what a refusal says, and what somebody at the counter does about it. Only `told_refusal` names a stock
+/// Returns what a refusal says, and what somebody at the counter does about it. Only `refusal_sentences` names a stock
 /// file's line.
 pub fn sentences_on(refusal: Refusal) -> Sentences
     ensures fact { result.fact.now ≡ fact_text refusal }
@@ -117,8 +117,8 @@ pub fn sentences_on(refusal: Refusal) -> Sentences
 }
 
 /// Returns both sentences. For a stock file at fault, the text names the line.
-pub fn told_refusal(alloc: Global, refusal: Refusal) -> Result<String, AllocError>
-    ensures { IfOk result (λ s. string_bytes s ≡ told_text refusal) }
+pub fn refusal_sentences(alloc: Global, refusal: Refusal) -> Result<String, AllocError>
+    ensures { IfOk result (λ s. string_bytes s ≡ refusal_text refusal) }
 {
     let Sentences { fact, advice } = sentences_on(refusal);
     let told = match refusal {

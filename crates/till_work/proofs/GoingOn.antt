@@ -15,10 +15,10 @@ use Rattle.till_work.specs.Delivering.{Delivers, FailsToDeliver}
 use Rattle.till_work.specs.declared.fault.DeskFault.{DeskFault}
 use Rattle.till_work.specs.declared.fault.DeskFault.TheVariants as desk
 use Rattle.till_work.specs.declared.place.Place.{Place}
-use Rattle.till_work.specs.Told.{IsTold, IsToldAt, AreTold, AreSettled, IsUnanswered, IsPutOff}
-use Rattle.till_work.specs.Desk.{HasPlace, IsAt, Extends, Becomes, HasMore, GoesOn, Grows, Stays, EntersOne, AnswersOne, AreSent, Sends, TellsLast, IsLastOf}
-use Rattle.till_work.specs.Desk.{with_replies, IsWhy, FailsToTell, FailsToSend, IsBookKept}
-use Rattle.till_work.proofs.Telling.{all_told_more, told_then, all_settled_more, settled_then}
+use Rattle.till_work.specs.Exchanged.{IsExchanged, IsExchangedAt, AreExchanged, AreSettled, IsUnanswered, IsPutOff}
+use Rattle.till_work.specs.Desk.{HasPlace, IsAt, Extends, Becomes, HasMore, GoesOn, Grows, Stays, EntersOne, AnswersOne, AreSent, Sends, ReturnsLast, IsLastOf}
+use Rattle.till_work.specs.Desk.{with_replies, IsWhy, FailsToExchange, FailsToSend, IsBookKept}
+use Rattle.till_work.proofs.Exchanging.{all_told_more, told_then, all_settled_more, settled_then}
 
 -- a list that goes on a list that goes on a list goes on it
 pub more_then : {A : Type 0} (x y z a b : List A) → y ≡ x ++ a → z ≡ y ++ b → z ≡ x ++ (a ++ b)
@@ -54,48 +54,48 @@ rests_stays place old new stays journal has = record { rests = stays journal has
 
 -- ---- a journal that has more
 
-module _ (Tells : List ℕ → Answer → Type 0) where
+module _ (Exchanged : List ℕ → Answer → Type 0) where
   -- from the place of the later of two journals
   told_behind : (a b : Journal) (entries : List (List ℕ)) (first : List Answer) (later : List Answer) → b.replies ≡ a.replies ++ first
-      → AreTold Tells entries (length b.replies) later → AreTold Tells entries (length a.replies + length first) later
+      → AreExchanged Exchanged entries (length b.replies) later → AreExchanged Exchanged entries (length a.replies + length first) later
   told_behind a b entries first later is told =
       let place : length b.replies ≡ length a.replies + length first = ap length is ∙ length-append a.replies first in
-      subst (λ (k : ℕ). AreTold Tells entries k later) place told
+      subst (λ (k : ℕ). AreExchanged Exchanged entries k later) place told
 
-  pub extends_then : (a b c : Journal) → Extends Tells a b → Extends Tells b c → Extends Tells a c
+  pub extends_then : (a b c : Journal) → Extends Exchanged a b → Extends Exchanged b c → Extends Exchanged a c
   extends_then a b c one two =
       let more = two.entries.0 in
       let grown : c.entries ≡ b.entries ++ more = two.entries.1 in
-      let before : AreTold Tells c.entries (length a.replies) one.replies.0 =
-      subst (λ (es : List (List ℕ)). AreTold Tells es (length a.replies) one.replies.0) (sym grown)
-      (all_told_more Tells b.entries more (length a.replies) one.replies.0 one.replies.2) in
-      let after : AreTold Tells c.entries (length a.replies + length one.replies.0) two.replies.0 =
+      let before : AreExchanged Exchanged c.entries (length a.replies) one.replies.0 =
+      subst (λ (es : List (List ℕ)). AreExchanged Exchanged es (length a.replies) one.replies.0) (sym grown)
+      (all_told_more Exchanged b.entries more (length a.replies) one.replies.0 one.replies.2) in
+      let after : AreExchanged Exchanged c.entries (length a.replies + length one.replies.0) two.replies.0 =
       told_behind a b c.entries one.replies.0 two.replies.0 one.replies.1 two.replies.2 in
-      let settled : AreSettled Tells c.entries one.settled.0 =
-      subst (λ (es : List (List ℕ)). AreSettled Tells es one.settled.0) (sym grown)
-      (all_settled_more Tells b.entries more one.settled.0 one.settled.2) in
+      let settled : AreSettled Exchanged c.entries one.settled.0 =
+      subst (λ (es : List (List ℕ)). AreSettled Exchanged es one.settled.0) (sym grown)
+      (all_settled_more Exchanged b.entries more one.settled.0 one.settled.2) in
       record {
         entries = (one.entries.0 ++ more, more_then a.entries b.entries c.entries one.entries.0 more one.entries.1 grown);
         replies = (
           one.replies.0 ++ two.replies.0,
           more_then a.replies b.replies c.replies one.replies.0 two.replies.0 one.replies.1 two.replies.1,
-          told_then Tells c.entries (length a.replies) one.replies.0 two.replies.0 before after,
+          told_then Exchanged c.entries (length a.replies) one.replies.0 two.replies.0 before after,
         );
         settled = (
           one.settled.0 ++ two.settled.0,
           more_then a.settled b.settled c.settled one.settled.0 two.settled.0 one.settled.1 two.settled.1,
-          settled_then Tells c.entries one.settled.0 two.settled.0 settled two.settled.2,
+          settled_then Exchanged c.entries one.settled.0 two.settled.0 settled two.settled.2,
         );
       }
 
-  pub extends_same : (journal : Journal) → Extends Tells journal journal
+  pub extends_same : (journal : Journal) → Extends Exchanged journal journal
   extends_same journal = record {
     entries = ([], nothing_more journal.entries);
     replies = ([], nothing_more journal.replies, tt);
     settled = ([], nothing_more journal.settled, tt);
   }
 
-  pub extends_entry : (request : List ℕ) (journal : Journal) → Extends Tells journal (with_entry request journal)
+  pub extends_entry : (request : List ℕ) (journal : Journal) → Extends Exchanged journal (with_entry request journal)
   extends_entry request journal = record {
     entries = (request ∷ [], refl);
     replies = ([], nothing_more journal.replies, tt);
@@ -103,7 +103,7 @@ module _ (Tells : List ℕ → Answer → Type 0) where
   }
 
   pub extends_sent : (answers : List Answer) (journal : Journal)
-      → AreTold Tells journal.entries (length journal.replies) answers → Extends Tells journal (with_replies answers journal)
+      → AreExchanged Exchanged journal.entries (length journal.replies) answers → Extends Exchanged journal (with_replies answers journal)
   extends_sent answers journal told = record {
     entries = ([], nothing_more journal.entries);
     replies = (answers, refl, told);
@@ -113,7 +113,7 @@ module _ (Tells : List ℕ → Answer → Type 0) where
   -- ---- a till's book goes on
 
   pub becomes_same : (mark : Text) (place : Place) (s : State) (journal : Journal) (commands : List Command) → IsAt mark place s journal commands
-      → Becomes Tells mark place s journal commands
+      → Becomes Exchanged mark place s journal commands
   becomes_same mark place s journal commands at = record {
     journal = journal;
     commands = commands;
@@ -123,8 +123,9 @@ module _ (Tells : List ℕ → Answer → Type 0) where
   }
 
   pub becomes_then :
-      (mark : Text) (after last : Place) (new end : State) (journal : Journal) (commands : List Command) (mid : Becomes Tells mark after new journal commands)
-      → Becomes Tells mark last end mid.journal mid.commands → Becomes Tells mark last end journal commands
+      (mark : Text) (after last : Place) (new end : State) (journal : Journal) (commands : List Command)
+      (mid : Becomes Exchanged mark after new journal commands)
+      → Becomes Exchanged mark last end mid.journal mid.commands → Becomes Exchanged mark last end journal commands
   becomes_then mark after last new end journal commands mid it = record {
     journal = it.journal;
     commands = it.commands;
@@ -134,18 +135,18 @@ module _ (Tells : List ℕ → Answer → Type 0) where
   }
 
   pub goes_then : (mark : Text) (before after last : Place) (old new end : State)
-      → GoesOn Tells mark before old after new → GoesOn Tells mark after new last end
-      → GoesOn Tells mark before old last end
+      → GoesOn Exchanged mark before old after new → GoesOn Exchanged mark after new last end
+      → GoesOn Exchanged mark before old last end
   goes_then mark before after last old new end one two journal commands at =
       let mid = one journal commands at in becomes_then mark after last new end journal commands mid (two mid.journal mid.commands mid.is_at)
 
-  pub stays_goes : (mark : Text) (before after : Place) (old new : State) → Stays before old after new → GoesOn Tells mark before old after new
+  pub stays_goes : (mark : Text) (before after : Place) (old new : State) → Stays before old after new → GoesOn Exchanged mark before old after new
   stays_goes mark before after old new stays journal commands at =
       becomes_same mark after new journal commands
       (at_place mark before after old new journal journal commands at refl (stays journal (place_of mark before old journal commands at)))
 
   pub entry_goes : (mark token : Text) (request : List ℕ) (before after : Place) (old new : State) → EntersOne mark token request before old after new
-      → GoesOn Tells mark before old after new
+      → GoesOn Exchanged mark before old after new
   entry_goes mark token request before after old new enters journal commands at =
       let it = enters journal commands at in
       record {
@@ -156,7 +157,7 @@ module _ (Tells : List ℕ → Answer → Type 0) where
         says = (it.0 ∷ [], refl);
       }
 
-  pub sends_goes : (mark : Text) (before after : Place) (old new : State) → Sends Tells before old after new → GoesOn Tells mark before old after new
+  pub sends_goes : (mark : Text) (before after : Place) (old new : State) → Sends Exchanged before old after new → GoesOn Exchanged mark before old after new
   sends_goes mark before after old new sends journal commands at =
       let it = sends journal (place_of mark before old journal commands at) in
       record {
@@ -169,23 +170,23 @@ module _ (Tells : List ℕ → Answer → Type 0) where
 
   -- ---- whatever the entries say
 
-  pub grows_then : (before mid after : Place) (old between new : State) → Grows Tells before old mid between
-      → Grows Tells mid between after new → Grows Tells before old after new
+  pub grows_then : (before mid after : Place) (old between new : State) → Grows Exchanged before old mid between
+      → Grows Exchanged mid between after new → Grows Exchanged before old after new
   grows_then before mid after old between new one two journal has =
       let first = one journal has in
       let next = two first.journal first.has in
       record { journal = next.journal; has = next.has; extends = extends_then journal first.journal next.journal first.extends next.extends }
 
-  pub stays_grows : (before after : Place) (old new : State) → Stays before old after new → Grows Tells before old after new
+  pub stays_grows : (before after : Place) (old new : State) → Stays before old after new → Grows Exchanged before old after new
   stays_grows before after old new stays journal has = record { journal = journal; has = stays journal has; extends = extends_same journal }
 
-  pub sends_grows : (before after : Place) (old new : State) → Sends Tells before old after new → Grows Tells before old after new
+  pub sends_grows : (before after : Place) (old new : State) → Sends Exchanged before old after new → Grows Exchanged before old after new
   sends_grows before after old new sends journal has =
       let it = sends journal has in
       record { journal = with_replies it.0 journal; has = it.1.has; extends = extends_sent it.0 journal it.1.told }
 
   pub entry_grows : (n : ℕ) (request : List ℕ) (before after : Place) (old new : State) → n ≡ before.entries + 1 → after ≡ record before { entries = n }
-      → IsEntered n request old new → Grows Tells before old after new
+      → IsEntered n request old new → Grows Exchanged before old after new
   entry_grows n request before after old new counted same it journal has =
       let next : n ≡ length journal.entries + 1 = counted ∙ ap (λ k. k + 1) has.entries in
       rw same (record {
@@ -197,39 +198,40 @@ module _ (Tells : List ℕ → Answer → Type 0) where
   -- ---- several replies
 
   pub stays_answers : (answer : Answer) (before mid after : Place) (old between new : State) → Stays before old mid between
-      → AnswersOne Tells answer mid between after new → AnswersOne Tells answer before old after new
+      → AnswersOne Exchanged answer mid between after new → AnswersOne Exchanged answer before old after new
   stays_answers answer before mid after old between new stays answers journal has = answers journal (stays journal has)
 
-  pub tells_sends : (last : Option Read) (before after : Place) (old new : State) → TellsLast Tells last before old after new → Sends Tells before old after new
+  pub tells_sends : (last : Option Read) (before after : Place) (old new : State) → ReturnsLast Exchanged last before old after new
+      → Sends Exchanged before old after new
   tells_sends last before after old new tells journal has = let it = tells journal has in (it.0, it.1)
 
   pub sends_stays : (before mid after : Place) (old between new : State)
-      → Sends Tells before old mid between → Stays mid between after new → Sends Tells before old after new
+      → Sends Exchanged before old mid between → Stays mid between after new → Sends Exchanged before old after new
   sends_stays before mid after old between new sends stays journal has =
       let it = sends journal has in
       (it.0, record { has = stays (with_replies it.0 journal) it.1.has; told = it.1.told })
 
-  pub none_sent : (place : Place) (s : State) → TellsLast Tells None place s place s
+  pub none_sent : (place : Place) (s : State) → ReturnsLast Exchanged None place s place s
   none_sent place s journal has = (
     [],
     record { has = subst (λ (rs : List Answer). HasPlace place s (record journal { replies = rs })) (nothing_more journal.replies) has; told = tt },
     refl,
   )
 
-  pub tells_one : (last : Option Read) (answer : Read) (before mid after : Place) (old between new : State) → TellsLast Tells last before old mid between
-      → AnswersOne Tells (seen_answer answer) mid between after new → TellsLast Tells (Some answer) before old after new
+  pub tells_one : (last : Option Read) (answer : Read) (before mid after : Place) (old between new : State) → ReturnsLast Exchanged last before old mid between
+      → AnswersOne Exchanged (seen_answer answer) mid between after new → ReturnsLast Exchanged (Some answer) before old after new
   tells_one last answer before mid after old between new tells answers journal has =
       let it = tells journal has in
       let one = answers (with_replies it.0 journal) it.1.has in
       let place : length (journal.replies ++ it.0) ≡ length journal.replies + length it.0 = length-append journal.replies it.0 in
-      let told : AreTold Tells journal.entries (length journal.replies + length it.0) (seen_answer answer ∷ []) =
-      (subst (λ (k : ℕ). IsToldAt Tells journal.entries k (seen_answer answer)) place one.1, tt) in (
+      let told : AreExchanged Exchanged journal.entries (length journal.replies + length it.0) (seen_answer answer ∷ []) =
+      (subst (λ (k : ℕ). IsExchangedAt Exchanged journal.entries k (seen_answer answer)) place one.1, tt) in (
         it.0 ++ seen_answer answer ∷ [],
         record {
           has =
               subst (λ (rs : List Answer). HasPlace after new (record journal { replies = rs }))
               (append_assoc journal.replies it.0 (seen_answer answer ∷ [])) one.0;
-          told = told_then Tells journal.entries (length journal.replies) it.0 (seen_answer answer ∷ []) it.1.told told;
+          told = told_then Exchanged journal.entries (length journal.replies) it.0 (seen_answer answer ∷ []) it.1.told told;
         },
         (it.0, refl),
       )
@@ -241,7 +243,7 @@ module _ {R W : Type 0} (opens : R → W → Type 0) (remaining : R → Option (
   pub delivers_one : (n : ℕ) (answer : Read) (before after : Place) (old new : State) (reader read : R) (writer written : W) → n ≡ before.replies + 1
       → after ≡ record before { replies = n } → opens reader writer
       → Delivers n (Some answer) old new (remaining reader) (remaining read) (contents writer) (contents written)
-      → AnswersOne (IsTold opens remaining contents) (seen_answer answer) before old after new
+      → AnswersOne (IsExchanged opens remaining contents) (seen_answer answer) before old after new
   delivers_one n answer before after old new reader read writer written counted same opened it journal has =
       let next : n ≡ length journal.replies + 1 = counted ∙ ap (λ k. k + 1) has.replies in
       let one = it journal has.rests next in (
@@ -298,13 +300,13 @@ failing_stays n fault place old new output written counted fails kept journal ha
 
 module _ {R W : Type 0} (refuses : Type 0) (opens : R → W → Type 0) (contents : W → Option (List ℕ)) where
   pub why_none : (n : ℕ) (place : Place) (old new : State) (input left output written : Option (List ℕ)) → n ≡ place.replies + 1
-      → Delivers n None old new input left output written → FailsToTell refuses opens contents place old desk.NoEntry
+      → Delivers n None old new input left output written → FailsToExchange refuses opens contents place old desk.NoEntry
   why_none n place old new input left output written counted it journal has =
       let next : n ≡ length journal.replies + 1 = counted ∙ ap (λ k. k + 1) has.replies in
       (it journal has.rests next).none
 
   pub why_failed : (n : ℕ) (fault : DeskFault) (place : Place) (old new : State) (reader : R) (writer written : W) → n ≡ place.replies + 1 → opens reader writer
-      → FailsToDeliver n fault old new (contents writer) (contents written) → FailsToTell refuses opens contents place old fault
+      → FailsToDeliver n fault old new (contents writer) (contents written) → FailsToExchange refuses opens contents place old fault
   why_failed n (desk.Unanswered why) place old new reader writer written counted opened fails journal has =
       let next : n ≡ length journal.replies + 1 = counted ∙ ap (λ k. k + 1) has.replies in
       let one = (fails journal has.rests next).1 in
@@ -329,15 +331,15 @@ module _ {R W : Type 0} (refuses : Type 0) (opens : R → W → Type 0) (content
 
   -- from where the book was the same
   pub why_before : (fault : DeskFault) (before mid : Place) (old between : State) → mid ≡ before → Stays before old mid between
-      → FailsToTell refuses opens contents mid between fault → FailsToTell refuses opens contents before old fault
+      → FailsToExchange refuses opens contents mid between fault → FailsToExchange refuses opens contents before old fault
   why_before fault before mid old between same stays fails journal has =
       let why : IsWhy refuses opens contents mid journal fault = fails journal (stays journal has) in
       subst (λ (place : Place). IsWhy refuses opens contents place journal fault) same why
 
-  pub why_then : (Tells : List ℕ → Answer → Type 0) (last : Option Read) (fault : DeskFault) (before mid after : Place) (old between new : State)
-      → TellsLast Tells last before old mid between → (fault ≢ desk.Book → Stays mid between after new) → after ≡ mid
-      → FailsToTell refuses opens contents mid between fault → FailsToSend Tells refuses opens contents before old after new fault
-  why_then Tells last fault before mid after old between new tells stays same fails other journal has =
+  pub why_then : (Exchanged : List ℕ → Answer → Type 0) (last : Option Read) (fault : DeskFault) (before mid after : Place) (old between new : State)
+      → ReturnsLast Exchanged last before old mid between → (fault ≢ desk.Book → Stays mid between after new) → after ≡ mid
+      → FailsToExchange refuses opens contents mid between fault → FailsToSend Exchanged refuses opens contents before old after new fault
+  why_then Exchanged last fault before mid after old between new tells stays same fails other journal has =
       let it = tells journal has in
       let next = with_replies it.0 journal in (
         it.0,

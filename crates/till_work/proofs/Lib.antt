@@ -1,4 +1,4 @@
 pub mod Saying
 pub mod GoingOn
-pub mod Telling
+pub mod Exchanging
 pub mod Stops

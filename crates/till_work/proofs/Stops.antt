@@ -18,11 +18,11 @@ use Rattle.till_book.specs.Steps.{Rests, IsNext, LeavesEntered}
 use Rattle.till_work.specs.declared.place.Place.{Place}
 use Rattle.till_work.specs.Entering.{IsTillsBook, LeavesCommand}
 use Rattle.till_work.specs.Settling.{OfEntry, LeavesDecision, MayNote}
-use Rattle.till_work.specs.Told.{IsTold, AreTold, AreSettled}
+use Rattle.till_work.specs.Exchanged.{IsExchanged, AreExchanged, AreSettled}
 use Rattle.till_work.specs.Desk.{HasPlace, Extends, Sends, with_replies}
 use Rattle.till_work.specs.Stops.{IsLater, IsSentAfter, IsSettledAfter, with_settlements, IsAny, Leaves}
 use Rattle.till_work.proofs.GoingOn.{more_then, nothing_more, extends_same, extends_then, extends_sent}
-use Rattle.till_work.proofs.Telling.{told_then, settled_then, decided_known}
+use Rattle.till_work.proofs.Exchanging.{told_then, settled_then, decided_known}
 
 -- ---- one commit
 
@@ -123,13 +123,13 @@ same_book mark old new said known entries same it =
 
 -- ---- steps
 
-module _ (Tells : List ℕ → Answer → Type 0) where
-  pub later_same : (journal : Journal) (commands : List Command) → IsLater Tells journal commands journal commands
-  later_same journal commands = record { extends = extends_same Tells journal; says = ([], nothing_more commands) }
+module _ (Exchanged : List ℕ → Answer → Type 0) where
+  pub later_same : (journal : Journal) (commands : List Command) → IsLater Exchanged journal commands journal commands
+  later_same journal commands = record { extends = extends_same Exchanged journal; says = ([], nothing_more commands) }
 
-  pub later_then : (a b c : Journal) (x y z : List Command) → IsLater Tells a x b y → IsLater Tells b y c z → IsLater Tells a x c z
+  pub later_then : (a b c : Journal) (x y z : List Command) → IsLater Exchanged a x b y → IsLater Exchanged b y c z → IsLater Exchanged a x c z
   later_then a b c x y z one two = record {
-    extends = extends_then Tells a b c one.extends two.extends;
+    extends = extends_then Exchanged a b c one.extends two.extends;
     says = (one.says.0 ++ two.says.0, more_then x y z one.says.0 two.says.0 one.says.1 two.says.1);
   }
 
@@ -138,44 +138,47 @@ module _ (Tells : List ℕ → Answer → Type 0) where
   no_replies : (journal : Journal) → journal ≡ with_replies [] journal
   no_replies journal = ap (λ (rs : List Answer). record journal { replies = rs }) (nothing_more journal.replies)
 
-  pub sent_same : (journal : Journal) (commands : List Command) → IsSentAfter Tells journal commands journal commands
+  pub sent_same : (journal : Journal) (commands : List Command) → IsSentAfter Exchanged journal commands journal commands
   sent_same journal commands = ([], no_replies journal, refl, tt)
 
-  pub sent_then : (a b c : Journal) (x y z : List Command) → IsSentAfter Tells a x b y → IsSentAfter Tells b y c z → IsSentAfter Tells a x c z
+  pub sent_then : (a b c : Journal) (x y z : List Command) → IsSentAfter Exchanged a x b y → IsSentAfter Exchanged b y c z → IsSentAfter Exchanged a x c z
   sent_then a b c x y z one two =
       let xs = one.0 in
       let ys = two.0 in
       let joined : with_replies ys (with_replies xs a) ≡ with_replies (xs ++ ys) a =
       ap (λ (rs : List Answer). record a { replies = rs }) (append_assoc a.replies xs ys) in
-      let later : AreTold Tells a.entries (length (a.replies ++ xs)) ys =
-      subst (λ (j : Journal). AreTold Tells j.entries (length j.replies) ys) one.1 two.3 in (
+      let later : AreExchanged Exchanged a.entries (length (a.replies ++ xs)) ys =
+      subst (λ (j : Journal). AreExchanged Exchanged j.entries (length j.replies) ys) one.1 two.3 in (
         xs ++ ys,
         two.1 ∙ ap (with_replies ys) one.1 ∙ joined,
         two.2 ∙ one.2,
-        told_then Tells a.entries (length a.replies) xs ys one.3
-            (subst (λ (k : ℕ). AreTold Tells a.entries k ys) (length-append a.replies xs) later),
+        told_then Exchanged a.entries (length a.replies) xs ys one.3
+            (subst (λ (k : ℕ). AreExchanged Exchanged a.entries k ys) (length-append a.replies xs) later),
       )
 
-  sent_extends : (a b : Journal) (answers : List Answer) → b ≡ with_replies answers a → AreTold Tells a.entries (length a.replies) answers → Extends Tells a b
-  sent_extends a b answers is told = subst (λ (j : Journal). Extends Tells a j) (sym is) (extends_sent Tells answers a told)
+  sent_extends : (a b : Journal) (answers : List Answer) → b ≡ with_replies answers a → AreExchanged Exchanged a.entries (length a.replies) answers
+      → Extends Exchanged a b
+  sent_extends a b answers is told = subst (λ (j : Journal). Extends Exchanged a j) (sym is) (extends_sent Exchanged answers a told)
 
-  pub sent_is_later : (a b : Journal) (x y : List Command) → IsSentAfter Tells a x b y → IsLater Tells a x b y
+  pub sent_is_later : (a b : Journal) (x y : List Command) → IsSentAfter Exchanged a x b y → IsLater Exchanged a x b y
   sent_is_later a b x y it = record { extends = sent_extends a b it.0 it.1 it.3; says = ([], it.2 ∙ nothing_more x) }
 
   -- what is sent leaves a till's book one
   pub sent_at_till : (mark : Text) (Had : Journal → Type 0) (new : State)
-      → Leaves Had IsAny (IsSentAfter Tells) new → Leaves Had (IsTillsBook mark) (IsLater Tells) new
+      → Leaves Had IsAny (IsSentAfter Exchanged) new → Leaves Had (IsTillsBook mark) (IsLater Exchanged) new
   sent_at_till mark Had new leaves =
-      leaves_as Had IsAny (IsTillsBook mark) (IsSentAfter Tells) (IsLater Tells) new (λ journal commands is. tt)
+      leaves_as Had IsAny (IsTillsBook mark) (IsSentAfter Exchanged) (IsLater Exchanged) new (λ journal commands is. tt)
       (λ a b x y is it. (same_book mark a b x y (ap (λ (j : Journal). j.entries) it.1) it.2 is, sent_is_later a b x y it)) leaves
 
-  pub sent_at_any : (Had : Journal → Type 0) (new : State) → Leaves Had IsAny (IsSentAfter Tells) new → Leaves Had IsAny (IsLater Tells) new
+  pub sent_at_any : (Had : Journal → Type 0) (new : State) → Leaves Had IsAny (IsSentAfter Exchanged) new → Leaves Had IsAny (IsLater Exchanged) new
   sent_at_any Had new leaves =
-      leaves_as Had IsAny IsAny (IsSentAfter Tells) (IsLater Tells) new (λ journal commands is. tt) (λ a b x y is it. (tt, sent_is_later a b x y it)) leaves
+      leaves_as Had IsAny IsAny (IsSentAfter Exchanged) (IsLater Exchanged) new (λ journal commands is. tt)
+      (λ a b x y is it. (tt, sent_is_later a b x y it)) leaves
 
   -- ---- one delivery after another
 
-  pub sends_leaves : (before after : Place) (old new : State) → Sends Tells before old after new → Leaves (HasPlace before old) IsAny (IsSentAfter Tells) new
+  pub sends_leaves : (before after : Place) (old new : State) → Sends Exchanged before old after new
+      → Leaves (HasPlace before old) IsAny (IsSentAfter Exchanged) new
   sends_leaves before after old new sends journal commands has is db may =
       let it = sends journal has in
       record {
@@ -186,10 +189,10 @@ module _ (Tells : List ℕ → Answer → Type 0) where
         goes = (it.0, refl, refl, it.1.told);
       }
 
-  pub sends_then_leaves : (before mid : Place) (old between new : State) → Sends Tells before old mid between
-      → Leaves (HasPlace mid between) IsAny (IsSentAfter Tells) new → Leaves (HasPlace before old) IsAny (IsSentAfter Tells) new
+  pub sends_then_leaves : (before mid : Place) (old between new : State) → Sends Exchanged before old mid between
+      → Leaves (HasPlace mid between) IsAny (IsSentAfter Exchanged) new → Leaves (HasPlace before old) IsAny (IsSentAfter Exchanged) new
   sends_then_leaves before mid old between new sends leaves =
-      leaves_then (HasPlace before old) (HasPlace mid between) IsAny (IsSentAfter Tells) new sent_then
+      leaves_then (HasPlace before old) (HasPlace mid between) IsAny (IsSentAfter Exchanged) new sent_then
       (λ journal commands has is. let it = sends journal has in (with_replies it.0 journal, commands, it.1.has, tt, (it.0, refl, refl, it.1.told))) leaves
 
   -- ---- settlements
@@ -197,39 +200,40 @@ module _ (Tells : List ℕ → Answer → Type 0) where
   no_settlements : (journal : Journal) → journal ≡ with_settlements [] journal
   no_settlements journal = ap (λ (them : List (ℕ × Answer)). record journal { settled = them }) (nothing_more journal.settled)
 
-  pub settled_same : (journal : Journal) (commands : List Command) → IsSettledAfter Tells journal commands journal commands
+  pub settled_same : (journal : Journal) (commands : List Command) → IsSettledAfter Exchanged journal commands journal commands
   settled_same journal commands = ([], no_settlements journal, refl, tt)
 
-  pub settled_both : (a b c : Journal) (x y z : List Command) → IsSettledAfter Tells a x b y → IsSettledAfter Tells b y c z → IsSettledAfter Tells a x c z
+  pub settled_both : (a b c : Journal) (x y z : List Command) → IsSettledAfter Exchanged a x b y → IsSettledAfter Exchanged b y c z
+      → IsSettledAfter Exchanged a x c z
   settled_both a b c x y z one two =
       let xs = one.0 in
       let ys = two.0 in
       let joined : with_settlements ys (with_settlements xs a) ≡ with_settlements (xs ++ ys) a =
       ap (λ (them : List (ℕ × Answer)). record a { settled = them }) (append_assoc a.settled xs ys) in
-      let later : AreSettled Tells a.entries ys = subst (λ (j : Journal). AreSettled Tells j.entries ys) one.1 two.3 in (
+      let later : AreSettled Exchanged a.entries ys = subst (λ (j : Journal). AreSettled Exchanged j.entries ys) one.1 two.3 in (
         xs ++ ys,
         two.1 ∙ ap (with_settlements ys) one.1 ∙ joined,
         two.2 ∙ one.2,
-        settled_then Tells a.entries xs ys one.3 later,
+        settled_then Exchanged a.entries xs ys one.3 later,
       )
 
-  settled_on : (a : Journal) (more : List (ℕ × Answer)) → AreSettled Tells a.entries more → Extends Tells a (with_settlements more a)
+  settled_on : (a : Journal) (more : List (ℕ × Answer)) → AreSettled Exchanged a.entries more → Extends Exchanged a (with_settlements more a)
   settled_on a more settled = record {
     entries = ([], nothing_more a.entries);
     replies = ([], nothing_more a.replies, tt);
     settled = (more, refl, settled);
   }
 
-  pub settled_is_later : (a b : Journal) (x y : List Command) → IsSettledAfter Tells a x b y → IsLater Tells a x b y
+  pub settled_is_later : (a b : Journal) (x y : List Command) → IsSettledAfter Exchanged a x b y → IsLater Exchanged a x b y
   settled_is_later a b x y it = record {
-    extends = subst (λ (j : Journal). Extends Tells a j) (sym it.1) (settled_on a it.0 it.3);
+    extends = subst (λ (j : Journal). Extends Exchanged a j) (sym it.1) (settled_on a it.0 it.3);
     says = ([], it.2 ∙ nothing_more x);
   }
 
   pub settled_at_till : (mark : Text) (Had : Journal → Type 0) (new : State)
-      → Leaves Had IsAny (IsSettledAfter Tells) new → Leaves Had (IsTillsBook mark) (IsLater Tells) new
+      → Leaves Had IsAny (IsSettledAfter Exchanged) new → Leaves Had (IsTillsBook mark) (IsLater Exchanged) new
   settled_at_till mark Had new leaves =
-      leaves_as Had IsAny (IsTillsBook mark) (IsSettledAfter Tells) (IsLater Tells) new (λ journal commands is. tt)
+      leaves_as Had IsAny (IsTillsBook mark) (IsSettledAfter Exchanged) (IsLater Exchanged) new (λ journal commands is. tt)
       (λ a b x y is it. (same_book mark a b x y (ap (λ (j : Journal). j.entries) it.1) it.2 is, settled_is_later a b x y it)) leaves
 
 -- ---- over streams that were opened
@@ -238,7 +242,7 @@ module _ {R W : Type 0} (opens : R → W → Type 0) (remaining : R → Option (
   -- a settling leaves the book as it was or with that settlement
   pub settling_leaves : (n : ℕ) (old new : State) (reader read : R) (writer written : W) → (i : ℕ) → n ≡ i + 1 → opens reader writer
       → HasCleanDisk new → Survives old new (MayNote n old (remaining reader) (remaining read) (contents writer) (contents written))
-      → Leaves (Rests old) IsAny (IsSettledAfter (IsTold opens remaining contents)) new
+      → Leaves (Rests old) IsAny (IsSettledAfter (IsExchanged opens remaining contents)) new
   settling_leaves n old new reader read writer written i place opened clean h journal commands rests is db may =
       elim (h.crash clean db may) [
         | inl before ↦ record {
@@ -246,12 +250,12 @@ module _ {R W : Type 0} (opens : R → W → Type 0) (remaining : R → Option (
           commands = commands;
           stands = rests.left db before;
           is = tt;
-          goes = settled_same (IsTold opens remaining contents) journal commands;
+          goes = settled_same (IsExchanged opens remaining contents) journal commands;
         }
         | inr made ↦
             let it = made journal rests in
             let entry = it.1.writes i place in
-            let told : IsTold opens remaining contents entry.0 it.0 = record {
+            let told : IsExchanged opens remaining contents entry.0 it.0 = record {
               reader = reader;
               writer = writer;
               read = read;

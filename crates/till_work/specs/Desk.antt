@@ -11,7 +11,7 @@ use Rattle.till_work.specs.Delivering.{OfOldest}
 use Rattle.till_client.specs.Replies.{seen_answer}
 use Rattle.till_client.specs.Sealing.{SaysCommand}
 use Rattle.till_client.specs.declared.replies.Answer.{Answer as Read}
-use Rattle.till_work.specs.Told.{IsToldAt, AreTold, AreSettled, IsUnanswered, IsPutOff}
+use Rattle.till_work.specs.Exchanged.{IsExchangedAt, AreExchanged, AreSettled, IsUnanswered, IsPutOff}
 use Rattle.till_work.specs.declared.fault.DeskFault.{DeskFault}
 use Rattle.till_work.specs.declared.fault.DeskFault.TheVariants as fault
 use Rattle.till_work.specs.declared.place.Place.{Place}
@@ -33,33 +33,33 @@ pub record IsAt (mark : Text) (place : Place) (s : State) (journal : Journal) (c
 
 -- What was entered, recorded and settled is a front part of the new journal. Each later reply is the reply to the entry of its own place, one after another.
 -- Each later settlement is a reply to the entry of its number.
-pub record Extends (Tells : List ℕ → Answer → Type 0) (old new : Journal) : Type 0 where
+pub record Extends (Exchanged : List ℕ → Answer → Type 0) (old new : Journal) : Type 0 where
   pub entries : (more : List (List ℕ)) × (new.entries ≡ old.entries ++ more)
-  pub replies : (more : List Answer) × (new.replies ≡ old.replies ++ more) × AreTold Tells new.entries (length old.replies) more
-  pub settled : (more : List (ℕ × Answer)) × (new.settled ≡ old.settled ++ more) × AreSettled Tells new.entries more
+  pub replies : (more : List Answer) × (new.replies ≡ old.replies ++ more) × AreExchanged Exchanged new.entries (length old.replies) more
+  pub settled : (more : List (ℕ × Answer)) × (new.settled ≡ old.settled ++ more) × AreSettled Exchanged new.entries more
 
 -- a book that was that one, and has what stood in it
-pub record HasMore (Tells : List ℕ → Answer → Type 0) (place : Place) (s : State) (old : Journal) : Type 0 where
+pub record HasMore (Exchanged : List ℕ → Answer → Type 0) (place : Place) (s : State) (old : Journal) : Type 0 where
   pub journal : Journal
   pub has : HasPlace place s journal
-  pub extends : Extends Tells old journal
+  pub extends : Extends Exchanged old journal
 
 -- whatever the entries of a book say, what stood in it stays
 abbrev pub Grows : (List ℕ → Answer → Type 0) → Place → State → Place → State → Type 0
-Grows Tells before old after new = (journal : Journal) → HasPlace before old journal → HasMore Tells after new journal
+Grows Exchanged before old after new = (journal : Journal) → HasPlace before old journal → HasMore Exchanged after new journal
 
 -- a book that was this one, and goes on
-pub record Becomes (Tells : List ℕ → Answer → Type 0) (mark : Text) (place : Place) (s : State) (old : Journal) (said : List Command) : Type 0 where
+pub record Becomes (Exchanged : List ℕ → Answer → Type 0) (mark : Text) (place : Place) (s : State) (old : Journal) (said : List Command) : Type 0 where
   pub journal : Journal
   pub commands : List Command
   pub is_at : IsAt mark place s journal commands
-  pub extends : Extends Tells old journal
+  pub extends : Extends Exchanged old journal
   pub says : (more : List Command) × (commands ≡ said ++ more)
 
 -- a till's book stays one, and what stood in it stays
 abbrev pub GoesOn : (List ℕ → Answer → Type 0) → Text → Place → State → Place → State → Type 0
-GoesOn Tells mark before old after new =
-    (journal : Journal) (commands : List Command) → IsAt mark before old journal commands → Becomes Tells mark after new journal commands
+GoesOn Exchanged mark before old after new =
+    (journal : Journal) (commands : List Command) → IsAt mark before old journal commands → Becomes Exchanged mark after new journal commands
 
 -- nothing more stands in a book, whatever its entries say
 abbrev pub Stays : Place → State → Place → State → Type 0
@@ -84,18 +84,18 @@ LeavesEntry mark token request before old db =
 
 -- One reply was added after the last, and nothing else changed. It is the reply to the oldest entry that had none.
 abbrev pub AnswersOne : (List ℕ → Answer → Type 0) → Answer → Place → State → Place → State → Type 0
-AnswersOne Tells answer before old after new =
+AnswersOne Exchanged answer before old after new =
     (journal : Journal) → HasPlace before old journal
-    → HasPlace after new (with_reply answer journal) × IsToldAt Tells journal.entries (length journal.replies) answer
+    → HasPlace after new (with_reply answer journal) × IsExchangedAt Exchanged journal.entries (length journal.replies) answer
 
 -- with these replies after the last
 abbrev pub with_replies : List Answer → Journal → Journal
 with_replies answers journal = record journal { replies = journal.replies ++ answers }
 
 -- These replies were added after the last, and nothing else changed. They are the replies to the oldest entries that had none, one after another.
-pub record AreSent (Tells : List ℕ → Answer → Type 0) (answers : List Answer) (place : Place) (s : State) (old : Journal) : Type 0 where
+pub record AreSent (Exchanged : List ℕ → Answer → Type 0) (answers : List Answer) (place : Place) (s : State) (old : Journal) : Type 0 where
   pub has : HasPlace place s (with_replies answers old)
-  pub told : AreTold Tells old.entries (length old.replies) answers
+  pub told : AreExchanged Exchanged old.entries (length old.replies) answers
 
 -- Why the oldest entry without a reply got none: no connection was opened, or over streams that were opened no answer came, or the server did nothing. Or each
 -- entry
@@ -115,12 +115,12 @@ IsWhy refuses opens contents place journal fault.NotNow = OfOldest journal (IsPu
 IsWhy refuses opens contents place journal fault.NotKnown = OfOldest journal (IsPutOff opens contents)
 
 -- so it is of each journal with which the book rests
-abbrev pub FailsToTell : {R W : Type 0} → Type 0 → (R → W → Type 0) → (W → Option (List ℕ)) → Place → State → DeskFault → Type 0
-FailsToTell refuses opens contents place s it = (journal : Journal) → HasPlace place s journal → IsWhy refuses opens contents place journal it
+abbrev pub FailsToExchange : {R W : Type 0} → Type 0 → (R → W → Type 0) → (W → Option (List ℕ)) → Place → State → DeskFault → Type 0
+FailsToExchange refuses opens contents place s it = (journal : Journal) → HasPlace place s journal → IsWhy refuses opens contents place journal it
 
 -- some of what waited was sent
 abbrev pub Sends : (List ℕ → Answer → Type 0) → Place → State → Place → State → Type 0
-Sends Tells before old after new = (journal : Journal) → HasPlace before old journal → (answers : List Answer) × AreSent Tells answers after new journal
+Sends Exchanged before old after new = (journal : Journal) → HasPlace before old journal → (answers : List Answer) × AreSent Exchanged answers after new journal
 
 -- That is the last of them. Without one the list is empty.
 abbrev pub IsLastOf : Option Read → List Answer → Type 0
@@ -128,16 +128,16 @@ IsLastOf None answers = answers ≡ []
 IsLastOf (Some answer) answers = (front : List Answer) × (answers ≡ front ++ seen_answer answer ∷ [])
 
 -- some of what waited was sent, and that is the last reply to it
-abbrev pub TellsLast : (List ℕ → Answer → Type 0) → Option Read → Place → State → Place → State → Type 0
-TellsLast Tells last before old after new =
-    (journal : Journal) → HasPlace before old journal → (answers : List Answer) × AreSent Tells answers after new journal × IsLastOf last answers
+abbrev pub ReturnsLast : (List ℕ → Answer → Type 0) → Option Read → Place → State → Place → State → Type 0
+ReturnsLast Exchanged last before old after new =
+    (journal : Journal) → HasPlace before old journal → (answers : List Answer) × AreSent Exchanged answers after new journal × IsLastOf last answers
 
 -- Some of what waited was sent, and that is why the next got no reply. Of a book that failed nothing is said.
 abbrev pub FailsToSend : {R W : Type 0} → (List ℕ → Answer → Type 0) → Type 0 → (R → W → Type 0)
     → (W → Option (List ℕ)) → Place → State → Place → State → DeskFault → Type 0
-FailsToSend Tells refuses opens contents before old after new it =
+FailsToSend Exchanged refuses opens contents before old after new it =
     it ≢ fault.Book → (journal : Journal) → HasPlace before old journal
-    → (answers : List Answer) × AreSent Tells answers after new journal × IsWhy refuses opens contents after (with_replies answers journal) it
+    → (answers : List Answer) × AreSent Exchanged answers after new journal × IsWhy refuses opens contents after (with_replies answers journal) it
 
 -- ---- faults
 

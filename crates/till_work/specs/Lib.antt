@@ -3,5 +3,5 @@ pub mod Entering
 pub mod Laws
 pub mod Settling
 pub mod Stops
-pub mod Told
+pub mod Exchanged
 pub mod Desk

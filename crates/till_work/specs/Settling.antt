@@ -10,7 +10,7 @@ use Rattle.till_book.specs.Journal.{Journal, StandsFor, IsUnsettled, settled_of,
 use Rattle.till_book.specs.Steps.{Rests, LeavesChanged}
 use Rattle.till_client.specs.Replies.{seen_answer, answer_bytes}
 use Rattle.till_client.specs.Exchanges.{FailsToAsk}
-use Rattle.till_work.specs.Told.{IsDecided}
+use Rattle.till_work.specs.Exchanged.{IsDecided}
 use Rattle.till_work.specs.declared.settling.Settled.{Settled}
 use Rattle.till_work.specs.declared.settling.Settled.TheVariants.{Acted, Never, Open}
 use Rattle.till_work.specs.declared.fault.DeskFault.{DeskFault}

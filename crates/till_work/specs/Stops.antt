@@ -6,7 +6,7 @@ use Rattle.sqlite.specs.State.{State}
 use Rattle.shop_model.specs.Values.{Command}
 use Rattle.shop_model.specs.Answers.{Answer}
 use Rattle.till_book.specs.Journal.{Journal, StandsFor}
-use Rattle.till_work.specs.Told.{AreTold, AreSettled}
+use Rattle.till_work.specs.Exchanged.{AreExchanged, AreSettled}
 use Rattle.till_work.specs.Desk.{Extends, with_replies}
 
 -- ---- from a book to a later one; each book with the commands that its entries say
@@ -17,14 +17,14 @@ IsUnchanged old said new known = (new ≡ old) × (known ≡ said)
 
 -- What was in the book is a front part of the later one. Each later reply is the reply to the entry of its own place. Each later settlement is a reply to the
 -- entry of its number. The commands are in front of the later ones.
-pub record IsLater (Tells : List ℕ → Answer → Type 0) (old : Journal) (said : List Command) (new : Journal) (known : List Command) : Type 0 where
-  pub extends : Extends Tells old new
+pub record IsLater (Exchanged : List ℕ → Answer → Type 0) (old : Journal) (said : List Command) (new : Journal) (known : List Command) : Type 0 where
+  pub extends : Extends Exchanged old new
   pub says : (more : List Command) × (known ≡ said ++ more)
 
 -- Replies were added, and nothing else. They are the replies to the oldest entries that had none, one after another.
 abbrev pub IsSentAfter : (List ℕ → Answer → Type 0) → Journal → List Command → Journal → List Command → Type 0
-IsSentAfter Tells old said new known =
-    (answers : List Answer) × (new ≡ with_replies answers old) × (known ≡ said) × AreTold Tells old.entries (length old.replies) answers
+IsSentAfter Exchanged old said new known =
+    (answers : List Answer) × (new ≡ with_replies answers old) × (known ≡ said) × AreExchanged Exchanged old.entries (length old.replies) answers
 
 -- with these settlements after the last
 abbrev pub with_settlements : List (ℕ × Answer) → Journal → Journal
@@ -32,8 +32,8 @@ with_settlements more journal = record journal { settled = journal.settled ++ mo
 
 -- Settlements were added, and nothing else. Each is a reply to the entry of its number, and decides it.
 abbrev pub IsSettledAfter : (List ℕ → Answer → Type 0) → Journal → List Command → Journal → List Command → Type 0
-IsSettledAfter Tells old said new known =
-    (more : List (ℕ × Answer)) × (new ≡ with_settlements more old) × (known ≡ said) × AreSettled Tells old.entries more
+IsSettledAfter Exchanged old said new known =
+    (more : List (ℕ × Answer)) × (new ≡ with_settlements more old) × (known ≡ said) × AreSettled Exchanged old.entries more
 
 -- ---- on the disk
 

@@ -5,8 +5,8 @@ ghost use Rattle.sqlite.specs.Held.{state};
 ghost use Rattle.sqlite.specs.State.{HasCleanDisk};
 ghost use Rattle.till_client.specs.Replies.{seen_answer};
 ghost use Rattle.till_work.specs.declared.fault.DeskFault.TheVariants.{Book};
-ghost use Rattle.till_work.specs.Told.{IsTold};
-ghost use Rattle.till_work.specs.Desk.{AnswersOne, FailsToTell, HasPlace, Sends, FailsToSend, Stays, IsBookKept, TellsLast};
+ghost use Rattle.till_work.specs.Exchanged.{IsExchanged};
+ghost use Rattle.till_work.specs.Desk.{AnswersOne, FailsToExchange, HasPlace, Sends, FailsToSend, Stays, IsBookKept, ReturnsLast};
 ghost use Rattle.till_work.specs.Stops.{IsAny, IsSentAfter, Leaves};
 
 use crate::delivering::deliver;
@@ -37,17 +37,17 @@ fn send_once<S: Alter, V: Server>(
     ensures ended { conn.new.in_transaction ≡ false }
     ensures clean { HasCleanDisk (state S.Store conn.new) → HasCleanDisk (state S.Store conn.old) }
     ensures answered { HasCleanDisk (state S.Store conn.new)
-        → IfOk result (λ answer. AnswersOne (IsTold (V.opens server.now) V.Reader.remaining V.Writer.contents)
+        → IfOk result (λ answer. AnswersOne (IsExchanged (V.opens server.now) V.Reader.remaining V.Writer.contents)
         (seen_answer answer) place.old (state S.Store conn.old) place.new (state S.Store conn.new)) }
     ensures stays { HasCleanDisk (state S.Store conn.new) → IsBookKept result
         → OnErr result (Stays place.old (state S.Store conn.old) place.new (state S.Store conn.new)) }
     ensures why { HasCleanDisk (state S.Store conn.new)
-        → IfErr result (FailsToTell (V.refuses server.now) (V.opens server.now) V.Writer.contents place.old
+        → IfErr result (FailsToExchange (V.refuses server.now) (V.opens server.now) V.Writer.contents place.old
         (state S.Store conn.old)) }
     ensures counted { OnOk result (place.new ≡ record place.old { replies = place.old.replies + 1 }) }
     ensures uncounted { OnErr result (place.new ≡ place.old) }
     ensures crash { HasCleanDisk (state S.Store conn.new) → Leaves (HasPlace place.old (state S.Store conn.old)) IsAny
-        (IsSentAfter (IsTold (V.opens server.now) V.Reader.remaining V.Writer.contents)) (state S.Store conn.new) }
+        (IsSentAfter (IsExchanged (V.opens server.now) V.Reader.remaining V.Writer.contents)) (state S.Store conn.new) }
 {
     let Ok((mut reader, mut writer)) = server.connect() else {
         return Err(DeskFault::Unopened);
@@ -98,17 +98,17 @@ pub fn send_oldest<S: Alter, V: Server, K: Clock>(
     ensures ended { conn.new.in_transaction ≡ false }
     ensures clean { HasCleanDisk (state S.Store conn.new) → HasCleanDisk (state S.Store conn.old) }
     ensures answered { HasCleanDisk (state S.Store conn.new)
-        → IfOk result (λ answer. AnswersOne (IsTold (V.opens server.now) V.Reader.remaining V.Writer.contents)
+        → IfOk result (λ answer. AnswersOne (IsExchanged (V.opens server.now) V.Reader.remaining V.Writer.contents)
         (seen_answer answer) place.old (state S.Store conn.old) place.new (state S.Store conn.new)) }
     ensures stays { HasCleanDisk (state S.Store conn.new) → IsBookKept result
         → OnErr result (Stays place.old (state S.Store conn.old) place.new (state S.Store conn.new)) }
     ensures why { HasCleanDisk (state S.Store conn.new)
-        → IfErr result (FailsToTell (V.refuses server.now) (V.opens server.now) V.Writer.contents place.old
+        → IfErr result (FailsToExchange (V.refuses server.now) (V.opens server.now) V.Writer.contents place.old
         (state S.Store conn.old)) }
     ensures counted { OnOk result (place.new ≡ record place.old { replies = place.old.replies + 1 }) }
     ensures uncounted { OnErr result (place.new ≡ place.old) }
     ensures crash { HasCleanDisk (state S.Store conn.new) → Leaves (HasPlace place.old (state S.Store conn.old)) IsAny
-        (IsSentAfter (IsTold (V.opens server.now) V.Reader.remaining V.Writer.contents)) (state S.Store conn.new) }
+        (IsSentAfter (IsExchanged (V.opens server.now) V.Reader.remaining V.Writer.contents)) (state S.Store conn.new) }
 {
     let mut fault = DeskFault::Unopened;
     'rounds: for round in 0..ROUNDS {
@@ -144,19 +144,19 @@ pub fn send_waiting<S: Alter, V: Server, K: Clock, W: Watch>(
     ensures ended { conn.new.in_transaction ≡ false }
     ensures clean { HasCleanDisk (state S.Store conn.new) → HasCleanDisk (state S.Store conn.old) }
     ensures sends { HasCleanDisk (state S.Store conn.new) → IsBookKept result
-        → Sends (IsTold (V.opens server.now) V.Reader.remaining V.Writer.contents) place.old
+        → Sends (IsExchanged (V.opens server.now) V.Reader.remaining V.Writer.contents) place.old
         (state S.Store conn.old) place.new (state S.Store conn.new) }
     ensures told { HasCleanDisk (state S.Store conn.new)
-        → IfOk result (λ last. TellsLast (IsTold (V.opens server.now) V.Reader.remaining V.Writer.contents) last
+        → IfOk result (λ last. ReturnsLast (IsExchanged (V.opens server.now) V.Reader.remaining V.Writer.contents) last
         place.old (state S.Store conn.old) place.new (state S.Store conn.new)) }
     ensures why { HasCleanDisk (state S.Store conn.new)
-        → IfErr result (FailsToSend (IsTold (V.opens server.now) V.Reader.remaining V.Writer.contents)
+        → IfErr result (FailsToSend (IsExchanged (V.opens server.now) V.Reader.remaining V.Writer.contents)
         (V.refuses server.now) (V.opens server.now) V.Writer.contents place.old (state S.Store conn.old) place.new
         (state S.Store conn.new)) }
     ensures entries { place.new.entries ≡ place.old.entries }
     ensures all { OnOk result (place.old.replies ≤ place.old.entries → place.new.replies ≡ place.old.entries) }
     ensures crash { HasCleanDisk (state S.Store conn.new) → Leaves (HasPlace place.old (state S.Store conn.old)) IsAny
-        (IsSentAfter (IsTold (V.opens server.now) V.Reader.remaining V.Writer.contents)) (state S.Store conn.new) }
+        (IsSentAfter (IsExchanged (V.opens server.now) V.Reader.remaining V.Writer.contents)) (state S.Store conn.new) }
 {
     let first = place.replies;
     let end = place.entries;

@@ -1,12 +1,12 @@
 use Rattle.sql_rows.proofs.Common.{◌∙◌, arith, state}
 use Rattle.till_client.specs.Replies.{seen_answer}
-use Rattle.till_work.specs.Told.{IsTold}
+use Rattle.till_work.specs.Exchanged.{IsExchanged}
 use Rattle.till_work.proofs.GoingOn.{stays_answers, stays_then, kept_if, why_before}
 use Rattle.till_work.proofs.sending.send_oldest.Goals as goal
 
 pub returns-in-Ok-clause-answered : goal.returns-in-Ok-clause-answered
 returns-in-Ok-clause-answered g c clean =
-    stays_answers (IsTold (g.V.Server.opens c.args.server.now) g.V.Reader.Read.remaining g.V.Writer.Write.contents)
+    stays_answers (IsExchanged (g.V.Server.opens c.args.server.now) g.V.Reader.Read.remaining g.V.Writer.Write.contents)
     (seen_answer c.in-Ok.answer) c.args.place.now c.rounds.place c.send_once.new.place (state g.S.Store c.args.conn.now) (state g.S.Store c.rounds.conn)
     (state g.S.Store c.send_once.new.conn) (c.rounds.invariant.2 (c.send_once.ensures.clean clean)) (c.in-Ok.ensures.answered clean)
 

@@ -1,5 +1,5 @@
 use Rattle.sql_rows.proofs.Common.{◌∙◌, ◌+◌, ap, refl, state}
-use Rattle.till_work.specs.Told.{IsTold}
+use Rattle.till_work.specs.Exchanged.{IsExchanged}
 use Rattle.till_work.specs.declared.place.Place.{Place}
 use Rattle.till_work.proofs.GoingOn.{none_sent, tells_sends, tells_one, sends_stays, kept_as, kept_if, why_then}
 use Rattle.till_work.proofs.Stops.{sends_then_leaves}
@@ -10,7 +10,7 @@ entries-init g c = (
   c.requires,
   (λ clean. clean),
   (λ clean.
-      none_sent (IsTold (g.V.Server.opens c.args.server.now) g.V.Reader.Read.remaining g.V.Writer.Write.contents) c.args.place.now
+      none_sent (IsExchanged (g.V.Server.opens c.args.server.now) g.V.Reader.Read.remaining g.V.Writer.Write.contents) c.args.place.now
       (state g.S.Store c.args.conn.now)),
   refl,
   refl,
@@ -18,9 +18,9 @@ entries-init g c = (
 
 pub returns-in-Err-clause-sends : goal.returns-in-Err-clause-sends
 returns-in-Err-clause-sends g c clean kept =
-    sends_stays (IsTold (g.V.Server.opens c.args.server.now) g.V.Reader.Read.remaining g.V.Writer.Write.contents) c.args.place.now c.entries.place
+    sends_stays (IsExchanged (g.V.Server.opens c.args.server.now) g.V.Reader.Read.remaining g.V.Writer.Write.contents) c.args.place.now c.entries.place
     c.send_oldest.new.place (state g.S.Store c.args.conn.now) (state g.S.Store c.entries.conn) (state g.S.Store c.send_oldest.new.conn)
-    (tells_sends (IsTold (g.V.Server.opens c.args.server.now) g.V.Reader.Read.remaining g.V.Writer.Write.contents)
+    (tells_sends (IsExchanged (g.V.Server.opens c.args.server.now) g.V.Reader.Read.remaining g.V.Writer.Write.contents)
     c.entries.last c.args.place.now c.entries.place (state g.S.Store c.args.conn.now) (state g.S.Store c.entries.conn)
     (c.entries.invariant.2 (c.send_oldest.ensures.clean clean)))
     (c.in-Err.ensures.stays clean (kept_as c.in-Err.fault kept))
@@ -31,7 +31,7 @@ entries-preserved g c =
       c.send_oldest.ensures.ended,
       (λ clean. c.entries.invariant.1 (c.send_oldest.ensures.clean clean)),
       (λ clean.
-          tells_one (IsTold (g.V.Server.opens c.args.server.now) g.V.Reader.Read.remaining g.V.Writer.Write.contents) c.entries.last c.in-Ok.answer
+          tells_one (IsExchanged (g.V.Server.opens c.args.server.now) g.V.Reader.Read.remaining g.V.Writer.Write.contents) c.entries.last c.in-Ok.answer
           c.args.place.now c.entries.place c.send_oldest.new.place (state g.S.Store c.args.conn.now) (state g.S.Store c.entries.conn)
           (state g.S.Store c.send_oldest.new.conn) (c.entries.invariant.2 (c.send_oldest.ensures.clean clean)) (c.in-Ok.ensures.answered clean)),
       ap (λ (p : Place). p.entries) counted ∙ c.entries.invariant.3,
@@ -40,13 +40,13 @@ entries-preserved g c =
 
 pub returns-clause-sends : goal.returns-clause-sends
 returns-clause-sends g c clean kept =
-    tells_sends (IsTold (g.V.Server.opens c.args.server.now) g.V.Reader.Read.remaining g.V.Writer.Write.contents) c.entries.last
+    tells_sends (IsExchanged (g.V.Server.opens c.args.server.now) g.V.Reader.Read.remaining g.V.Writer.Write.contents) c.entries.last
     c.args.place.now c.entries.place (state g.S.Store c.args.conn.now) (state g.S.Store c.entries.conn) (c.entries.invariant.2 clean)
 
 pub returns-in-Err-clause-why : goal.returns-in-Err-clause-why
 returns-in-Err-clause-why g c clean =
     why_then (g.V.Server.refuses c.args.server.now) (g.V.Server.opens c.args.server.now) g.V.Writer.Write.contents
-    (IsTold (g.V.Server.opens c.args.server.now) g.V.Reader.Read.remaining g.V.Writer.Write.contents) c.entries.last c.in-Err.fault
+    (IsExchanged (g.V.Server.opens c.args.server.now) g.V.Reader.Read.remaining g.V.Writer.Write.contents) c.entries.last c.in-Err.fault
     c.args.place.now c.entries.place c.send_oldest.new.place (state g.S.Store c.args.conn.now)
     (state g.S.Store c.entries.conn) (state g.S.Store c.send_oldest.new.conn)
     (c.entries.invariant.2 (c.send_oldest.ensures.clean clean))
@@ -54,9 +54,9 @@ returns-in-Err-clause-why g c clean =
 
 pub returns-in-Err-clause-crash : goal.returns-in-Err-clause-crash
 returns-in-Err-clause-crash g c clean =
-    sends_then_leaves (IsTold (g.V.Server.opens c.args.server.now) g.V.Reader.Read.remaining g.V.Writer.Write.contents)
+    sends_then_leaves (IsExchanged (g.V.Server.opens c.args.server.now) g.V.Reader.Read.remaining g.V.Writer.Write.contents)
     c.args.place.now c.entries.place (state g.S.Store c.args.conn.now) (state g.S.Store c.entries.conn) (state g.S.Store c.send_oldest.new.conn)
-    (tells_sends (IsTold (g.V.Server.opens c.args.server.now) g.V.Reader.Read.remaining g.V.Writer.Write.contents)
+    (tells_sends (IsExchanged (g.V.Server.opens c.args.server.now) g.V.Reader.Read.remaining g.V.Writer.Write.contents)
     c.entries.last c.args.place.now c.entries.place (state g.S.Store c.args.conn.now) (state g.S.Store c.entries.conn)
     (c.entries.invariant.2 (c.send_oldest.ensures.clean clean)))
     (c.send_oldest.ensures.crash clean)

@@ -6,7 +6,7 @@ use Rattle.shop_model.specs.Refusals.{NoCounter}
 use Rattle.shop_model.specs.Machine.{Sorry}
 use Rattle.shop_model.specs.Answers.{Answer, answer_of}
 use Rattle.shop_model.proofs.Resends.{same_none}
-use Rattle.till_work.specs.Told.{IsToldAt, AreTold, IsDecided, IsSettledAt, AreSettled}
+use Rattle.till_work.specs.Exchanged.{IsExchangedAt, AreExchanged, IsDecided, IsSettledAt, AreSettled}
 
 -- what stands there stands there still
 still_at : {A : Type 0} (xs ys : List A) (i : ℕ) (x : A) → slice_get xs i ≡ Some x → slice_get (xs ++ ys) i ≡ Some x
@@ -23,31 +23,32 @@ both : {A : Type 0} (P : A → Type 0) (xs ys : List A) → AllByRecursion P xs 
 both P [] ys one two = two
 both P (x ∷ xs) ys one two = (one.0, both P xs ys one.1 two)
 
-module _ (Tells : List ℕ → Answer → Type 0) where
-  pub told_more : (entries more : List (List ℕ)) (i : ℕ) (answer : Answer) → IsToldAt Tells entries i answer → IsToldAt Tells (entries ++ more) i answer
+module _ (Exchanged : List ℕ → Answer → Type 0) where
+  pub told_more : (entries more : List (List ℕ)) (i : ℕ) (answer : Answer) → IsExchangedAt Exchanged entries i answer
+      → IsExchangedAt Exchanged (entries ++ more) i answer
   told_more entries more i answer told = (told.0, still_at entries more i told.0 told.1, told.2)
 
   pub all_told_more : (entries more : List (List ℕ)) (i : ℕ) (answers : List Answer)
-      → AreTold Tells entries i answers → AreTold Tells (entries ++ more) i answers
+      → AreExchanged Exchanged entries i answers → AreExchanged Exchanged (entries ++ more) i answers
   all_told_more entries more i [] told = tt
   all_told_more entries more i (answer ∷ answers) told = (told_more entries more i answer told.0, all_told_more entries more (i + 1) answers told.1)
 
   -- the one after the other
-  pub told_then : (entries : List (List ℕ)) (i : ℕ) (xs ys : List Answer) → AreTold Tells entries i xs
-      → AreTold Tells entries (i + length xs) ys → AreTold Tells entries i (xs ++ ys)
-  told_then entries i [] ys one two = subst (λ (k : ℕ). AreTold Tells entries k ys) (add-zero i) two
+  pub told_then : (entries : List (List ℕ)) (i : ℕ) (xs ys : List Answer) → AreExchanged Exchanged entries i xs
+      → AreExchanged Exchanged entries (i + length xs) ys → AreExchanged Exchanged entries i (xs ++ ys)
+  told_then entries i [] ys one two = subst (λ (k : ℕ). AreExchanged Exchanged entries k ys) (add-zero i) two
   told_then entries i (x ∷ xs) ys one two =
       let place : i + length (x ∷ xs) ≡ i + 1 + length xs = omega arith in
-      (one.0, told_then entries (i + 1) xs ys one.1 (subst (λ (k : ℕ). AreTold Tells entries k ys) place two))
+      (one.0, told_then entries (i + 1) xs ys one.1 (subst (λ (k : ℕ). AreExchanged Exchanged entries k ys) place two))
 
-  settled_more : (entries more : List (List ℕ)) (it : ℕ × Answer) → IsSettledAt Tells entries it → IsSettledAt Tells (entries ++ more) it
+  settled_more : (entries more : List (List ℕ)) (it : ℕ × Answer) → IsSettledAt Exchanged entries it → IsSettledAt Exchanged (entries ++ more) it
   settled_more entries more it told = (told.0, told.1, told_more entries more told.0 it.1 told.2, told.3)
 
   pub all_settled_more : (entries more : List (List ℕ)) (settled : List (ℕ × Answer))
-      → AreSettled Tells entries settled → AreSettled Tells (entries ++ more) settled
+      → AreSettled Exchanged entries settled → AreSettled Exchanged (entries ++ more) settled
   all_settled_more entries more [] told = tt
   all_settled_more entries more (it ∷ settled) told = (settled_more entries more it told.0, all_settled_more entries more settled told.1)
 
   pub settled_then : (entries : List (List ℕ)) (xs ys : List (ℕ × Answer))
-      → AreSettled Tells entries xs → AreSettled Tells entries ys → AreSettled Tells entries (xs ++ ys)
-  settled_then entries xs ys one two = both (IsSettledAt Tells entries) xs ys one two
+      → AreSettled Exchanged entries xs → AreSettled Exchanged entries ys → AreSettled Exchanged entries (xs ++ ys)
+  settled_then entries xs ys one two = both (IsSettledAt Exchanged entries) xs ys one two

@@ -12,7 +12,7 @@ use Rattle.till_client.specs.declared.exchange.AskFault.{AskFault}
 -- Over streams that were opened, the request was written whole and the answer was read whole. The answer is neither a 503 nor `no_counter`. The streams are
 -- values:
 -- `reader` and `writer` as they were opened, `read` and `written` after that.
-pub record IsTold {R W : Type 0} (opens : R → W → Type 0) (remaining : R → Option (List ℕ))
+pub record IsExchanged {R W : Type 0} (opens : R → W → Type 0) (remaining : R → Option (List ℕ))
     (contents : W → Option (List ℕ)) (request : List ℕ) (answer : Answer) :
     Type 0 where
   pub reader : R
@@ -26,13 +26,13 @@ pub record IsTold {R W : Type 0} (opens : R → W → Type 0) (remaining : R →
   pub known : answer ≢ answer_of (Sorry NoCounter)
 
 -- that is a reply to the entry at that place; the first place is 0
-abbrev pub IsToldAt : (List ℕ → Answer → Type 0) → List (List ℕ) → ℕ → Answer → Type 0
-IsToldAt Tells entries i answer = (request : List ℕ) × (slice_get entries i ≡ Some request) × Tells request answer
+abbrev pub IsExchangedAt : (List ℕ → Answer → Type 0) → List (List ℕ) → ℕ → Answer → Type 0
+IsExchangedAt Exchanged entries i answer = (request : List ℕ) × (slice_get entries i ≡ Some request) × Exchanged request answer
 
 -- these are replies to the entries from that place on, one after another
-abbrev pub AreTold : (List ℕ → Answer → Type 0) → List (List ℕ) → ℕ → List Answer → Type 0
-AreTold Tells entries i [] = ⊤
-AreTold Tells entries i (answer ∷ answers) = IsToldAt Tells entries i answer × AreTold Tells entries (i + 1) answers
+abbrev pub AreExchanged : (List ℕ → Answer → Type 0) → List (List ℕ) → ℕ → List Answer → Type 0
+AreExchanged Exchanged entries i [] = ⊤
+AreExchanged Exchanged entries i (answer ∷ answers) = IsExchangedAt Exchanged entries i answer × AreExchanged Exchanged entries (i + 1) answers
 
 -- accepted, or refused for the moment
 abbrev pub IsDecided : Answer → Type 0
@@ -40,11 +40,11 @@ IsDecided answer = (answer.status ≡ 200) ⊎ (answer ≡ answer_of (Sorry Mome
 
 -- that is a reply to the entry of that number, and decides it; the first number is 1
 abbrev pub IsSettledAt : (List ℕ → Answer → Type 0) → List (List ℕ) → ℕ × Answer → Type 0
-IsSettledAt Tells entries it = (i : ℕ) × (it.0 ≡ i + 1) × IsToldAt Tells entries i it.1 × IsDecided it.1
+IsSettledAt Exchanged entries it = (i : ℕ) × (it.0 ≡ i + 1) × IsExchangedAt Exchanged entries i it.1 × IsDecided it.1
 
 -- each of them is settled so
 abbrev pub AreSettled : (List ℕ → Answer → Type 0) → List (List ℕ) → List (ℕ × Answer) → Type 0
-AreSettled Tells entries settled = AllByRecursion (IsSettledAt Tells entries) settled
+AreSettled Exchanged entries settled = AllByRecursion (IsSettledAt Exchanged entries) settled
 
 -- Over streams that were opened no answer came to the request. The fault says how much of the request was written.
 pub record IsUnanswered {R W : Type 0} (why : AskFault) (opens : R → W → Type 0) (contents : W → Option (List ℕ)) (request : List ℕ) : Type 0 where

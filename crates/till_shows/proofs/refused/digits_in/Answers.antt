@@ -1,7 +1,7 @@
 use Rattle.shop_types.proofs.Common.{◌≡◌, ◌∙◌, ◌++◌, Some, List, ℕ, ap, Decides-eqb, strip_prefix_is, strip_suffix_is}
-use Rattle.till_shows.specs.Told.{line_start, line_end}
+use Rattle.till_shows.specs.Refused.{line_start, line_end}
 use Rattle.till_shows.proofs.NumberLemmas.{between_ends}
-use Rattle.till_shows.proofs.told.digits_in.Goals as goal
+use Rattle.till_shows.proofs.refused.digits_in.Goals as goal
 
 pub returns-clause-some : goal.returns-clause-some
 returns-clause-some c =

@@ -3,16 +3,16 @@ use Rattle.shop_types.specs.declared.refusal.Refusal.{Refusal}
 use Rattle.shop_types.specs.declared.refusal.Refusal.TheVariants.{BadCsv}
 use Rattle.shop_model.specs.Json.{escape_byte}
 use Rattle.shop_model.specs.Refusals as named
-use Rattle.till_shows.specs.Told.{Tells, line_body, has_short_line}
-use Rattle.till_shows.proofs.told.refusal_in.Goals as goal
+use Rattle.till_shows.specs.Refused.{HasRefusal, line_body, has_short_line}
+use Rattle.till_shows.proofs.refused.refusal_in.Goals as goal
 
 same_body : (line : ℕ) → line_body line ≡ problem_text (named.Decision (named.BadCsv line))
 unfolding escape_byte
 same_body line = refl
 
-neither : (status : ℕ) (body : List ℕ) → ((it : Refusal) → has_fixed_body it ≡ true → ¬ Tells status body it)
+neither : (status : ℕ) (body : List ℕ) → ((it : Refusal) → has_fixed_body it ≡ true → ¬ HasRefusal status body it)
     → ((line : ℕ) → line < 2 ^ 32 → ¬ (body ≡ line_body line))
-    → (it : Refusal) → has_short_line it ≡ true → ¬ Tells status body it
+    → (it : Refusal) → has_short_line it ≡ true → ¬ HasRefusal status body it
 neither status body fixed lines (BadCsv fault) short tells =
     lines fault.line (leb-true (suc fault.line) (2 ^ 32) short) (ap (λ (a : Answer). a.body) tells ∙ sym (same_body fault.line))
 neither status body fixed lines it short tells = fixed it refl tells

@@ -3,7 +3,7 @@
 ghost use Rattle.std.specs.Prelude.{◌≡◌, ◌↔◌, ℕ, ◌<◌, ◌^◌, ◌++◌, List, true, IsTrue, IfSome, IfNone, decimal};
 ghost use Rattle.shop_types.specs.Replies.{has_fixed_body};
 ghost use Rattle.shop_types.specs.declared.refusal.Refusal.{Refusal as Problem};
-ghost use Rattle.till_shows.specs.Told.{refusal_of, Tells, line_start, line_end, line_body, has_short_line};
+ghost use Rattle.till_shows.specs.Refused.{refusal_of, HasRefusal, line_start, line_end, line_body, has_short_line};
 
 use shop_types::{BadCsv, LineNo, Refusal, Reply};
 
@@ -54,7 +54,7 @@ fn refusal_of(number: u8) -> Option<Refusal>
 
 fn tells(status: u16, body: &[u8], refusal: Refusal) -> bool
     requires { has_fixed_body refusal ≡ true }
-    ensures { IsTrue result ↔ Tells status body.now refusal }
+    ensures { IsTrue result ↔ HasRefusal status body.now refusal }
 {
     let reply = Reply::refused(refusal);
     status == reply.status && body == reply.body_bytes()
@@ -62,8 +62,8 @@ fn tells(status: u16, body: &[u8], refusal: Refusal) -> bool
 
 /// Returns the refusal in a reply that says no more than the refusal's name.
 fn named(status: u16, body: &[u8]) -> Option<Refusal>
-    ensures some { IfSome result (λ it. Tells status body.now it) }
-    ensures none { IfNone result ((it : Problem) → has_fixed_body it ≡ true → ¬ Tells status body.now it) }
+    ensures some { IfSome result (λ it. HasRefusal status body.now it) }
+    ensures none { IfNone result ((it : Problem) → has_fixed_body it ≡ true → ¬ HasRefusal status body.now it) }
 {
     for number in 0..43 {
         if let Some(refusal) = refusal_of(number) {
@@ -112,8 +112,8 @@ fn line_in(body: &[u8]) -> Option<u32>
 /// Returns the refusal in a reply. Finds one exactly if the status and the body are, byte for byte, what the server
 /// sends for that refusal. A stock file's line is found if it is below 2 ^ 32.
 pub fn refusal_in(status: u16, body: &[u8]) -> Option<Refusal>
-    ensures some { IfSome result (λ it. Tells status body.now it) }
-    ensures none { IfNone result ((it : Problem) → has_short_line it ≡ true → ¬ Tells status body.now it) }
+    ensures some { IfSome result (λ it. HasRefusal status body.now it) }
+    ensures none { IfNone result ((it : Problem) → has_short_line it ≡ true → ¬ HasRefusal status body.now it) }
 {
     if let Some(refusal) = named(status, body) {
         return Some(refusal);

@@ -1,6 +1,6 @@
 use Rattle.shop_types.proofs.Common.{◌∙◌, ap, sym, decimal, same_text, other_text}
 use Rattle.till_shows.proofs.NumberLemmas.{read_is, none_read, zero_text}
-use Rattle.till_shows.proofs.told.number_in.Goals as goal
+use Rattle.till_shows.proofs.refused.number_in.Goals as goal
 
 pub returns-then-eq-clause-some : goal.returns-then-eq-clause-some
 returns-then-eq-clause-some c = same_text c.args.digits.now c.as_slice.result.now c.if-eq.ensures ∙ c.as_slice.ensures ∙ sym zero_text

@@ -7,8 +7,8 @@ use Rattle.shop_types.specs.declared.refusal.Refusal.{Refusal}
 use Rattle.shop_types.specs.declared.refusal.Refusal.TheVariants as refusal
 
 -- the refusal's reply has this status and this body
-abbrev pub Tells : ℕ → Text → Refusal → Type 0
-Tells status body it = record { status = status; body = body } ≡ problem_answer (seen_refusal it)
+abbrev pub HasRefusal : ℕ → Text → Refusal → Type 0
+HasRefusal status body it = record { status = status; body = body } ≡ problem_answer (seen_refusal it)
 
 -- the refusal names no line, or a line whose number fits in 32 bits
 abbrev pub has_short_line : Refusal → Bool
