@@ -42,11 +42,13 @@ ok_is (Err e) is holds = absurd is
 
 -- what was done of a plan was done of the same plan by another name
 pub carried_out :
-    {A E : Type 0} (r : Result A E) (Tells : List ℕ → Answer → Type 0) (shows : ℕ → Type 0) (mark token : Text) (giver : Result ℕ TillFault) (it other : Plan)
-    (before : Place) (old : State) (after : Place) (new : State) → it ≡ other → OnOk r (IsCarriedOut Tells shows mark token giver other before old after new)
-    → OnOk r (IsCarriedOut Tells shows mark token giver it before old after new)
-carried_out r Tells shows mark token giver it other before old after new same done =
-    subst (λ (p : Plan). OnOk r (IsCarriedOut Tells shows mark token giver p before old after new)) (sym same) done
+    {A E : Type 0} (r : Result A E) (Exchanged : List ℕ → Answer → Type 0) (shows : ℕ → Type 0) (mark token : Text)
+    (giver : Result ℕ TillFault) (it other : Plan)
+    (before : Place) (old : State) (after : Place) (new : State) → it ≡ other
+    → OnOk r (IsCarriedOut Exchanged shows mark token giver other before old after new)
+    → OnOk r (IsCarriedOut Exchanged shows mark token giver it before old after new)
+carried_out r Exchanged shows mark token giver it other before old after new same done =
+    subst (λ (p : Plan). OnOk r (IsCarriedOut Exchanged shows mark token giver p before old after new)) (sym same) done
 
 -- what the book is read for stays so in front of a look
 pub returned_before : (sheet : Text) (copy : ℕ) (held : HeldRental) (old new : State) → book.Stays old new
@@ -54,12 +56,12 @@ pub returned_before : (sheet : Text) (copy : ℕ) (held : HeldRental) (old new :
 returned_before sheet copy held old new stays (inl is) = inl (λ journal rests. is journal (stays journal rests))
 returned_before sheet copy held old new stays (inr is) = inr ((λ journal rests. is.0 journal (stays journal rests)), is.1)
 
-module _ (Tells : List ℕ → Answer → Type 0) where
+module _ (Exchanged : List ℕ → Answer → Type 0) where
   -- ---- what waited was sent
 
-  pub sends_all : (before after : Place) (old new : State) → Sends Tells before old after new
+  pub sends_all : (before after : Place) (old new : State) → Sends Exchanged before old after new
       → (before.replies ≤ before.entries → after.replies ≡ before.entries)
-      → SendsAll Tells before old after new
+      → SendsAll Exchanged before old after new
   sends_all before after old new sends all journal has =
       let it = sends journal has in (
         it.0,
@@ -67,8 +69,8 @@ module _ (Tells : List ℕ → Answer → Type 0) where
         (λ fits. sym it.1.has.replies ∙ all (rw (has.replies, has.entries) fits) ∙ has.entries),
       )
 
-  pub all_stays : {A E : Type 0} (r : Result A E) (before after : Place) (old mid new : State) → SendsAll Tells before old after mid → book.Stays mid new
-      → OnOk r (SendsAll Tells before old after new)
+  pub all_stays : {A E : Type 0} (r : Result A E) (before after : Place) (old mid new : State) → SendsAll Exchanged before old after mid → book.Stays mid new
+      → OnOk r (SendsAll Exchanged before old after new)
   all_stays r before after old mid new sends stays =
       on_ok r (λ journal has.
       let it = sends journal has in (
@@ -81,7 +83,7 @@ module _ (Tells : List ℕ → Answer → Type 0) where
       ))
 
   sent_word : (place after : Place) (old mid new : State) → IsPlaceOf place old
-      → book.Stays old mid → SendsAll Tells place mid after new → SendsWord Tells old new
+      → book.Stays old mid → SendsAll Exchanged place mid after new → SendsWord Exchanged old new
   sent_word place after old mid new is stays sends journal rests =
       let counted = is journal rests in
       let it = sends journal (record { rests = stays journal rests; entries = counted.0; replies = counted.1 }) in
@@ -92,8 +94,8 @@ module _ (Tells : List ℕ → Answer → Type 0) where
   module _ (shows : ℕ → Type 0) (mark token : Text) (giver : Result ℕ TillFault) where
     -- a look at the book leaves it so
     pub gives_stays : (act : Act) (answer : Answer) (before after : Place) (old mid new : State)
-        → Gives Tells shows mark token giver act answer before old after mid
-        → book.Stays mid new → Gives Tells shows mark token giver act answer before old after new
+        → Gives Exchanged shows mark token giver act answer before old after mid
+        → book.Stays mid new → Gives Exchanged shows mark token giver act answer before old after new
     gives_stays act answer before after old mid new gives stays = (
       gives.0,
       gives.1,
@@ -122,14 +124,14 @@ module _ (Tells : List ℕ → Answer → Type 0) where
     )
 
     pub gives_told : {A E : Type 0} (r : Result A E) (act : Act) (answer : Answer) (before after : Place) (old mid new : State)
-        → Gives Tells shows mark token giver act answer before old after mid → book.Stays mid new
-        → OnOk r (GivesAct Tells shows mark token giver act before old after new)
+        → Gives Exchanged shows mark token giver act answer before old after mid → book.Stays mid new
+        → OnOk r (GivesAct Exchanged shows mark token giver act before old after new)
     gives_told (Ok a) act answer before after old mid new gives stays = (answer, gives_stays act answer before after old mid new gives stays)
     gives_told (Err e) act answer before after old mid new gives stays = tt
 
     given_word : (what : Act) (place after : Place) (old mid new : State) → IsPlaceOf place old
-        → book.Stays old mid → GivesAct Tells shows mark token giver what place mid after new
-        → GivesWord Tells shows mark token giver what old new
+        → book.Stays old mid → GivesAct Exchanged shows mark token giver what place mid after new
+        → GivesWord Exchanged shows mark token giver what old new
     given_word what place after old mid new is stays gives = (
       gives.0,
       gives.1.0,
@@ -141,21 +143,21 @@ module _ (Tells : List ℕ → Answer → Type 0) where
 
     -- of the plan that it is
     as_planned : (it other : Plan) (before : Place) (old : State) (after : Place) (new : State)
-        → it ≡ other → IsCarriedOut Tells shows mark token giver it before old after new
-        → IsCarriedOut Tells shows mark token giver other before old after new
-    as_planned it other before old after new same done = subst (λ (p : Plan). IsCarriedOut Tells shows mark token giver p before old after new) same done
+        → it ≡ other → IsCarriedOut Exchanged shows mark token giver it before old after new
+        → IsCarriedOut Exchanged shows mark token giver other before old after new
+    as_planned it other before old after new same done = subst (λ (p : Plan). IsCarriedOut Exchanged shows mark token giver p before old after new) same done
 
     -- words of head office that only read
     reading_stays : (reads : Bool) (words : List Text) (it : Plan) (before : Place) (old : State) (after : Place) (new : State)
         → it ≡ (if reads then plan.ReadOffice words else plan.Office words)
-        → IsCarriedOut Tells shows mark token giver it before old after new → IsTrue reads → book.Stays old new
+        → IsCarriedOut Exchanged shows mark token giver it before old after new → IsTrue reads → book.Stays old new
     reading_stays true words it before old after new same done is = as_planned it (plan.ReadOffice words) before old after new same done
     reading_stays false words it before old after new same done is = absurd (false≢true is)
 
     -- What was carried out of the word's plan is the word. The plan was made of the book as it was read.
     pub word_done : (sheet : Text) (word : TillAct) (it : Plan) (place after : Place) (old read mid new : State)
         → IsPlaceOf place old → book.Stays old read → book.Stays read mid → IsPlanOf sheet read word it
-        → IsCarriedOut Tells shows mark token giver it place mid after new → DoesWord Tells shows mark token giver sheet word old new
+        → IsCarriedOut Exchanged shows mark token giver it place mid after new → DoesWord Exchanged shows mark token giver sheet word old new
     word_done sheet (typed.Do what) it place after old read mid new is first second plans done =
         given_word (seen_act what) place after old mid new is (stays_both old read mid first second)
         (as_planned it (plan.Give what plans.0) place mid after new plans.2 done)
@@ -189,6 +191,8 @@ module _ (Tells : List ℕ → Answer → Type 0) where
     word_done sheet (typed.Init beginning) it place after old read mid new is first second plans done =
         stays_both old mid new (stays_both old read mid first second) (as_planned it plan.Usage place mid after new plans done)
     word_done sheet (typed.Import file lot) it place after old read mid new is first second plans done =
+        stays_both old mid new (stays_both old read mid first second) (as_planned it plan.Usage place mid after new plans done)
+    word_done sheet (typed.JoinIn who) it place after old read mid new is first second plans done =
         stays_both old mid new (stays_both old read mid first second) (as_planned it plan.Usage place mid after new plans done)
     word_done sheet typed.Prompt it place after old read mid new is first second plans done =
         stays_both old mid new (stays_both old read mid first second) (as_planned it plan.Usage place mid after new plans done)

@@ -13,8 +13,8 @@ use Rattle.till_client.specs.declared.replies.Answer.{Answer as Read}
 use Rattle.till_client.proofs.SoleMessages.{one_command}
 use Rattle.till_book.specs.Journal.{Journal, with_entry}
 use Rattle.till_work.specs.declared.place.Place.{Place}
-use Rattle.till_work.specs.Told.{AreTold}
-use Rattle.till_work.specs.Desk.{HasPlace, IsAt, GoesOn, Stays, EntersOne, TellsLast, with_replies}
+use Rattle.till_work.specs.Exchanged.{AreExchanged}
+use Rattle.till_work.specs.Desk.{HasPlace, IsAt, GoesOn, Stays, EntersOne, ReturnsLast, with_replies}
 use Rattle.till_work.proofs.GoingOn.{place_of, at_place, extends_then, extends_entry, extends_sent, more_then}
 use Rattle.till_cashier.specs.declared.fault.TillFault.{TillFault}
 use Rattle.till_cashier.specs.Giving.{IsDated, IsTry, AreTries, IsRequest, EntersTry, IsTried, Tries, IsBack, IsGivenAt, Gives, GivesAct}
@@ -62,44 +62,44 @@ enters_try shows mark token own_mark own_token giver act request before after ol
     )
 
 pub try_goes :
-    (Tells : List ℕ → Answer → Type 0) (shows : ℕ → Type 0) (mark token : Text)
+    (Exchanged : List ℕ → Answer → Type 0) (shows : ℕ → Type 0) (mark token : Text)
     (giver : Result ℕ TillFault) (act : Act) (before after : Place) (old new : State)
-    → EntersTry shows mark token giver act before old after new → GoesOn Tells mark before old after new
-try_goes Tells shows mark token giver act before after old new enters journal commands at =
+    → EntersTry shows mark token giver act before old after new → GoesOn Exchanged mark before old after new
+try_goes Exchanged shows mark token giver act before after old new enters journal commands at =
     let it = enters.2 journal commands at in
     record {
       journal = with_entry it.0 journal;
       commands = commands ++ it.1 ∷ [];
       is_at = it.3;
-      extends = extends_entry Tells it.0 journal;
+      extends = extends_entry Exchanged it.0 journal;
       says = (it.1 ∷ [], refl);
     }
 
 -- each reply that was received is of an entry of the book
-told_within : (Tells : List ℕ → Answer → Type 0) (entries : List (List ℕ)) (i : ℕ) (front : List Answer) (answer : Answer)
-    → AreTold Tells entries i (front ++ answer ∷ [])
+told_within : (Exchanged : List ℕ → Answer → Type 0) (entries : List (List ℕ)) (i : ℕ) (front : List Answer) (answer : Answer)
+    → AreExchanged Exchanged entries i (front ++ answer ∷ [])
     → i + length front < length entries
-told_within Tells entries i [] answer told = let within = slice_get_within entries i told.0.0 told.0.1 in omega arith
-told_within Tells entries i (x ∷ front) answer told = let within = told_within Tells entries (i + 1) front answer told.1 in omega arith
+told_within Exchanged entries i [] answer told = let within = slice_get_within entries i told.0.0 told.0.1 in omega arith
+told_within Exchanged entries i (x ∷ front) answer told = let within = told_within Exchanged entries (i + 1) front answer told.1 in omega arith
 
-module _ (Tells : List ℕ → Answer → Type 0) (shows : ℕ → Type 0) (mark token : Text) (giver : Result ℕ TillFault) (act : Act) where
+module _ (Exchanged : List ℕ → Answer → Type 0) (shows : ℕ → Type 0) (mark token : Text) (giver : Result ℕ TillFault) (act : Act) where
   pub tries_one : (answer : Read) (before mid after : Place) (old between new : State) → EntersTry shows mark token giver act before old mid between
-      → TellsLast Tells (Some answer) mid between after new → (mid.replies ≤ mid.entries → after.replies ≡ mid.entries)
-      → Tries Tells shows mark token giver act (seen_answer answer ∷ []) before old after new
+      → ReturnsLast Exchanged (Some answer) mid between after new → (mid.replies ≤ mid.entries → after.replies ≡ mid.entries)
+      → Tries Exchanged shows mark token giver act (seen_answer answer ∷ []) before old after new
   tries_one answer before mid after old between new enters tells all = (enters.0, enters.1, tried)
     where
       tried : (journal : Journal) (commands : List Command) → IsAt mark before old journal commands
-          → IsTried Tells shows mark token enters.0 act (seen_answer answer ∷ []) after new journal commands
+          → IsTried Exchanged shows mark token enters.0 act (seen_answer answer ∷ []) after new journal commands
       tried journal commands at =
           let it = enters.2 journal commands at in
           let next : Journal = with_entry it.0 journal in
           let sent = tells next (place_of mark mid between next (commands ++ it.1 ∷ []) it.3) in
           let answers = sent.0 in
           let front = sent.2.0 in
-          let told : AreTold Tells next.entries (length next.replies) (front ++ seen_answer answer ∷ []) =
-          subst (λ (xs : List Answer). AreTold Tells next.entries (length next.replies) xs) sent.2.1 sent.1.told in
+          let told : AreExchanged Exchanged next.entries (length next.replies) (front ++ seen_answer answer ∷ []) =
+          subst (λ (xs : List Answer). AreExchanged Exchanged next.entries (length next.replies) xs) sent.2.1 sent.1.told in
           let within : length journal.replies + length front < length (journal.entries ++ it.0 ∷ []) =
-          told_within Tells next.entries (length next.replies) front (seen_answer answer) told in
+          told_within Exchanged next.entries (length next.replies) front (seen_answer answer) told in
           let entries : mid.entries ≡ length (journal.entries ++ it.0 ∷ []) = it.3.entries in
           let replies : mid.replies ≡ length journal.replies = it.3.replies in
           let full : after.replies ≡ mid.entries = all (omega arith) in
@@ -113,7 +113,8 @@ module _ (Tells : List ℕ → Answer → Type 0) (shows : ℕ → Type 0) (mark
             commands = commands ++ it.1 ∷ [];
             is_at = at_place mark mid after between new next (with_replies answers next) (commands ++ it.1 ∷ []) it.3 refl sent.1.has;
             extends =
-                extends_then Tells journal next (with_replies answers next) (extends_entry Tells it.0 journal) (extends_sent Tells answers next sent.1.told);
+                extends_then Exchanged journal next (with_replies answers next) (extends_entry Exchanged it.0 journal)
+                (extends_sent Exchanged answers next sent.1.told);
             requests = it.0 ∷ [];
             tries = it.1 ∷ [];
             entries = refl;
@@ -154,11 +155,11 @@ behind_all : {A : Type 0} (mid last told later waited none : List A) (before : L
 behind_all mid last told later waited none before is one two =
     two ∙ ap (λ (xs : List _). (mid ++ xs) ++ later) is ∙ ap (λ (xs : List _). xs ++ later) (append-nil mid ∙ one) ∙ append_assoc (before ++ waited) told later
 
-module _ (Tells : List ℕ → Answer → Type 0) (shows : ℕ → Type 0) (mark token : Text) (staff : ℕ) (act : Act) where
+module _ (Exchanged : List ℕ → Answer → Type 0) (shows : ℕ → Type 0) (mark token : Text) (staff : ℕ) (act : Act) where
   -- each try has its reply
   full :
       (told : List Answer) (place : Place) (s : State) (old : Journal) (said : List Command)
-      (it : IsTried Tells shows mark token staff act told place s old said)
+      (it : IsTried Exchanged shows mark token staff act told place s old said)
       → length it.journal.replies ≡ length it.journal.entries
   full told place s old said it =
       let replies : length it.journal.replies ≡ length (old.replies ++ it.waited) + length told =
@@ -170,14 +171,14 @@ module _ (Tells : List ℕ → Answer → Type 0) (shows : ℕ → Type 0) (mark
 
   tried_then :
       (told later : List Answer) (mid after : Place) (between new : State) (old : Journal)
-      (said : List Command) (one : IsTried Tells shows mark token staff act told mid between old said)
-      → IsTried Tells shows mark token staff act later after new one.journal one.commands
-      → IsTried Tells shows mark token staff act (told ++ later) after new old said
+      (said : List Command) (one : IsTried Exchanged shows mark token staff act told mid between old said)
+      → IsTried Exchanged shows mark token staff act later after new one.journal one.commands
+      → IsTried Exchanged shows mark token staff act (told ++ later) after new old said
   tried_then told later mid after between new old said one two = record {
     journal = two.journal;
     commands = two.commands;
     is_at = two.is_at;
-    extends = extends_then Tells old one.journal two.journal one.extends two.extends;
+    extends = extends_then Exchanged old one.journal two.journal one.extends two.extends;
     requests = one.requests ++ two.requests;
     tries = one.tries ++ two.tries;
     entries = more_then old.entries one.journal.entries two.journal.entries one.requests two.requests one.entries two.entries;
@@ -194,13 +195,13 @@ module _ (Tells : List ℕ → Answer → Type 0) (shows : ℕ → Type 0) (mark
       sums : (a b : List Answer) (c d : List (List ℕ)) → length a ≡ length c → length b ≡ length d → length a + length b ≡ length c + length d
       sums a b c d e f = omega arith
 
-all_then : {A : Type 0} (P : A → Type 0) (xs : List A) (y : A) → AllByRecursion P xs → P y → AllByRecursion P (xs ++ y ∷ [])
+pub all_then : {A : Type 0} (P : A → Type 0) (xs : List A) (y : A) → AllByRecursion P xs → P y → AllByRecursion P (xs ++ y ∷ [])
 all_then P [] y all last = (last, tt)
 all_then P (x ∷ xs) y all last = (all.0, all_then P xs y all.1 last)
 
-module _ (Tells : List ℕ → Answer → Type 0) (shows : ℕ → Type 0) (mark token : Text) (giver : Result ℕ TillFault) (act : Act) where
+module _ (Exchanged : List ℕ → Answer → Type 0) (shows : ℕ → Type 0) (mark token : Text) (giver : Result ℕ TillFault) (act : Act) where
   pub first_gives : (answer : Answer) (before mid after : Place) (old between new : State) → Stays before old mid between
-      → Tries Tells shows mark token giver act (answer ∷ []) mid between after new → Gives Tells shows mark token giver act answer before old after new
+      → Tries Exchanged shows mark token giver act (answer ∷ []) mid between after new → Gives Exchanged shows mark token giver act answer before old after new
   first_gives answer before mid after old between new stays tries = (
     tries.0,
     tries.1,
@@ -210,43 +211,44 @@ module _ (Tells : List ℕ → Answer → Type 0) (shows : ℕ → Type 0) (mark
   )
 
   pub next_gives : (back answer : Answer) (before mid after : Place) (old between new : State)
-      → IsBack back → Gives Tells shows mark token giver act back before old mid between
-      → Tries Tells shows mark token giver act (answer ∷ []) mid between after new → Gives Tells shows mark token giver act answer before old after new
+      → IsBack back → Gives Exchanged shows mark token giver act back before old mid between
+      → Tries Exchanged shows mark token giver act (answer ∷ []) mid between after new → Gives Exchanged shows mark token giver act answer before old after new
   next_gives back answer before mid after old between new is gives tries = (gives.0, gives.1, given)
     where
       same : tries.0 ≡ gives.0
       same = let one = tries.1 in let two = gives.1 in cc
 
       given : (journal : Journal) (commands : List Command) → IsAt mark before old journal commands
-          → (backs : List Answer) × AllByRecursion IsBack backs × IsTried Tells shows mark token gives.0 act (backs ++ answer ∷ []) after new journal commands
+          → (backs : List Answer) × AllByRecursion IsBack backs
+          × IsTried Exchanged shows mark token gives.0 act (backs ++ answer ∷ []) after new journal commands
       given journal commands at =
           let it = gives.2 journal commands at in
-          let last : IsTried Tells shows mark token gives.0 act (answer ∷ []) after new it.2.journal it.2.commands =
-          subst (λ (staff : ℕ). IsTried Tells shows mark token staff act (answer ∷ []) after new it.2.journal it.2.commands) same
+          let last : IsTried Exchanged shows mark token gives.0 act (answer ∷ []) after new it.2.journal it.2.commands =
+          subst (λ (staff : ℕ). IsTried Exchanged shows mark token staff act (answer ∷ []) after new it.2.journal it.2.commands) same
           (tries.2 it.2.journal it.2.commands it.2.is_at) in (
             it.0 ++ back ∷ [],
             all_then IsBack it.0 back it.1 is,
-            tried_then Tells shows mark token gives.0 act (it.0 ++ back ∷ []) (answer ∷ []) mid after between new journal commands it.2 last,
+            tried_then Exchanged shows mark token gives.0 act (it.0 ++ back ∷ []) (answer ∷ []) mid after between new journal commands it.2 last,
           )
 
   -- the replies so far: none, or `moment_back` to each try
   abbrev pub SoFar : {A : Type 0} → (A → Answer) → Result A TillFault → Place → State → Place → State → Type 0
   SoFar seen told before old after new =
-      MatchResult told (λ it. Gives Tells shows mark token giver act (seen it) before old after new × IsBack (seen it)) (λ _. Stays before old after new)
+      MatchResult told (λ it. Gives Exchanged shows mark token giver act (seen it) before old after new × IsBack (seen it)) (λ _. Stays before old after new)
 
   pub gives_so_far : {A : Type 0} (seen : A → Answer) (told : Result A TillFault) (answer : Answer) (before mid after : Place) (old between new : State)
-      → SoFar seen told before old mid between → Tries Tells shows mark token giver act (answer ∷ []) mid between after new
-      → Gives Tells shows mark token giver act answer before old after new
+      → SoFar seen told before old mid between → Tries Exchanged shows mark token giver act (answer ∷ []) mid between after new
+      → Gives Exchanged shows mark token giver act answer before old after new
   gives_so_far seen (Ok it) answer before mid after old between new far tries = next_gives (seen it) answer before mid after old between new far.1 far.0 tries
   gives_so_far seen (Err fault) answer before mid after old between new far tries = first_gives answer before mid after old between new far tries
 
   pub gave : {A : Type 0} (seen : A → Answer) (told : Result A TillFault) (before after : Place) (old new : State) → SoFar seen told before old after new
-      → IfOk told (λ it. Gives Tells shows mark token giver act (seen it) before old after new)
+      → IfOk told (λ it. Gives Exchanged shows mark token giver act (seen it) before old after new)
   gave seen (Ok it) before after old new far = far.0
   gave seen (Err fault) before after old new far = tt
 
-  pub tries_goes : (answers : List Answer) (before after : Place) (old new : State) → Tries Tells shows mark token giver act answers before old after new
-      → GoesOn Tells mark before old after new
+  pub tries_goes : (answers : List Answer) (before after : Place) (old new : State) → Tries Exchanged shows mark token giver act answers before old after new
+      → GoesOn Exchanged mark before old after new
   tries_goes answers before after old new tries journal commands at =
       let it = tries.2 journal commands at in
       record { journal = it.journal; commands = it.commands; is_at = it.is_at; extends = it.extends; says = (it.tries, it.says) }

@@ -17,10 +17,10 @@ use Rattle.till_book.specs.Marks.{is_reply_to}
 use Rattle.till_book.specs.Steps as book
 use Rattle.till_book.specs.Steps.{IsEntered}
 use Rattle.till_work.specs.declared.place.Place.{Place}
-use Rattle.till_work.specs.Desk.{HasPlace, Grows, Extends, Sends, Stays, TellsLast, with_replies}
+use Rattle.till_work.specs.Desk.{HasPlace, Grows, Extends, Sends, Stays, ReturnsLast, with_replies}
 use Rattle.till_work.proofs.GoingOn.{more_then, extends_then, extends_same, extends_entry, extends_sent}
 use Rattle.till_cashier.specs.Office.{open_key, SaysUnder, IsInTurn, AreInTurn, IsUsedAt, EntersInTurn, AddsInTurn, AddsWords, HasTurn, GrowsInTurn}
-use Rattle.till_cashier.specs.Office.{HasOpenKey, HasUsedTurn, GrowsUsed, HasGiven, GivesOne}
+use Rattle.till_cashier.specs.Office.{HasOpenKey, HasUsedTurn, GrowsUsed, HasGiven, GivesOne, HasAnswered, AnswersInTurn}
 use Rattle.till_cashier.specs.declared.fault.TillFault.{TillFault}
 use Rattle.till_cashier.specs.Word.{EntersNothing, IsPlaceOf}
 use Rattle.till_cashier.proofs.GoingOn.{same_extends}
@@ -46,51 +46,52 @@ last_at xs x =
 -- ---- nothing is entered
 
 -- a book that was that one and has what was in it; nothing was entered
-pub record HasNone (Tells : List ℕ → Answer → Type 0) (place : Place) (s : State) (old : Journal) : Type 0 where
+pub record HasNone (Exchanged : List ℕ → Answer → Type 0) (place : Place) (s : State) (old : Journal) : Type 0 where
   pub journal : Journal
   pub has : HasPlace place s journal
-  pub extends : Extends Tells old journal
+  pub extends : Extends Exchanged old journal
   pub same : journal.entries ≡ old.entries
 
 abbrev pub GrowsNone : (List ℕ → Answer → Type 0) → Place → State → Place → State → Type 0
-GrowsNone Tells before old after new = (journal : Journal) → HasPlace before old journal → HasNone Tells after new journal
+GrowsNone Exchanged before old after new = (journal : Journal) → HasPlace before old journal → HasNone Exchanged after new journal
 
-module _ (Tells : List ℕ → Answer → Type 0) where
-  pub stays_none : (place : Place) (old new : State) → book.Stays old new → GrowsNone Tells place old place new
+module _ (Exchanged : List ℕ → Answer → Type 0) where
+  pub stays_none : (place : Place) (old new : State) → book.Stays old new → GrowsNone Exchanged place old place new
   stays_none place old new stays journal has = record {
     journal = journal;
     has = record { rests = stays journal has.rests; entries = has.entries; replies = has.replies };
-    extends = extends_same Tells journal;
+    extends = extends_same Exchanged journal;
     same = refl;
   }
 
-  pub same_none : (before after : Place) (old new : State) → Stays before old after new → GrowsNone Tells before old after new
-  same_none before after old new stays journal has = record { journal = journal; has = stays journal has; extends = extends_same Tells journal; same = refl }
+  pub same_none : (before after : Place) (old new : State) → Stays before old after new → GrowsNone Exchanged before old after new
+  same_none before after old new stays journal has =
+      record { journal = journal; has = stays journal has; extends = extends_same Exchanged journal; same = refl }
 
-  pub sends_none : (before after : Place) (old new : State) → Sends Tells before old after new → GrowsNone Tells before old after new
+  pub sends_none : (before after : Place) (old new : State) → Sends Exchanged before old after new → GrowsNone Exchanged before old after new
   sends_none before after old new sends journal has =
       let it = sends journal has in
-      record { journal = with_replies it.0 journal; has = it.1.has; extends = extends_sent Tells it.0 journal it.1.told; same = refl }
+      record { journal = with_replies it.0 journal; has = it.1.has; extends = extends_sent Exchanged it.0 journal it.1.told; same = refl }
 
-  pub settles_none : (place : Place) (old new : State) → EntersNothing Tells old new → GrowsNone Tells place old place new
+  pub settles_none : (place : Place) (old new : State) → EntersNothing Exchanged old new → GrowsNone Exchanged place old place new
   settles_none place old new nothing journal has =
       let it = nothing journal has.rests in
       record {
         journal = it.journal;
         has = record { rests = it.rests; entries = has.entries ∙ ap length (sym it.entries); replies = has.replies ∙ ap length (sym it.replies) };
-        extends = same_extends Tells new journal it;
+        extends = same_extends Exchanged new journal it;
         same = it.entries;
       }
 
   pub none_then : (before mid after : Place) (old between new : State)
-      → GrowsNone Tells before old mid between → GrowsNone Tells mid between after new → GrowsNone Tells before old after new
+      → GrowsNone Exchanged before old mid between → GrowsNone Exchanged mid between after new → GrowsNone Exchanged before old after new
   none_then before mid after old between new one two journal has =
       let first = one journal has in
       let next = two first.journal first.has in
       record {
         journal = next.journal;
         has = next.has;
-        extends = extends_then Tells journal first.journal next.journal first.extends next.extends;
+        extends = extends_then Exchanged journal first.journal next.journal first.extends next.extends;
         same = next.same ∙ first.same;
       }
 
@@ -182,63 +183,65 @@ module _ (mark token : Text) (words : List Text) where
 
   -- ---- from a book to a later one
 
-  module _ (Tells : List ℕ → Answer → Type 0) where
-    pub turn_grows : (before after : Place) (old new : State) → GrowsInTurn Tells mark token words before old after new → Grows Tells before old after new
+  module _ (Exchanged : List ℕ → Answer → Type 0) where
+    pub turn_grows : (before after : Place) (old new : State) → GrowsInTurn Exchanged mark token words before old after new
+        → Grows Exchanged before old after new
     turn_grows before after old new grows journal has =
         let it = grows journal has in record { journal = it.journal; has = it.has; extends = it.extends }
 
-    pub turn_adds : (before after : Place) (old new : State) → GrowsInTurn Tells mark token words before old after new
+    pub turn_adds : (before after : Place) (old new : State) → GrowsInTurn Exchanged mark token words before old after new
         → AddsInTurn mark token words before old after new
     turn_adds before after old new grows journal has = let it = grows journal has in (it.journal, it.has, it.turn)
 
-    pub none_turn : (before after : Place) (old new : State) → GrowsNone Tells before old after new → GrowsInTurn Tells mark token words before old after new
+    pub none_turn : (before after : Place) (old new : State) → GrowsNone Exchanged before old after new
+        → GrowsInTurn Exchanged mark token words before old after new
     none_turn before after old new grows journal has =
         let it = grows journal has in record { journal = it.journal; has = it.has; extends = it.extends; turn = turn_same journal it.journal it.same }
 
     -- ---- one after another
 
-    has_turn_then : (mid after : Place) (between new : State) (journal : Journal) → HasTurn Tells mark token words mid between journal
-        → GrowsNone Tells mid between after new → HasTurn Tells mark token words after new journal
+    has_turn_then : (mid after : Place) (between new : State) (journal : Journal) → HasTurn Exchanged mark token words mid between journal
+        → GrowsNone Exchanged mid between after new → HasTurn Exchanged mark token words after new journal
     unfolding turn_same
     has_turn_then mid after between new journal first two =
         let next = two first.journal first.has in
         record {
           journal = next.journal;
           has = next.has;
-          extends = extends_then Tells journal first.journal next.journal first.extends next.extends;
+          extends = extends_then Exchanged journal first.journal next.journal first.extends next.extends;
           turn =
               turn_then journal first.journal next.journal next.extends.replies.0 next.extends.replies.1 first.turn
               (turn_same first.journal next.journal next.same)
               (λ k less within. let last : k + 1 < length first.turn.requests + 0 = within in first.turn.again k (omega (arith, last)));
         }
 
-    pub turn_none : (before mid after : Place) (old between new : State) → GrowsInTurn Tells mark token words before old mid between
-        → GrowsNone Tells mid between after new → GrowsInTurn Tells mark token words before old after new
+    pub turn_none : (before mid after : Place) (old between new : State) → GrowsInTurn Exchanged mark token words before old mid between
+        → GrowsNone Exchanged mid between after new → GrowsInTurn Exchanged mark token words before old after new
     turn_none before mid after old between new one two journal has = has_turn_then mid after between new journal (one journal has) two
 
-    pub used_turn : (before mid after : Place) (old between new : State) → GrowsUsed Tells mark token words before old mid between
-        → GrowsInTurn Tells mark token words mid between after new → GrowsInTurn Tells mark token words before old after new
+    pub used_turn : (before mid after : Place) (old between new : State) → GrowsUsed Exchanged mark token words before old mid between
+        → GrowsInTurn Exchanged mark token words mid between after new → GrowsInTurn Exchanged mark token words before old after new
     used_turn before mid after old between new one two journal has =
         let first = one journal has in
         let next = two first.0.journal first.0.has in
         record {
           journal = next.journal;
           has = next.has;
-          extends = extends_then Tells journal first.0.journal next.journal first.0.extends next.extends;
+          extends = extends_then Exchanged journal first.0.journal next.journal first.0.extends next.extends;
           turn =
               turn_then journal first.0.journal next.journal next.extends.replies.0 next.extends.replies.1 first.0.turn next.turn
               (λ k less within. first.1 k less);
         }
 
-    none_used : (before after : Place) (old new : State) → GrowsNone Tells before old after new → GrowsUsed Tells mark token words before old after new
+    none_used : (before after : Place) (old new : State) → GrowsNone Exchanged before old after new → GrowsUsed Exchanged mark token words before old after new
     unfolding none_turn turn_same
     none_used before after old new grows journal has = (
       none_turn before after old new grows journal has,
       λ k less. absurd (let none : k < 0 = less in omega arith),
     )
 
-    pub turn_after : (before mid after : Place) (old between new : State) → GrowsNone Tells before old mid between
-        → GrowsInTurn Tells mark token words mid between after new → GrowsInTurn Tells mark token words before old after new
+    pub turn_after : (before mid after : Place) (old between new : State) → GrowsNone Exchanged before old mid between
+        → GrowsInTurn Exchanged mark token words mid between after new → GrowsInTurn Exchanged mark token words before old after new
     turn_after before mid after old between new one two = used_turn before mid after old between new (none_used before mid old between one) two
 
     -- ---- one request
@@ -246,7 +249,7 @@ module _ (mark token : Text) (words : List Text) where
     -- a request that was entered when each earlier entry had its reply
     pub entry_turn : (k n : ℕ) (request : List ℕ) (before after : Place) (old new : State) → k ≡ before.entries + 1 → after ≡ record before { entries = k }
         → IsEntered k request old new → SaysUnder mark token words n request → before.replies ≡ before.entries
-        → (journal : Journal) → HasPlace before old journal → n ≡ open_key journal.replies → HasTurn Tells mark token words after new journal
+        → (journal : Journal) → HasPlace before old journal → n ≡ open_key journal.replies → HasTurn Exchanged mark token words after new journal
     entry_turn k n request before after old new counted same it says answered journal has key =
         let next : k ≡ length journal.entries + 1 = counted ∙ ap (λ j. j + 1) has.entries in
         rw same (record {
@@ -256,7 +259,7 @@ module _ (mark token : Text) (words : List Text) where
             entries = next ∙ sym (length-append journal.entries (request ∷ []));
             replies = has.replies;
           };
-          extends = extends_entry Tells request journal;
+          extends = extends_entry Exchanged request journal;
           turn =
               entered_turn request n journal (with_entry request journal) [] (sym (append-nil journal.replies)) says key
               (sym has.replies ∙ answered ∙ has.entries) refl;
@@ -265,16 +268,16 @@ module _ (mark token : Text) (words : List Text) where
     -- and after it what was sent
     pub entry_sent : (k n : ℕ) (request : List ℕ) (before mid after : Place) (old between new : State) → k ≡ before.entries + 1
         → mid ≡ record before { entries = k } → IsEntered k request old between → SaysUnder mark token words n request → before.replies ≡ before.entries
-        → Sends Tells mid between after new
-        → (journal : Journal) → HasPlace before old journal → n ≡ open_key journal.replies → HasTurn Tells mark token words after new journal
+        → Sends Exchanged mid between after new
+        → (journal : Journal) → HasPlace before old journal → n ≡ open_key journal.replies → HasTurn Exchanged mark token words after new journal
     entry_sent k n request before mid after old between new counted same it says answered sends journal has key =
         has_turn_then mid after between new journal (entry_turn k n request before mid old between counted same it says answered journal has key)
-        (sends_none Tells mid after between new sends)
+        (sends_none Exchanged mid after between new sends)
 
     -- what was entered is one request, and got that reply
     pub given_used : (n : ℕ) (request : List ℕ) (answer : Answer) (before after : Place) (old new : State) → SaysUnder mark token words n request
-        → before.replies ≡ before.entries → GivesOne Tells request answer before old after new → is_reply_to (Decision KeyUsed) answer ≡ true
-        → (journal : Journal) → HasPlace before old journal → n ≡ open_key journal.replies → HasUsedTurn Tells mark token words after new journal
+        → before.replies ≡ before.entries → GivesOne Exchanged request answer before old after new → is_reply_to (Decision KeyUsed) answer ≡ true
+        → (journal : Journal) → HasPlace before old journal → n ≡ open_key journal.replies → HasUsedTurn Exchanged mark token words after new journal
     unfolding entered_turn
     given_used n request answer before after old new says answered gives used journal has key =
         let it = gives journal has in
@@ -290,18 +293,18 @@ module _ (mark token : Text) (words : List Text) where
     -- the open key was read before
     pub used_if : (n : ℕ) (request : List ℕ) (before after : Place) (old read new : State) (given : Result Read TillFault)
         → SaysUnder mark token words n request → before.replies ≡ before.entries → book.Stays old read → HasOpenKey n old
-        → IfOk given (λ (answer : Read). GivesOne Tells request (seen_answer answer) before read after new)
-        → IfOk given (λ (answer : Read). is_reply_to (Decision KeyUsed) (seen_answer answer) ≡ true → GrowsUsed Tells mark token words before old after new)
+        → IfOk given (λ (answer : Read). GivesOne Exchanged request (seen_answer answer) before read after new)
+        → IfOk given (λ (answer : Read). is_reply_to (Decision KeyUsed) (seen_answer answer) ≡ true → GrowsUsed Exchanged mark token words before old after new)
     used_if n request before after old read new (Ok answer) says answered stays key gives = λ used journal has.
         given_used n request (seen_answer answer) before after read new says answered gives used journal
         (record { rests = stays journal has.rests; entries = has.entries; replies = has.replies }) (key journal has.rests)
     used_if n request before after old read new (Err fault) says answered stays key gives = tt
 
-module _ (Tells : List ℕ → Answer → Type 0) where
+module _ (Exchanged : List ℕ → Answer → Type 0) where
   -- the last reply is that of the last entry
   pub gives_one : (request : List ℕ) (answer : Read) (before mid after : Place) (old between new : State) → IsEntered (before.entries + 1) request old between
-      → mid ≡ record before { entries = before.entries + 1 } → TellsLast Tells (Some answer) mid between after new → before.replies ≡ before.entries
-      → (mid.replies ≤ mid.entries → after.replies ≡ mid.entries) → GivesOne Tells request (seen_answer answer) before old after new
+      → mid ≡ record before { entries = before.entries + 1 } → ReturnsLast Exchanged (Some answer) mid between after new → before.replies ≡ before.entries
+      → (mid.replies ≤ mid.entries → after.replies ≡ mid.entries) → GivesOne Exchanged request (seen_answer answer) before old after new
   gives_one request answer before mid after old between new entered same tells answered all journal has =
       let next : before.entries + 1 ≡ length journal.entries + 1 = ap (λ j. j + 1) has.entries in
       let middle = with_entry request journal in
@@ -322,7 +325,8 @@ module _ (Tells : List ℕ → Answer → Type 0) where
       record {
         journal = with_replies it.0 middle;
         has = it.1.has;
-        extends = extends_then Tells journal middle (with_replies it.0 middle) (extends_entry Tells request journal) (extends_sent Tells it.0 middle it.1.told);
+        extends = extends_then Exchanged journal middle (with_replies it.0 middle) (extends_entry Exchanged request journal)
+            (extends_sent Exchanged it.0 middle it.1.told);
         entries = refl;
         reply =
             ap (λ (rs : List Answer). slice_get rs (length journal.entries)) replies
@@ -342,3 +346,125 @@ module _ (mark token : Text) (words : List Text) where
       let counted = is journal rests in
       let it = adds journal (record { rests = stays journal rests; entries = counted.0; replies = counted.1 }) in
       (it.0, it.1.rests, it.2)
+
+-- ---- the last reply
+
+-- a reply stays where it is
+same_reply : (replies more all : List Answer) (i : ℕ) (answer : Answer) → all ≡ replies ++ more → slice_get replies i ≡ Some answer
+    → slice_get all i ≡ Some answer
+same_reply replies more all i answer grown there =
+    let within : i < length replies = slice_get_within replies i answer there in
+    let count : length (replies ++ more) ≡ length replies + length more = length-append replies more in
+    let longer : i < length (replies ++ more) = omega (arith, within, count) in
+    ap (λ (it : List Answer). slice_get it i) grown ∙ slice_get-get_or (replies ++ more) i answer longer
+    ∙ ap Some (get_or_append_left replies more answer i within ∙ get_or_from_slice_get replies i answer answer there)
+
+module _ (Exchanged : List ℕ → Answer → Type 0) (mark token : Text) (words : List Text) (answer : Answer) where
+  -- nothing was entered before
+  pub answered_after : (before mid after : Place) (old between new : State) → GrowsNone Exchanged before old mid between
+      → AnswersInTurn Exchanged mark token words answer mid between after new → AnswersInTurn Exchanged mark token words answer before old after new
+  unfolding turn_same
+  answered_after before mid after old between new one two journal has =
+      let first = one journal has in
+      let next = two first.journal first.has in
+      let at = next.turn in
+      let count : length first.journal.entries ≡ length journal.entries = ap length first.same in
+      let within = next.is_new in
+      record {
+        turn = record {
+          journal = at.journal;
+          has = at.has;
+          extends = extends_then Exchanged journal first.journal at.journal first.extends at.extends;
+          turn =
+              turn_then mark token words journal first.journal at.journal at.extends.replies.0 at.extends.replies.1
+              (turn_same mark token words journal first.journal first.same) at.turn
+              (λ k less within. absurd (let none : k < 0 = less in omega arith));
+        };
+        last = next.last;
+        is_new = omega (arith, count, within);
+        is_last = next.is_last;
+        reply = next.reply;
+      }
+
+  -- nothing was entered after
+  pub answered_none : (before mid after : Place) (old between new : State) → AnswersInTurn Exchanged mark token words answer before old mid between
+      → GrowsNone Exchanged mid between after new → AnswersInTurn Exchanged mark token words answer before old after new
+  unfolding turn_same
+  answered_none before mid after old between new one two journal has =
+      let first = one journal has in
+      let at = first.turn in
+      let next = two at.journal at.has in
+      record {
+        turn = record {
+          journal = next.journal;
+          has = next.has;
+          extends = extends_then Exchanged journal at.journal next.journal at.extends next.extends;
+          turn =
+              turn_then mark token words journal at.journal next.journal next.extends.replies.0 next.extends.replies.1 at.turn
+              (turn_same mark token words at.journal next.journal next.same)
+              (λ k less within. let last : k + 1 < length at.turn.requests + 0 = within in at.turn.again k (omega (arith, last)));
+        };
+        last = first.last;
+        is_new = first.is_new;
+        is_last = ap length next.same ∙ first.is_last;
+        reply = same_reply at.journal.replies next.extends.replies.0 next.journal.replies first.last answer next.extends.replies.1 first.reply;
+      }
+
+  -- what was entered before got the reply that another command has its key
+  pub used_answered : (before mid after : Place) (old between new : State) → GrowsUsed Exchanged mark token words before old mid between
+      → AnswersInTurn Exchanged mark token words answer mid between after new → AnswersInTurn Exchanged mark token words answer before old after new
+  used_answered before mid after old between new one two journal has =
+      let first = one journal has in
+      let next = two first.0.journal first.0.has in
+      let at = next.turn in
+      let count : length first.0.journal.entries ≡ length journal.entries + length first.0.turn.requests =
+      ap length first.0.turn.entries ∙ length-append journal.entries first.0.turn.requests in
+      let within = next.is_new in
+      record {
+        turn = record {
+          journal = at.journal;
+          has = at.has;
+          extends = extends_then Exchanged journal first.0.journal at.journal first.0.extends at.extends;
+          turn =
+              turn_then mark token words journal first.0.journal at.journal at.extends.replies.0 at.extends.replies.1 first.0.turn at.turn
+              (λ k less within. first.1 k less);
+        };
+        last = next.last;
+        is_new = omega (arith, count, within);
+        is_last = next.is_last;
+        reply = next.reply;
+      }
+
+  -- one request, which got that reply
+  given_answered : (n : ℕ) (request : List ℕ) (before after : Place) (old new : State) → SaysUnder mark token words n request
+      → before.replies ≡ before.entries → GivesOne Exchanged request answer before old after new
+      → (journal : Journal) → HasPlace before old journal → n ≡ open_key journal.replies
+      → HasAnswered Exchanged mark token words answer after new journal
+  given_answered n request before after old new says answered gives journal has key =
+      let it = gives journal has in
+      let count : length (journal.entries ++ request ∷ []) ≡ length journal.entries + 1 = length-append journal.entries (request ∷ []) in
+      record {
+        turn = record {
+          journal = it.journal;
+          has = it.has;
+          extends = it.extends;
+          turn =
+              entered_turn mark token words request n journal it.journal it.extends.replies.0 it.extends.replies.1 says key
+              (sym has.replies ∙ answered ∙ has.entries) it.entries;
+        };
+        last = length journal.entries;
+        is_new = omega arith;
+        is_last = ap length it.entries ∙ count;
+        reply = it.reply;
+      }
+
+-- the open key was read before
+pub answered_if : (Exchanged : List ℕ → Answer → Type 0) (mark token : Text) (words : List Text) (n : ℕ) (request : List ℕ) (before after : Place)
+    (old read new : State) (given : Result Read TillFault)
+    → SaysUnder mark token words n request → before.replies ≡ before.entries → book.Stays old read → HasOpenKey n old
+    → IfOk given (λ (answer : Read). GivesOne Exchanged request (seen_answer answer) before read after new)
+    → IfOk given (λ (answer : Read). AnswersInTurn Exchanged mark token words (seen_answer answer) before old after new)
+answered_if Exchanged mark token words n request before after old read new (Ok answer) says answered stays key gives = λ journal has.
+    given_answered Exchanged mark token words (seen_answer answer) n request before after read new says answered gives journal
+    (record { rests = stays journal has.rests; entries = has.entries; replies = has.replies }) (key journal has.rests)
+answered_if Exchanged mark token words n request before after old read new (Err fault) says answered stays key gives = tt

@@ -8,7 +8,7 @@ use Rattle.sqlite.specs.State.{State}
 use Rattle.till_book.specs.Held.{last_or}
 use Rattle.till_book.specs.Journal.{Journal}
 use Rattle.till_book.specs.Marks.{is_reply_to}
-use Rattle.till_book.specs.Steps.{Tells, Rests}
+use Rattle.till_book.specs.Steps.{FindsAtRest, Rests}
 use Rattle.till_book.specs.Ends.{last_accepted, IsReadAfter}
 use Rattle.till_book.specs.declared.ends.EntryNumber.{EntryNumber}
 use Rattle.till_book.specs.declared.lists.BookRows.{BookRows}
@@ -87,8 +87,8 @@ open_at journal last None is same = ap (λ (k : ℕ). key_after (k + 1) (k + 1) 
 open_at journal last (Some n) is same = ap (λ (k : ℕ). key_after (k + 1) (k + 1) (drop k journal.replies)) same ∙ open_from journal n is
 
 -- the key after the rows that were read
-pub open_after : (last n : ℕ) (rows : BookRows) (old mid new : State) → Tells (λ journal. last ≡ last_number journal) old mid
-    → Tells (IsReadAfter last rows) mid new → n ≡ key_after (last + 1) (last + 1) rows.replies → HasOpenKey n old
+pub open_after : (last n : ℕ) (rows : BookRows) (old mid new : State) → FindsAtRest (λ journal. last ≡ last_number journal) old mid
+    → FindsAtRest (IsReadAfter last rows) mid new → n ≡ key_after (last + 1) (last + 1) rows.replies → HasOpenKey n old
 open_after last n rows old mid new found read is journal rests =
     let one = found journal rests in
     let two = read journal one.0 in
@@ -96,8 +96,9 @@ open_after last n rows old mid new found read is journal rests =
 
 -- ---- the last accepted entry
 
-pub last_of : (row : Option EntryNumber) (old new : State) → Tells (λ journal. option_map (λ (it : EntryNumber). it.number) row ≡ last_accepted journal) old new
-    → Tells (λ journal. unwrap_or (option_map (λ (it : EntryNumber). it.number) row) 0 ≡ last_number journal) old new
+pub last_of : (row : Option EntryNumber) (old new : State)
+    → FindsAtRest (λ journal. option_map (λ (it : EntryNumber). it.number) row ≡ last_accepted journal) old new
+    → FindsAtRest (λ journal. unwrap_or (option_map (λ (it : EntryNumber). it.number) row) 0 ≡ last_number journal) old new
 last_of row old new found journal rests =
     let one = found journal rests in
     (one.0, ap (λ (it : Option ℕ). unwrap_or it 0) one.1)

@@ -27,7 +27,7 @@ last_moment at (Some bytes) (Some other) both is command some = is other both �
 
 -- what holds of the last entry holds of the book
 pub tells_moment : (at : Option Moment) (end : BookEnd) (s new : State)
-    → IsMomentOf at end.last → book.Tells (IsEndOf end) s new → TellsMoment at s
+    → IsMomentOf at end.last → book.FindsAtRest (IsEndOf end) s new → TellsMoment at s
 tells_moment at end s new is tells journal commands rests say last some =
     let there : IsEndOf end journal = (tells journal rests).1 in
     last_moment at (last_or None journal.entries) (last_or None commands) (last_says journal.entries commands None None say tt)

@@ -4,6 +4,7 @@ pub mod Doing
 pub mod InTurn
 pub mod Keys
 pub mod Adding
+pub mod Refusing
 pub mod Returned
 pub mod LastMoment
 pub mod Marks
@@ -16,3 +17,5 @@ pub mod Reopened
 pub mod OfficeStops
 pub mod Stocked
 pub mod Looking
+pub mod Listing
+pub mod Showing

@@ -99,7 +99,7 @@ last_marked mark is_own (Some bytes) (Some command) both tells = (
 
 -- what holds of the last entry holds of the book
 pub tells_mark : (mark : Text) (is_own : Bool) (end : BookEnd) (s new : State)
-    → TellsLastMark mark is_own end.last → book.Tells (IsEndOf end) s new → TellsMark mark is_own s
+    → TellsLastMark mark is_own end.last → book.FindsAtRest (IsEndOf end) s new → TellsMark mark is_own s
 tells_mark mark is_own end s new last tells journal commands rests say =
     let at : IsEndOf end journal = (tells journal rests).1 in
     last_marked mark is_own (last_or None journal.entries) (last_or None commands) (last_says journal.entries commands None None say tt)

@@ -21,27 +21,28 @@ use Rattle.till_cashier.specs.Stops.{LeftOf, LeavesWord, Opens, OpensWord, Rests
 -- what each `One` is, each `Other` is too: so what is left of a word
 left_as : (One Other : (Journal → List Command → Type 0) → (Journal → List Command → Journal → List Command → Type 0) → Type 0)
     → ((Is : Journal → List Command → Type 0) (Goes : Journal → List Command → Journal → List Command → Type 0) → One Is Goes → Other Is Goes)
-    → (Tells : List ℕ → Answer → Type 0) (shows : ℕ → Type 0) (mark token : Text) (giver : Result ℕ TillFault) (sheet : Text) (word : TillAct) (old : State)
-    → LeftOf One Tells shows mark token giver sheet word old → LeftOf Other Tells shows mark token giver sheet word old
-left_as One Other by Tells shows mark token giver sheet (typed.Do what) old left = by _ _ left
-left_as One Other by Tells shows mark token giver sheet (typed.ReturnCopy copy) old left = elim left [
+    → (Exchanged : List ℕ → Answer → Type 0) (shows : ℕ → Type 0) (mark token : Text) (giver : Result ℕ TillFault) (sheet : Text) (word : TillAct) (old : State)
+    → LeftOf One Exchanged shows mark token giver sheet word old → LeftOf Other Exchanged shows mark token giver sheet word old
+left_as One Other by Exchanged shows mark token giver sheet (typed.Do what) old left = by _ _ left
+left_as One Other by Exchanged shows mark token giver sheet (typed.ReturnCopy copy) old left = elim left [
   | inl same ↦ inl (by _ _ same)
   | inr tried ↦ inr (tried.0, tried.1, by _ _ tried.2)
 ]
-left_as One Other by Tells shows mark token giver sheet (typed.Office words) old left = (by _ _ left.0, λ reads. by _ _ (left.1 reads))
-left_as One Other by Tells shows mark token giver sheet typed.Send old left = by _ _ left
-left_as One Other by Tells shows mark token giver sheet (typed.Look look) old left = by _ _ left
-left_as One Other by Tells shows mark token giver sheet typed.Waiting old left = by _ _ left
-left_as One Other by Tells shows mark token giver sheet (typed.Last count) old left = by _ _ left
-left_as One Other by Tells shows mark token giver sheet (typed.Day asked) old left = by _ _ left
-left_as One Other by Tells shows mark token giver sheet (typed.Today date) old left = by _ _ left
-left_as One Other by Tells shows mark token giver sheet (typed.Again late) old left = by _ _ left
-left_as One Other by Tells shows mark token giver sheet typed.Slip old left = by _ _ left
-left_as One Other by Tells shows mark token giver sheet typed.Help old left = by _ _ left
-left_as One Other by Tells shows mark token giver sheet (typed.Zone name) old left = by _ _ left
-left_as One Other by Tells shows mark token giver sheet (typed.Init beginning) old left = by _ _ left
-left_as One Other by Tells shows mark token giver sheet (typed.Import file lot) old left = by _ _ left
-left_as One Other by Tells shows mark token giver sheet typed.Prompt old left = by _ _ left
+left_as One Other by Exchanged shows mark token giver sheet (typed.Office words) old left = (by _ _ left.0, λ reads. by _ _ (left.1 reads))
+left_as One Other by Exchanged shows mark token giver sheet typed.Send old left = by _ _ left
+left_as One Other by Exchanged shows mark token giver sheet (typed.Look look) old left = by _ _ left
+left_as One Other by Exchanged shows mark token giver sheet typed.Waiting old left = by _ _ left
+left_as One Other by Exchanged shows mark token giver sheet (typed.Last count) old left = by _ _ left
+left_as One Other by Exchanged shows mark token giver sheet (typed.Day asked) old left = by _ _ left
+left_as One Other by Exchanged shows mark token giver sheet (typed.Today date) old left = by _ _ left
+left_as One Other by Exchanged shows mark token giver sheet (typed.Again late) old left = by _ _ left
+left_as One Other by Exchanged shows mark token giver sheet typed.Slip old left = by _ _ left
+left_as One Other by Exchanged shows mark token giver sheet typed.Help old left = by _ _ left
+left_as One Other by Exchanged shows mark token giver sheet (typed.Zone name) old left = by _ _ left
+left_as One Other by Exchanged shows mark token giver sheet (typed.Init beginning) old left = by _ _ left
+left_as One Other by Exchanged shows mark token giver sheet (typed.Import file lot) old left = by _ _ left
+left_as One Other by Exchanged shows mark token giver sheet (typed.JoinIn who) old left = by _ _ left
+left_as One Other by Exchanged shows mark token giver sheet typed.Prompt old left = by _ _ left
 
 module _ {D : Type 0} (g : Ghosts D) (files : Files D) (conn : Held (FileStore D g)) (opened : IsBookOpened files conn)
     (stays : SeenMayStay g) (clean : HasCleanDisk (file_state conn)) (old new : State) (left : HoldsOne g files new.may_leave) where
@@ -60,8 +61,8 @@ module _ {D : Type 0} (g : Ghosts D) (files : Files D) (conn : Held (FileStore D
         goes = it.goes;
       } in r)
 
-  pub opens_word : (Tells : List ℕ → Answer → Type 0) (shows : ℕ → Type 0) (mark token : Text) (giver : Result ℕ TillFault) (sheet : Text) (word : TillAct)
-      → LeavesWord Tells shows mark token giver sheet word old new → OpensWord Tells shows mark token giver sheet word old (file_state conn)
-  opens_word Tells shows mark token giver sheet word leaves =
+  pub opens_word : (Exchanged : List ℕ → Answer → Type 0) (shows : ℕ → Type 0) (mark token : Text) (giver : Result ℕ TillFault) (sheet : Text) (word : TillAct)
+      → LeavesWord Exchanged shows mark token giver sheet word old new → OpensWord Exchanged shows mark token giver sheet word old (file_state conn)
+  opens_word Exchanged shows mark token giver sheet word leaves =
       left_as (λ Is Goes. Leaves (Rests old) Is Goes new) (λ Is Goes. Opens old Is Goes (file_state conn)) opens
-      Tells shows mark token giver sheet word old leaves
+      Exchanged shows mark token giver sheet word old leaves

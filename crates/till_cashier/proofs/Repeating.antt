@@ -65,12 +65,12 @@ if_ok_then (Err e) P holds follows = tt
 
 -- one more act was given
 book_suc :
-    (Tells : List ℕ → Answer → Type 0) (shows : ℕ → Type 0) (mark token : Text) (own : Option ℕ)
+    (Exchanged : List ℕ → Answer → Type 0) (shows : ℕ → Type 0) (mark token : Text) (own : Option ℕ)
     (n : ℕ) (acts : List Repeat) (it : Repeat) (before mid after : Place) (old s new : State)
-    → GivesBook Tells shows mark token own n acts before old mid s → slice_get acts n ≡ Some it
-    → GivesAct Tells shows mark token (giver_of own (Some it.staff)) (seen_act it.act) mid s after new
-    → GivesBook Tells shows mark token own (suc n) acts before old after new
-book_suc Tells shows mark token own n acts it before mid after old s new first there gives journal commands at =
+    → GivesBook Exchanged shows mark token own n acts before old mid s → slice_get acts n ≡ Some it
+    → GivesAct Exchanged shows mark token (giver_of own (Some it.staff)) (seen_act it.act) mid s after new
+    → GivesBook Exchanged shows mark token own (suc n) acts before old after new
+book_suc Exchanged shows mark token own n acts it before mid after old s new first there gives journal commands at =
     let so_far = first journal commands at in
     let given = gives.1.2 so_far.0 so_far.1 so_far.2 in
     let tried = given.2 in (
@@ -109,48 +109,50 @@ book_suc Tells shows mark token own n acts it before mid after old s new first t
     )
 
 pub book_next :
-    (Tells : List ℕ → Answer → Type 0) (shows : ℕ → Type 0) (mark token : Text) (own : Option ℕ)
+    (Exchanged : List ℕ → Answer → Type 0) (shows : ℕ → Type 0) (mark token : Text) (own : Option ℕ)
     (n : ℕ) (acts : List Repeat) (it : Repeat) (before mid after : Place) (old s new : State)
-    → GivesBook Tells shows mark token own n acts before old mid s → slice_get acts n ≡ Some it
-    → GivesAct Tells shows mark token (giver_of own (Some it.staff)) (seen_act it.act) mid s after new
-    → GivesBook Tells shows mark token own (n + 1) acts before old after new
-book_next Tells shows mark token own n acts it before mid after old s new first there gives =
+    → GivesBook Exchanged shows mark token own n acts before old mid s → slice_get acts n ≡ Some it
+    → GivesAct Exchanged shows mark token (giver_of own (Some it.staff)) (seen_act it.act) mid s after new
+    → GivesBook Exchanged shows mark token own (n + 1) acts before old after new
+book_next Exchanged shows mark token own n acts it before mid after old s new first there gives =
     let e : suc n ≡ n + 1 = omega arith in
-    subst (λ (k : ℕ). GivesBook Tells shows mark token own k acts before old after new) e
-    (book_suc Tells shows mark token own n acts it before mid after old s new first there gives)
+    subst (λ (k : ℕ). GivesBook Exchanged shows mark token own k acts before old after new) e
+    (book_suc Exchanged shows mark token own n acts it before mid after old s new first there gives)
 
 -- a book stays before and after
 pub book_later :
-    (Tells : List ℕ → Answer → Type 0) (shows : ℕ → Type 0) (mark token : Text) (own : Option ℕ)
+    (Exchanged : List ℕ → Answer → Type 0) (shows : ℕ → Type 0) (mark token : Text) (own : Option ℕ)
     (n : ℕ) (acts : List Repeat) (before after : Place) (old mid new : State)
-    → book.Stays old mid → GivesBook Tells shows mark token own n acts before mid after new → GivesBook Tells shows mark token own n acts before old after new
-book_later Tells shows mark token own n acts before after old mid new stays gives journal commands at =
+    → book.Stays old mid → GivesBook Exchanged shows mark token own n acts before mid after new
+    → GivesBook Exchanged shows mark token own n acts before old after new
+book_later Exchanged shows mark token own n acts before after old mid new stays gives journal commands at =
     gives journal commands (record { rests = stays journal at.rests; book = at.book; entries = at.entries; replies = at.replies })
 
 pub book_before :
-    (Tells : List ℕ → Answer → Type 0) (shows : ℕ → Type 0) (mark token : Text) (own : Option ℕ)
+    (Exchanged : List ℕ → Answer → Type 0) (shows : ℕ → Type 0) (mark token : Text) (own : Option ℕ)
     (n : ℕ) (acts : List Repeat) (before after : Place) (old mid new : State)
-    → GivesBook Tells shows mark token own n acts before old after mid → book.Stays mid new → GivesBook Tells shows mark token own n acts before old after new
-book_before Tells shows mark token own n acts before after old mid new gives stays journal commands at =
+    → GivesBook Exchanged shows mark token own n acts before old after mid → book.Stays mid new
+    → GivesBook Exchanged shows mark token own n acts before old after new
+book_before Exchanged shows mark token own n acts before after old mid new gives stays journal commands at =
     let it = gives journal commands at in
     (it.0, it.1, record { rests = stays it.0 it.2.rests; book = it.2.book; entries = it.2.entries; replies = it.2.replies }, it.3)
 
 -- what was repeated of a plan was repeated of the same plan by another name
 pub repeats_as :
-    {A E : Type 0} (r : Result A E) (P : A → Type 0) (Tells : List ℕ → Answer → Type 0) (shows : ℕ → Type 0) (mark token : Text) (own : Option ℕ)
+    {A E : Type 0} (r : Result A E) (P : A → Type 0) (Exchanged : List ℕ → Answer → Type 0) (shows : ℕ → Type 0) (mark token : Text) (own : Option ℕ)
     (it other : Plan) (before : Place) (old : State) (after : Place) (new : State) → it ≡ other
-    → IfOk r (λ (a : A). P a → RepeatsPlan Tells shows mark token own other before old after new)
-    → IfOk r (λ (a : A). P a → RepeatsPlan Tells shows mark token own it before old after new)
-repeats_as {A} r P Tells shows mark token own it other before old after new same is =
-    subst (λ (p : Plan). IfOk r (λ (a : A). P a → RepeatsPlan Tells shows mark token own p before old after new)) (sym same) is
+    → IfOk r (λ (a : A). P a → RepeatsPlan Exchanged shows mark token own other before old after new)
+    → IfOk r (λ (a : A). P a → RepeatsPlan Exchanged shows mark token own it before old after new)
+repeats_as {A} r P Exchanged shows mark token own it other before old after new same is =
+    subst (λ (p : Plan). IfOk r (λ (a : A). P a → RepeatsPlan Exchanged shows mark token own p before old after new)) (sym same) is
 
 -- an entry that was refused in front of a look was refused
-each_before : (acts : List Repeat) (old mid : State) → book.Stays old mid → All (IsRefusedIn mid) acts → All (IsRefusedIn old) acts
+pub each_before : (acts : List Repeat) (old mid : State) → book.Stays old mid → All (IsRefusedIn mid) acts → All (IsRefusedIn old) acts
 each_before acts old mid stays each =
     All-weaker (IsRefusedIn mid) (IsRefusedIn old) (λ it is journal rests. is journal (stays journal rests)) acts each
 
 -- what was read of the whole book
-pub each_in_book : (acts : List Repeat) (rows : BookRows) (old new : State) → book.Tells (IsReadAfter 0 rows) old new
+pub each_in_book : (acts : List Repeat) (rows : BookRows) (old new : State) → book.FindsAtRest (IsReadAfter 0 rows) old new
     → All (IsRefused rows.entries rows.replies) acts → All (IsRefusedIn old) acts
 each_in_book acts rows old new tells each =
     All-weaker (IsRefused rows.entries rows.replies) (IsRefusedIn old) (λ it is journal rests. in_journal it is journal (tells journal rests).1) acts each
@@ -163,30 +165,31 @@ each_in_book acts rows old new tells each =
 
 -- What was repeated of the word's plan was repeated of the word. The plan was made of the book as it was read.
 pub word_repeated :
-    (Tells : List ℕ → Answer → Type 0) (shows : ℕ → Type 0) (mark token : Text) (own : Option ℕ)
+    (Exchanged : List ℕ → Answer → Type 0) (shows : ℕ → Type 0) (mark token : Text) (own : Option ℕ)
     (sheet : Text) (word : TillAct) (it : Plan) (place after : Place) (old read mid new : State)
     → IsPlaceOf place old → book.Stays old read → book.Stays read mid → IsPlanOf sheet read word it
-    → RepeatsPlan Tells shows mark token own it place mid after new → RepeatsWord Tells shows mark token own word old new
-word_repeated Tells shows mark token own sheet (typed.Again late) it place after old read mid new is first second plans repeats =
-    let all = subst (λ (p : Plan). RepeatsPlan Tells shows mark token own p place mid after new) plans repeats in
+    → RepeatsPlan Exchanged shows mark token own it place mid after new → RepeatsWord Exchanged shows mark token own word old new
+word_repeated Exchanged shows mark token own sheet (typed.Again late) it place after old read mid new is first second plans repeats =
+    let all = subst (λ (p : Plan). RepeatsPlan Exchanged shows mark token own p place mid after new) plans repeats in
     let stays = stays_both old read mid first second in (
       place,
       after,
       is,
-      (all.0, each_before all.0 old mid stays all.1, book_later Tells shows mark token own (length all.0) all.0 place after old mid new stays all.2),
+      (all.0, each_before all.0 old mid stays all.1, book_later Exchanged shows mark token own (length all.0) all.0 place after old mid new stays all.2),
     )
-word_repeated Tells shows mark token own sheet (typed.Do what) it place after old read mid new is first second plans repeats = tt
-word_repeated Tells shows mark token own sheet (typed.ReturnCopy copy) it place after old read mid new is first second plans repeats = tt
-word_repeated Tells shows mark token own sheet (typed.Office words) it place after old read mid new is first second plans repeats = tt
-word_repeated Tells shows mark token own sheet typed.Send it place after old read mid new is first second plans repeats = tt
-word_repeated Tells shows mark token own sheet (typed.Look look) it place after old read mid new is first second plans repeats = tt
-word_repeated Tells shows mark token own sheet typed.Waiting it place after old read mid new is first second plans repeats = tt
-word_repeated Tells shows mark token own sheet (typed.Last count) it place after old read mid new is first second plans repeats = tt
-word_repeated Tells shows mark token own sheet (typed.Day asked) it place after old read mid new is first second plans repeats = tt
-word_repeated Tells shows mark token own sheet (typed.Today date) it place after old read mid new is first second plans repeats = tt
-word_repeated Tells shows mark token own sheet typed.Slip it place after old read mid new is first second plans repeats = tt
-word_repeated Tells shows mark token own sheet typed.Help it place after old read mid new is first second plans repeats = tt
-word_repeated Tells shows mark token own sheet (typed.Zone name) it place after old read mid new is first second plans repeats = tt
-word_repeated Tells shows mark token own sheet (typed.Init beginning) it place after old read mid new is first second plans repeats = tt
-word_repeated Tells shows mark token own sheet (typed.Import file lot) it place after old read mid new is first second plans repeats = tt
-word_repeated Tells shows mark token own sheet typed.Prompt it place after old read mid new is first second plans repeats = tt
+word_repeated Exchanged shows mark token own sheet (typed.Do what) it place after old read mid new is first second plans repeats = tt
+word_repeated Exchanged shows mark token own sheet (typed.ReturnCopy copy) it place after old read mid new is first second plans repeats = tt
+word_repeated Exchanged shows mark token own sheet (typed.Office words) it place after old read mid new is first second plans repeats = tt
+word_repeated Exchanged shows mark token own sheet typed.Send it place after old read mid new is first second plans repeats = tt
+word_repeated Exchanged shows mark token own sheet (typed.Look look) it place after old read mid new is first second plans repeats = tt
+word_repeated Exchanged shows mark token own sheet typed.Waiting it place after old read mid new is first second plans repeats = tt
+word_repeated Exchanged shows mark token own sheet (typed.Last count) it place after old read mid new is first second plans repeats = tt
+word_repeated Exchanged shows mark token own sheet (typed.Day asked) it place after old read mid new is first second plans repeats = tt
+word_repeated Exchanged shows mark token own sheet (typed.Today date) it place after old read mid new is first second plans repeats = tt
+word_repeated Exchanged shows mark token own sheet typed.Slip it place after old read mid new is first second plans repeats = tt
+word_repeated Exchanged shows mark token own sheet typed.Help it place after old read mid new is first second plans repeats = tt
+word_repeated Exchanged shows mark token own sheet (typed.Zone name) it place after old read mid new is first second plans repeats = tt
+word_repeated Exchanged shows mark token own sheet (typed.Init beginning) it place after old read mid new is first second plans repeats = tt
+word_repeated Exchanged shows mark token own sheet (typed.Import file lot) it place after old read mid new is first second plans repeats = tt
+word_repeated Exchanged shows mark token own sheet (typed.JoinIn who) it place after old read mid new is first second plans repeats = tt
+word_repeated Exchanged shows mark token own sheet typed.Prompt it place after old read mid new is first second plans repeats = tt

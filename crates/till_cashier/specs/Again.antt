@@ -39,9 +39,9 @@ IsRefusedIn s it = (journal : Journal) → Rests s journal → IsRefused journal
 -- ---- from a journal to a later one
 
 -- What had waited got replies. Tries of the act were added after the last entry, and each got its own reply (`IsTried`).
-pub record TriesFrom (Tells : List ℕ → Answer → Type 0) (shows : ℕ → Type 0) (token : Text) (staff : ℕ) (act : Act) (told : List Answer)
+pub record TriesFrom (Exchanged : List ℕ → Answer → Type 0) (shows : ℕ → Type 0) (token : Text) (staff : ℕ) (act : Act) (told : List Answer)
     (old : Journal) (said : List Command) (new : Journal) (commands : List Command) : Type 0 where
-  pub extends : Extends Tells old new
+  pub extends : Extends Exchanged old new
   pub requests : List (List ℕ)
   pub tries : List Command
   pub entries : new.entries ≡ old.entries ++ requests
@@ -55,32 +55,32 @@ pub record TriesFrom (Tells : List ℕ → Answer → Type 0) (shows : ℕ → T
 
 -- the giver's act was tried until it wasn't refused for its moment, and got some answer
 abbrev pub GivesFrom : (List ℕ → Answer → Type 0) → (ℕ → Type 0) → Text → Result ℕ TillFault → Act → Journal → List Command → Journal → List Command → Type 0
-GivesFrom Tells shows token giver act old said new commands =
+GivesFrom Exchanged shows token giver act old said new commands =
     (answer : Answer) × (staff : ℕ) × (giver ≡ Ok staff)
-    × (backs : List Answer) × AllByRecursion IsBack backs × TriesFrom Tells shows token staff act (backs ++ answer ∷ []) old said new commands
+    × (backs : List Answer) × AllByRecursion IsBack backs × TriesFrom Exchanged shows token staff act (backs ++ answer ∷ []) old said new commands
 
 -- the n-th of the acts was given, by whoever had given it
 abbrev pub GivesNth : (List ℕ → Answer → Type 0) → (ℕ → Type 0) → Text → Option ℕ → ℕ → List Repeat → Journal → List Command → Journal → List Command → Type 0
-GivesNth Tells shows token own n acts old said new commands =
+GivesNth Exchanged shows token own n acts old said new commands =
     (it : Repeat) × (slice_get acts n ≡ Some it)
-    × GivesFrom Tells shows token (giver_of own (Some it.staff)) (seen_act it.act) old said new commands
+    × GivesFrom Exchanged shows token (giver_of own (Some it.staff)) (seen_act it.act) old said new commands
 
 -- the first n acts were given, one after another, and nothing else happened to the book
 abbrev pub GivesFirst : (List ℕ → Answer → Type 0) → (ℕ → Type 0) → Text → Option ℕ → ℕ → List Repeat → Journal → List Command → Journal → List Command → Type 0
-GivesFirst Tells shows token own zero acts old said new commands = (new ≡ old) × (commands ≡ said)
-GivesFirst Tells shows token own (suc n) acts old said new commands =
-    (mid : Journal) × (known : List Command) × GivesFirst Tells shows token own n acts old said mid known
-    × GivesNth Tells shows token own n acts mid known new commands
+GivesFirst Exchanged shows token own zero acts old said new commands = (new ≡ old) × (commands ≡ said)
+GivesFirst Exchanged shows token own (suc n) acts old said new commands =
+    (mid : Journal) × (known : List Command) × GivesFirst Exchanged shows token own n acts old said mid known
+    × GivesNth Exchanged shows token own n acts mid known new commands
 
 -- ---- from a book to a later one
 
 -- of a till's book the first n acts were given, and it is a till's book still
 abbrev pub GivesBook : (List ℕ → Answer → Type 0) → (ℕ → Type 0) → Text → Text → Option ℕ → ℕ → List Repeat → Place → State → Place → State → Type 0
-GivesBook Tells shows mark token own n acts before old after new =
+GivesBook Exchanged shows mark token own n acts before old after new =
     (journal : Journal) (commands : List Command) → IsAt mark before old journal commands
-    → (last : Journal) × (known : List Command) × IsAt mark after new last known × GivesFirst Tells shows token own n acts journal commands last known
+    → (last : Journal) × (known : List Command) × IsAt mark after new last known × GivesFirst Exchanged shows token own n acts journal commands last known
 
 -- some acts were given so, each of an entry that was refused since another moment was later
 abbrev pub GivesAll : (List ℕ → Answer → Type 0) → (ℕ → Type 0) → Text → Text → Option ℕ → Place → State → Place → State → Type 0
-GivesAll Tells shows mark token own before old after new =
-    (acts : List Repeat) × All (IsRefusedIn old) acts × GivesBook Tells shows mark token own (length acts) acts before old after new
+GivesAll Exchanged shows mark token own before old after new =
+    (acts : List Repeat) × All (IsRefusedIn old) acts × GivesBook Exchanged shows mark token own (length acts) acts before old after new

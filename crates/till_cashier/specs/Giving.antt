@@ -1,5 +1,5 @@
 -- A command that is given at a till: tries of it are entered and sent, until one isn't refused for its moment.
-use Rattle.std.specs.Prelude.{◌≡◌, ◌≤◌, ◌+◌, ⊤, ℕ, List, [], ◌∷◌, ◌++◌, length, Option, Result, Ok}
+use Rattle.std.specs.Prelude.{◌≡◌, ◌≤◌, ◌+◌, ◌⊎◌, ⊤, ℕ, List, [], ◌∷◌, ◌++◌, length, Option, Result, Ok}
 use Rattle.std.specs.List.{AllByRecursion}
 use Rattle.sqlite.specs.State.{State}
 use Rattle.shop_model.specs.Calendar.{Moment, seconds_of}
@@ -52,13 +52,13 @@ EntersTry shows mark token giver act before old after new =
 -- What had waited got replies. Tries of the act were added after the last entry, in a till's book still: so they have the next keys, and moments that rise.
 -- Each try
 -- got its own reply, and no entry waits.
-pub record IsTried (Tells : List ℕ → Answer → Type 0) (shows : ℕ → Type 0) (mark token : Text)
+pub record IsTried (Exchanged : List ℕ → Answer → Type 0) (shows : ℕ → Type 0) (mark token : Text)
     (staff : ℕ) (act : Act) (told : List Answer) (place : Place) (s : State)
     (old : Journal) (said : List Command) : Type 0 where
   pub journal : Journal
   pub commands : List Command
   pub is_at : IsAt mark place s journal commands
-  pub extends : Extends Tells old journal
+  pub extends : Extends Exchanged old journal
   pub requests : List (List ℕ)
   pub tries : List Command
   pub entries : journal.entries ≡ old.entries ++ requests
@@ -72,27 +72,34 @@ pub record IsTried (Tells : List ℕ → Answer → Type 0) (shows : ℕ → Typ
 
 -- the giver of the act tried it so
 abbrev pub Tries : (List ℕ → Answer → Type 0) → (ℕ → Type 0) → Text → Text → Result ℕ TillFault → Act → List Answer → Place → State → Place → State → Type 0
-Tries Tells shows mark token giver act told before old after new =
+Tries Exchanged shows mark token giver act told before old after new =
     (staff : ℕ) × (giver ≡ Ok staff)
     × ((journal : Journal) (commands : List Command) → IsAt mark before old journal commands
-    → IsTried Tells shows mark token staff act told after new journal commands)
+    → IsTried Exchanged shows mark token staff act told after new journal commands)
 
 -- refused for its moment
 abbrev pub IsBack : Answer → Type 0
 IsBack answer = answer ≡ answer_of (Sorry MomentBack)
 
+-- At most one entry was added after these. Or each that was added but the last has a reply at its own place, which refused it for its moment.
+abbrev pub AreRefused : List (List ℕ) → List Answer → List (List ℕ) → Type 0
+AreRefused entries replies added =
+    (length added ≤ 1)
+    ⊎ ((earlier backs later : List Answer) × (replies ≡ (earlier ++ backs) ++ later) × (length earlier ≡ length entries)
+    × (length added ≤ length backs + 1) × AllByRecursion IsBack backs)
+
 -- The act was tried once or more: each try but the last was refused for its moment, and the last got that answer.
 abbrev pub IsGivenAt : (List ℕ → Answer → Type 0) → (ℕ → Type 0) → Text → Text → ℕ → Act → Answer → Place → State → Journal → List Command → Type 0
-IsGivenAt Tells shows mark token staff act answer place s journal commands =
-    (backs : List Answer) × AllByRecursion IsBack backs × IsTried Tells shows mark token staff act (backs ++ answer ∷ []) place s journal commands
+IsGivenAt Exchanged shows mark token staff act answer place s journal commands =
+    (backs : List Answer) × AllByRecursion IsBack backs × IsTried Exchanged shows mark token staff act (backs ++ answer ∷ []) place s journal commands
 
 -- so it was given by its giver
 abbrev pub Gives : (List ℕ → Answer → Type 0) → (ℕ → Type 0) → Text → Text → Result ℕ TillFault → Act → Answer → Place → State → Place → State → Type 0
-Gives Tells shows mark token giver act answer before old after new =
+Gives Exchanged shows mark token giver act answer before old after new =
     (staff : ℕ) × (giver ≡ Ok staff)
     × ((journal : Journal) (commands : List Command) → IsAt mark before old journal commands
-    → IsGivenAt Tells shows mark token staff act answer after new journal commands)
+    → IsGivenAt Exchanged shows mark token staff act answer after new journal commands)
 
 -- with some answer
 abbrev pub GivesAct : (List ℕ → Answer → Type 0) → (ℕ → Type 0) → Text → Text → Result ℕ TillFault → Act → Place → State → Place → State → Type 0
-GivesAct Tells shows mark token giver act before old after new = (answer : Answer) × Gives Tells shows mark token giver act answer before old after new
+GivesAct Exchanged shows mark token giver act before old after new = (answer : Answer) × Gives Exchanged shows mark token giver act answer before old after new

@@ -15,8 +15,11 @@ pub mod Again
 pub mod Asking
 pub mod Saying
 pub mod Following
+pub mod Drawers
 pub mod Printing
 pub mod Asked
 pub mod Stops
 pub mod Stocked
 pub mod Looking
+pub mod Listing
+pub mod Showing

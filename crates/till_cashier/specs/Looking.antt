@@ -14,7 +14,7 @@ use Rattle.till_shows.specs.Lists.{store_fields, category_fields}
 use Rattle.till_shows.specs.Looks.{in_stock_in, film_in_stock_in, film_not_in_stock_in, balance_in, rewards_in, holder_in, holder_text}
 use Rattle.till_shows.specs.Sheets.{film_sheet_in, IsCustomerSheet}
 use Rattle.till_shows.specs.Tables.{row_count, table_text}
-use Rattle.till_shows.specs.Told.{Tells}
+use Rattle.till_shows.specs.Refused.{HasRefusal}
 use Rattle.till_words.specs.declared.words.TillLook.{TillLook}
 use Rattle.till_words.specs.declared.words.TillLook.TheVariants as look
 use Rattle.till_cashier.specs.declared.lists.List.{List as Kept}
@@ -207,7 +207,7 @@ IsListOf Asks list answer = Asks (OneView (view_of list)) answer ⊎ (answer.sta
 pub record IsByPhone (json : Bool) (customer : ℕ) (answer : Answer) (table : Table) : Type 0 where
   pub plain : json ≡ false
   pub long : 100 ≤ customer
-  pub none : Tells answer.status answer.body NoCustomer
+  pub none : HasRefusal answer.status answer.body NoCustomer
   pub list : Text
   pub rows : found_in kept.Customers (decimal customer) list ≡ Some table
   pub some : row_count table ≢ 0

@@ -77,31 +77,46 @@ AddsWords mark token words old new = (journal : Journal) → Rests old journal �
 -- ---- what is added, and what stays
 
 -- a book that was that one and has what was in it; requests for the words were entered so, and nothing else
-pub record HasTurn (Tells : List ℕ → Answer → Type 0) (mark token : Text) (words : List Text) (place : Place) (s : State) (old : Journal) : Type 0 where
+pub record HasTurn (Exchanged : List ℕ → Answer → Type 0) (mark token : Text) (words : List Text) (place : Place) (s : State) (old : Journal) : Type 0 where
   pub journal : Journal
   pub has : HasPlace place s journal
-  pub extends : Extends Tells old journal
+  pub extends : Extends Exchanged old journal
   pub turn : EntersInTurn mark token words old journal
 
 abbrev pub GrowsInTurn : (List ℕ → Answer → Type 0) → Text → Text → List Text → Place → State → Place → State → Type 0
-GrowsInTurn Tells mark token words before old after new = (journal : Journal) → HasPlace before old journal → HasTurn Tells mark token words after new journal
+GrowsInTurn Exchanged mark token words before old after new = (journal : Journal) → HasPlace before old journal
+    → HasTurn Exchanged mark token words after new journal
 
 -- each request that was entered got the reply that another command has its key
 abbrev pub HasUsedTurn : (List ℕ → Answer → Type 0) → Text → Text → List Text → Place → State → Journal → Type 0
-HasUsedTurn Tells mark token words place s old =
-    (it : HasTurn Tells mark token words place s old)
+HasUsedTurn Exchanged mark token words place s old =
+    (it : HasTurn Exchanged mark token words place s old)
     × ((k : ℕ) → k < length it.turn.requests → IsUsedAt it.journal.replies (length old.entries + k))
 
 abbrev pub GrowsUsed : (List ℕ → Answer → Type 0) → Text → Text → List Text → Place → State → Place → State → Type 0
-GrowsUsed Tells mark token words before old after new = (journal : Journal) → HasPlace before old journal → HasUsedTurn Tells mark token words after new journal
+GrowsUsed Exchanged mark token words before old after new = (journal : Journal) → HasPlace before old journal
+    → HasUsedTurn Exchanged mark token words after new journal
 
 -- a book that was that one and has what was in it; that request was entered, and got that reply
-pub record HasGiven (Tells : List ℕ → Answer → Type 0) (request : List ℕ) (answer : Answer) (place : Place) (s : State) (old : Journal) : Type 0 where
+pub record HasGiven (Exchanged : List ℕ → Answer → Type 0) (request : List ℕ) (answer : Answer) (place : Place) (s : State) (old : Journal) : Type 0 where
   pub journal : Journal
   pub has : HasPlace place s journal
-  pub extends : Extends Tells old journal
+  pub extends : Extends Exchanged old journal
   pub entries : journal.entries ≡ old.entries ++ request ∷ []
   pub reply : slice_get journal.replies (length old.entries) ≡ Some answer
 
 abbrev pub GivesOne : (List ℕ → Answer → Type 0) → List ℕ → Answer → Place → State → Place → State → Type 0
-GivesOne Tells request answer before old after new = (journal : Journal) → HasPlace before old journal → HasGiven Tells request answer after new journal
+GivesOne Exchanged request answer before old after new = (journal : Journal) → HasPlace before old journal → HasGiven Exchanged request answer after new journal
+
+-- Requests for the words were entered so, one at least, and the last of them got that reply.
+pub record HasAnswered (Exchanged : List ℕ → Answer → Type 0) (mark token : Text) (words : List Text) (answer : Answer) (place : Place) (s : State)
+    (old : Journal) : Type 0 where
+  pub turn : HasTurn Exchanged mark token words place s old
+  pub last : ℕ
+  pub is_new : length old.entries ≤ last
+  pub is_last : length turn.journal.entries ≡ last + 1
+  pub reply : slice_get turn.journal.replies last ≡ Some answer
+
+abbrev pub AnswersInTurn : (List ℕ → Answer → Type 0) → Text → Text → List Text → Answer → Place → State → Place → State → Type 0
+AnswersInTurn Exchanged mark token words answer before old after new = (journal : Journal) → HasPlace before old journal
+    → HasAnswered Exchanged mark token words answer after new journal

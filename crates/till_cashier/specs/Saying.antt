@@ -9,9 +9,9 @@ use Rattle.till_requests.specs.SheetRows.{Row, row_in_sheet}
 use Rattle.till_shows.specs.Lists.{named_in}
 use Rattle.till_shows.specs.Looks.{reply_in}
 use Rattle.till_shows.specs.Money.{money_text}
-use Rattle.till_shows.specs.Refusals.{told_text}
+use Rattle.till_shows.specs.Refusals.{refusal_text}
 use Rattle.till_shows.specs.Times.{day_text}
-use Rattle.till_shows.specs.Told.{Tells, has_short_line}
+use Rattle.till_shows.specs.Refused.{HasRefusal, has_short_line}
 
 -- the lines, the last one too ended by a line feed
 abbrev pub ended : Text → Text
@@ -25,11 +25,11 @@ status_of status = if status == 200 then 0 else 1
 
 -- no refusal is found in the answer
 abbrev pub IsNoRefusal : Answer → Type 0
-IsNoRefusal answer = (it : Refusal) → has_short_line it ≡ true → ¬ Tells answer.status answer.body it
+IsNoRefusal answer = (it : Refusal) → has_short_line it ≡ true → ¬ HasRefusal answer.status answer.body it
 
 -- the text says what the refusal in the answer means
 abbrev pub SaysRefusal : Answer → Text → Type 0
-SaysRefusal answer text = (it : Refusal) × Tells answer.status answer.body it × (text ≡ ended (told_text it))
+SaysRefusal answer text = (it : Refusal) × HasRefusal answer.status answer.body it × (text ≡ ended (refusal_text it))
 
 -- The text says all of the answer: with `--json` its body as it is, else what its refusal means.
 abbrev pub SaysAll : Bool → Answer → Text → Type 0

@@ -12,6 +12,7 @@ wants_yes (act.Office words) = false
 wants_yes act.Send = false
 wants_yes (act.Init beginning) = false
 wants_yes (act.Import file lot) = false
+wants_yes (act.JoinIn who) = false
 wants_yes (act.Look look) = false
 wants_yes act.Waiting = false
 wants_yes (act.Last count) = false

@@ -1,17 +1,20 @@
 -- Today's date, said by a person before a book's first entry and before one that is long after the last.
-use Rattle.std.specs.Prelude.{◌≡◌, ◌==◌, ◌≤◌, ◌+◌, ◌⊎◌, ℕ, ℤ, pos, Bool, true, false, if◌then◌else◌, List, Option, None, Some, option_map}
+use Rattle.std.specs.Prelude.{◌≡◌, ◌==◌, ◌≤◌, ◌+◌, ◌/◌, ◌%◌, ◌++◌, ◌⊎◌, codes, ℕ, ℤ, pos, Bool, true, false, if◌then◌else◌, List, Option, None, Some}
+use Rattle.std.specs.Prelude.{option_map}
 use Rattle.sqlite.specs.State.{State}
 use Rattle.jiff_core.specs.Timestamp.{IsTimestampNanos}
 use Rattle.jiff_tz.specs.declared.timezone.TimeZone.{TimeZone}
 use Rattle.jiff_tz.specs.Zone.{offset_at}
 use Rattle.shop_model.specs.Calendar.{Moment, day_of, seconds_of}
-use Rattle.shop_model.specs.Values.{Command}
+use Rattle.shop_model.specs.Values.{Text, Command}
 use Rattle.till_book.specs.Held.{last_or}
 use Rattle.till_book.specs.Journal.{Journal}
 use Rattle.till_book.specs.Saying.{Say}
 use Rattle.till_book.specs.Steps.{Rests}
 use Rattle.till_words.specs.declared.words.TillAct.{TillAct}
 use Rattle.till_words.specs.declared.words.TillAct.TheVariants as act
+use Rattle.till_shows.specs.Times.{day_text}
+use Rattle.till_cashier.specs.Saying.{ended}
 use Rattle.till_cashier.specs.Wall.{instant_of, wall_second, IsShown}
 
 -- the word enters commands of a branch
@@ -23,6 +26,7 @@ enters_acts (act.Office words) = false
 enters_acts act.Send = false
 enters_acts (act.Init beginning) = false
 enters_acts (act.Import file lot) = false
+enters_acts (act.JoinIn who) = false
 enters_acts (act.Look look) = false
 enters_acts act.Waiting = false
 enters_acts (act.Last count) = false
@@ -68,3 +72,23 @@ abbrev pub IsDatedBook : (ℕ → Type 0) → TimeZone → ℤ → Option ℤ �
 IsDatedBook shows zone offset said s =
     (journal : Journal) (commands : List Command) → Rests s journal → Say journal.entries commands
     → HasDate shows zone offset said (option_map (λ (it : Command). it.moment) (last_or None commands))
+
+-- ---- what is printed of a date
+
+-- the day of the week; the first of January 1970 was a Thursday
+abbrev pub weekday_text : Moment → Text
+weekday_text at =
+    let day = seconds_of at / 86_400 % 7 in
+    if day == 0 then codes "Thursday"
+    else (if day == 1 then codes "Friday"
+    else (if day == 2 then codes "Saturday"
+    else (if day == 3 then codes "Sunday"
+    else (if day == 4 then codes "Monday"
+    else (if day == 5 then codes "Tuesday" else codes "Wednesday")))))
+
+abbrev pub today_text : Moment → Text
+today_text at = codes "Today is " ++ (weekday_text at ++ (codes " " ++ (day_text at ++ codes ".")))
+
+-- the text says the date of a moment that the clock on the wall showed
+abbrev pub SaysToday : (ℕ → Type 0) → TimeZone → ℤ → Text → Type 0
+SaysToday shows zone offset text = (shown : Moment) × IsShownOnWall shows zone offset shown × (text ≡ ended (today_text shown))

@@ -13,7 +13,7 @@ use Rattle.till_book.specs.Steps.{Rests}
 use Rattle.till_book.specs.Register.{IsHeld, IsRenter}
 use Rattle.till_book.specs.declared.rents.HeldRental.{HeldRental}
 use Rattle.till_work.specs.Entering.{IsTillsBook}
-use Rattle.till_work.specs.Told.{AreSettled}
+use Rattle.till_work.specs.Exchanged.{AreSettled}
 use Rattle.till_work.specs.Desk.{HasPlace, Extends, AreSent, FailsToSend}
 use Rattle.till_work.specs.declared.fault.DeskFault.{DeskFault}
 use Rattle.till_work.specs.declared.place.Place.{Place}
@@ -80,6 +80,7 @@ EntersOrSends (act.Office words) = ⊤
 EntersOrSends act.Send = ⊤
 EntersOrSends (act.Init beginning) = ⊥
 EntersOrSends (act.Import file lot) = ⊥
+EntersOrSends (act.JoinIn who) = ⊥
 EntersOrSends (act.Look look) = ⊥
 EntersOrSends act.Waiting = ⊥
 EntersOrSends (act.Last count) = ⊥
@@ -115,6 +116,7 @@ IsFor staff (act.ReturnCopy copy) = IsSome staff
 IsFor staff (act.Office words) = staff ≡ None
 IsFor staff (act.Init beginning) = ⊤
 IsFor staff (act.Import file lot) = ⊤
+IsFor staff (act.JoinIn who) = ⊤
 IsFor staff (act.Look look) = IsSome staff
 IsFor staff act.Waiting = ⊤
 IsFor staff act.Send = ⊤
@@ -130,48 +132,48 @@ IsFor staff act.Prompt = ⊤
 -- the fault tells one of the desk's, at which sending ended, and why
 abbrev pub FailsToSendAll : {R W : Type 0} → (List ℕ → Answer → Type 0) → Type 0
     → (R → W → Type 0) → (W → Option (List ℕ)) → Place → State → Place → State → TillFault → Type 0
-FailsToSendAll Tells refuses opens contents before old after new told =
-    (it : DeskFault) × (told ≡ told_fault it) × FailsToSend Tells refuses opens contents before old after new it
+FailsToSendAll Exchanged refuses opens contents before old after new told =
+    (it : DeskFault) × (told ≡ told_fault it) × FailsToSend Exchanged refuses opens contents before old after new it
 
 -- Some of what waited was sent. If no reply was without its entry, each entry has its reply.
 abbrev pub SendsAll : (List ℕ → Answer → Type 0) → Place → State → Place → State → Type 0
-SendsAll Tells before old after new =
+SendsAll Exchanged before old after new =
     (journal : Journal) → HasPlace before old journal
-    → (answers : List Answer) × AreSent Tells answers after new journal
+    → (answers : List Answer) × AreSent Exchanged answers after new journal
     × (length journal.replies ≤ length journal.entries → length (journal.replies ++ answers) ≡ length journal.entries)
 
 -- a till's book that was this one, and goes on
-pub record IsBehind (Tells : List ℕ → Answer → Type 0) (mark : Text) (s : State) (old : Journal) (said : List Command) : Type 0 where
+pub record IsBehind (Exchanged : List ℕ → Answer → Type 0) (mark : Text) (s : State) (old : Journal) (said : List Command) : Type 0 where
   pub journal : Journal
   pub commands : List Command
   pub rests : Rests s journal
   pub book : IsTillsBook mark journal commands
-  pub extends : Extends Tells old journal
+  pub extends : Extends Exchanged old journal
   pub says : (more : List Command) × (commands ≡ said ++ more)
 
 -- a till's book stays one, and what stood in it stays
 abbrev pub KeepsATillsBook : (List ℕ → Answer → Type 0) → Text → State → State → Type 0
-KeepsATillsBook Tells mark old new =
-    (journal : Journal) (commands : List Command) → Rests old journal → IsTillsBook mark journal commands → IsBehind Tells mark new journal commands
+KeepsATillsBook Exchanged mark old new =
+    (journal : Journal) (commands : List Command) → Rests old journal → IsTillsBook mark journal commands → IsBehind Exchanged mark new journal commands
 
 -- a book that was that one, whatever its entries say, and has what stood in it
-pub record HasMore (Tells : List ℕ → Answer → Type 0) (s : State) (old : Journal) : Type 0 where
+pub record HasMore (Exchanged : List ℕ → Answer → Type 0) (s : State) (old : Journal) : Type 0 where
   pub journal : Journal
   pub rests : Rests s journal
-  pub extends : Extends Tells old journal
+  pub extends : Extends Exchanged old journal
 
 -- what stood in a book stays in it
 abbrev pub KeepsABook : (List ℕ → Answer → Type 0) → State → State → Type 0
-KeepsABook Tells old new = (journal : Journal) → Rests old journal → HasMore Tells new journal
+KeepsABook Exchanged old new = (journal : Journal) → Rests old journal → HasMore Exchanged new journal
 
 -- a book with the same entries and replies; each settlement that was added is a reply to the entry of its number
-pub record IsSame (Tells : List ℕ → Answer → Type 0) (s : State) (old : Journal) : Type 0 where
+pub record IsSame (Exchanged : List ℕ → Answer → Type 0) (s : State) (old : Journal) : Type 0 where
   pub journal : Journal
   pub rests : Rests s journal
   pub entries : journal.entries ≡ old.entries
   pub replies : journal.replies ≡ old.replies
-  pub settled : (more : List (ℕ × Answer)) × (journal.settled ≡ old.settled ++ more) × AreSettled Tells old.entries more
+  pub settled : (more : List (ℕ × Answer)) × (journal.settled ≡ old.settled ++ more) × AreSettled Exchanged old.entries more
 
 -- nothing is entered or recorded but settlements of entries that were sent once more
 abbrev pub EntersNothing : (List ℕ → Answer → Type 0) → State → State → Type 0
-EntersNothing Tells old new = (journal : Journal) → Rests old journal → IsSame Tells new journal
+EntersNothing Exchanged old new = (journal : Journal) → Rests old journal → IsSame Exchanged new journal

@@ -1,17 +1,20 @@
 //! What was refused because the branch had a later moment is given once more.
 
-ghost use Rattle.std.specs.Prelude.{◌≡◌, ◌<◌, ◌≤◌, false, None, Some, Err, length, IfOk, OnOk};
+ghost use Rattle.std.specs.Prelude.{◌≡◌, ◌<◌, ◌≤◌, ℕ, false, None, Some, Err, length, IfOk, OnOk, string_bytes};
 ghost use Rattle.sqlite.specs.Held.{state};
 ghost use Rattle.sqlite.specs.State.{HasCleanDisk};
 ghost use Rattle.shop_types.specs.Seen.{seen_act};
 ghost use Rattle.till_book.specs.Steps.{Stays};
-ghost use Rattle.till_work.specs.Told.{IsTold};
+ghost use Rattle.till_work.specs.Exchanged.{IsExchanged};
 ghost use Rattle.till_work.specs.Entering.{IsTillsBook};
 ghost use Rattle.till_work.specs.Desk.{GoesOn, HasPlace};
 ghost use Rattle.till_work.specs.Stops.{IsLater, Leaves};
 ghost use Rattle.till_cashier.specs.Clock.{local_clock};
 ghost use Rattle.till_cashier.specs.Faults.{IsBookKept, giver_of};
+ghost use Rattle.till_requests.specs.Zones.{offset_of};
+ghost use Rattle.till_cashier.specs.Adding.{AddsFirst, AddsRepeats, AddsTries};
 ghost use Rattle.till_cashier.specs.Giving.{GivesAct};
+ghost use Rattle.till_cashier.specs.Showing.{AddsMore, SaysAgain, SaysNothing};
 ghost use Rattle.till_cashier.specs.Again.{GivesBook, GivesAll};
 
 use crate::book::Book;
@@ -22,7 +25,7 @@ use crate::desk::Desk;
 use crate::entries::EntriesAfter;
 use crate::fault::TillFault;
 use crate::lists_of_entries::entries_after;
-use crate::refused::{Repeat, Repeats, repeats_in};
+use crate::refused::{Repeat, repeats_in};
 use crate::said::Said;
 use sqlite::{Alter, Connection};
 use std::alloc::Global;
@@ -43,16 +46,21 @@ fn give_again<S: Alter, K: WallClock, V: Server, L: Shelf, W: Watch>(
     ensures ended { conn.new.in_transaction ≡ false }
     ensures clean { HasCleanDisk (state S.Store conn.new) → HasCleanDisk (state S.Store conn.old) }
     ensures given { HasCleanDisk (state S.Store conn.new)
-        → OnOk result (GivesAct (IsTold (V.opens desk.now.server.now) V.Reader.remaining V.Writer.contents)
+        → OnOk result (GivesAct (IsExchanged (V.opens desk.now.server.now) V.Reader.remaining V.Writer.contents)
         (local_clock (K.shows desk.now.clock.now) desk.now.settings.now.zone) desk.now.settings.now.mark desk.now.settings.now.token
         (giver_of desk.now.settings.now.staff (Some it.now.staff)) (seen_act it.now.act) book.old.place
         (state S.Store conn.old) book.new.place (state S.Store conn.new)) }
     ensures keeps { HasCleanDisk (state S.Store conn.new) → IsBookKept result
-        → GoesOn (IsTold (V.opens desk.now.server.now) V.Reader.remaining V.Writer.contents)
+        → GoesOn (IsExchanged (V.opens desk.now.server.now) V.Reader.remaining V.Writer.contents)
         desk.now.settings.now.mark book.old.place (state S.Store conn.old) book.new.place
         (state S.Store conn.new) }
+    ensures adds { HasCleanDisk (state S.Store conn.new) → IsBookKept result
+        → AddsTries (local_clock (K.shows desk.now.clock.now) desk.now.settings.now.zone)
+        desk.now.settings.now.mark desk.now.settings.now.token
+        (giver_of desk.now.settings.now.staff (Some it.now.staff)) (seen_act it.now.act) book.old.place
+        (state S.Store conn.old) book.new.place (state S.Store conn.new) }
     ensures crash { HasCleanDisk (state S.Store conn.new) → Leaves (HasPlace book.old.place (state S.Store conn.old))
-        (IsTillsBook desk.now.settings.now.mark) (IsLater (IsTold (V.opens desk.now.server.now) V.Reader.remaining V.Writer.contents))
+        (IsTillsBook desk.now.settings.now.mark) (IsLater (IsExchanged (V.opens desk.now.server.now) V.Reader.remaining V.Writer.contents))
         (state S.Store conn.new) }
 {
     let theirs = desk.by(it.staff);
@@ -91,16 +99,20 @@ fn give_each<S: Alter, K: WallClock, V: Server, L: Shelf, W: Watch>(
     ensures ended { conn.new.in_transaction ≡ false }
     ensures clean { HasCleanDisk (state S.Store conn.new) → HasCleanDisk (state S.Store conn.old) }
     ensures given { HasCleanDisk (state S.Store conn.new) → IfOk result (λ stopped. stopped ≡ None
-        → GivesBook (IsTold (V.opens desk.now.server.now) V.Reader.remaining V.Writer.contents)
+        → GivesBook (IsExchanged (V.opens desk.now.server.now) V.Reader.remaining V.Writer.contents)
         (local_clock (K.shows desk.now.clock.now) desk.now.settings.now.zone) desk.now.settings.now.mark desk.now.settings.now.token
         desk.now.settings.now.staff (length acts.now) acts.now book.old.place
         (state S.Store conn.old) book.new.place (state S.Store conn.new)) }
     ensures keeps { HasCleanDisk (state S.Store conn.new) → IsBookKept result
-        → GoesOn (IsTold (V.opens desk.now.server.now) V.Reader.remaining V.Writer.contents)
+        → GoesOn (IsExchanged (V.opens desk.now.server.now) V.Reader.remaining V.Writer.contents)
         desk.now.settings.now.mark book.old.place (state S.Store conn.old) book.new.place
         (state S.Store conn.new) }
+    ensures adds { HasCleanDisk (state S.Store conn.new) → IsBookKept result
+        → (n : ℕ) × AddsFirst (local_clock (K.shows desk.now.clock.now) desk.now.settings.now.zone)
+        desk.now.settings.now.mark desk.now.settings.now.token n acts.now book.old.place
+        (state S.Store conn.old) book.new.place (state S.Store conn.new) }
     ensures crash { HasCleanDisk (state S.Store conn.new) → Leaves (HasPlace book.old.place (state S.Store conn.old))
-        (IsTillsBook desk.now.settings.now.mark) (IsLater (IsTold (V.opens desk.now.server.now) V.Reader.remaining V.Writer.contents))
+        (IsTillsBook desk.now.settings.now.mark) (IsLater (IsExchanged (V.opens desk.now.server.now) V.Reader.remaining V.Writer.contents))
         (state S.Store conn.new) }
 {
     'givings: for it in acts {
@@ -122,7 +134,8 @@ fn stopped_status(fault: TillFault) -> u8
 
 /// Adds the fault that ended it.
 fn stopped_said(alloc: Global, said: Said, fault: TillFault) -> Result<Said, TillFault>
-    ensures { IfOk result (λ said. said.status < 3 → ⊥) }
+    ensures status { IfOk result (λ said. said.status < 3 → ⊥) }
+    ensures text { IfOk result (λ it. AddsMore (string_bytes said.text) (string_bytes it.text) it.status) }
 {
     let mut said = said;
     let line = format!(in alloc; "{fault}")?;
@@ -134,6 +147,18 @@ fn stopped_said(alloc: Global, said: Said, fault: TillFault) -> Result<Said, Til
     })
 }
 
+/// Says what was left out, below the entries that were sent and entered.
+fn left_said(left: &str, table: Said) -> Result<Said, TillFault>
+    ensures { IfOk result (λ it. AddsMore (string_bytes table.text) (string_bytes it.text) it.status) }
+{
+    let mut said = table;
+    if !left.is_empty() {
+        said.status = 1;
+        said.line(left)?;
+    }
+    Ok(said)
+}
+
 /// Says what was left out, and then the entries that were sent and entered. If a fault ended it, says that too.
 fn again_said(
     alloc: Global,
@@ -141,38 +166,26 @@ fn again_said(
     table: Said,
     stopped: Option<TillFault>,
 ) -> Result<Said, TillFault>
-    ensures { IfOk result (λ said. said.status < 3 → stopped ≡ None) }
+    ensures given { IfOk result (λ said. said.status < 3 → stopped ≡ None) }
+    ensures text { IfOk result (λ it. AddsMore (string_bytes table.text) (string_bytes it.text) it.status) }
 {
-    let mut said = table;
-    if !left.is_empty() {
-        said.status = 1;
-        said.line(left)?;
-    }
+    let said = left_said(left, table)?;
     match stopped {
         Some(fault) => stopped_said(alloc, said, fault),
         None => Ok(said),
     }
 }
 
-/// Shows the entries that had waited and those that were entered after them, or says that there was none to repeat. The
-/// book stays.
-fn entered<S: Alter, K: WallClock, V: Server, L: Shelf>(
-    desk: &Desk<'_, K, V, L>,
-    conn: &mut Connection<S>,
-    repeats: &Repeats,
-    first: u32,
-) -> Result<Said, TillFault>
-    requires { conn.old.in_transaction ≡ false }
-    ensures ended { conn.new.in_transaction ≡ false }
-    ensures clean { HasCleanDisk (state S.Store conn.new) → HasCleanDisk (state S.Store conn.old) }
-    ensures stays { HasCleanDisk (state S.Store conn.new) → Stays (state S.Store conn.old) (state S.Store conn.new) }
+/// Says that nothing is to be given once more, or what was left out.
+fn nothing_said(alloc: Global, left: &str) -> Result<Said, TillFault>
+    ensures { IfOk result (λ said. SaysNothing (string_bytes said.text) said.status) }
 {
-    if !repeats.acts.is_empty() {
-        return entries_after(desk, conn, first, u32::MAX, "");
-    }
-    let mut said = Said::done(desk.alloc);
-    if repeats.left.as_str().is_empty() {
+    let mut said = Said::done(alloc);
+    if left.is_empty() {
         said.line("nothing is to be entered again")?;
+    } else {
+        said.status = 1;
+        said.line(left)?;
     }
     Ok(said)
 }
@@ -190,25 +203,36 @@ pub(crate) fn again<S: Alter, K: WallClock, V: Server, L: Shelf, W: Watch>(
     ensures ended { conn.new.in_transaction ≡ false }
     ensures clean { HasCleanDisk (state S.Store conn.new) → HasCleanDisk (state S.Store conn.old) }
     ensures given { HasCleanDisk (state S.Store conn.new) → IfOk result (λ said. said.status < 3
-        → GivesAll (IsTold (V.opens desk.now.server.now) V.Reader.remaining V.Writer.contents)
+        → GivesAll (IsExchanged (V.opens desk.now.server.now) V.Reader.remaining V.Writer.contents)
         (local_clock (K.shows desk.now.clock.now) desk.now.settings.now.zone) desk.now.settings.now.mark desk.now.settings.now.token
         desk.now.settings.now.staff book.old.place (state S.Store conn.old) book.new.place (state S.Store conn.new)) }
     ensures keeps { HasCleanDisk (state S.Store conn.new) → IsBookKept result
-        → GoesOn (IsTold (V.opens desk.now.server.now) V.Reader.remaining V.Writer.contents)
+        → GoesOn (IsExchanged (V.opens desk.now.server.now) V.Reader.remaining V.Writer.contents)
         desk.now.settings.now.mark book.old.place (state S.Store conn.old) book.new.place
         (state S.Store conn.new) }
+    ensures adds { HasCleanDisk (state S.Store conn.new) → IsBookKept result
+        → AddsRepeats (local_clock (K.shows desk.now.clock.now) desk.now.settings.now.zone)
+        desk.now.settings.now.mark desk.now.settings.now.token book.old.place (state S.Store conn.old) book.new.place
+        (state S.Store conn.new) }
+    ensures says { HasCleanDisk (state S.Store conn.new) → IfOk result (λ said. SaysAgain
+        (IsExchanged (V.opens desk.now.server.now) V.Reader.remaining V.Writer.contents)
+        desk.now.wall (offset_of desk.now.settings.now.zone) desk.now.settings.now.staff desk.now.settings.now.mark
+        book.old.place (state S.Store conn.old) book.new.place (state S.Store conn.new) (string_bytes said.text)
+        said.status) }
     ensures crash { HasCleanDisk (state S.Store conn.new) → Leaves (HasPlace book.old.place (state S.Store conn.old))
-        (IsTillsBook desk.now.settings.now.mark) (IsLater (IsTold (V.opens desk.now.server.now) V.Reader.remaining V.Writer.contents))
+        (IsTillsBook desk.now.settings.now.mark) (IsLater (IsExchanged (V.opens desk.now.server.now) V.Reader.remaining V.Writer.contents))
         (state S.Store conn.new) }
 {
     let first = book.place.replies;
     let entries = EntriesAfter::read(desk.alloc, conn, 0)?;
     let repeats = repeats_in(desk, &entries, late)?;
+    if repeats.acts.is_empty() {
+        return nothing_said(desk.alloc, repeats.left.as_str());
+    }
     let stopped = match give_each(desk, conn, book, repeats.acts.as_slice(), watch) {
         Ok(stopped) => stopped,
         Err(fault) => return Err(fault),
     };
-    let table = entered(desk, conn, &repeats, first)?;
-    let Repeats { left, .. } = repeats;
-    again_said(desk.alloc, left.as_str(), table, stopped)
+    let table = entries_after(desk, conn, first, "")?;
+    again_said(desk.alloc, repeats.left.as_str(), table, stopped)
 }

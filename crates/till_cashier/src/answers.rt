@@ -4,7 +4,7 @@ ghost use Rattle.std.specs.Prelude.{◌≡◌, ◌==◌, ◌++◌, Some, IfOk, O
 ghost use Rattle.shop_types.specs.Seen.{seen_act, seen_ask, seen_view};
 ghost use Rattle.till_client.specs.Replies.{seen_answer};
 ghost use Rattle.till_shows.specs.Looks.{holder_text};
-ghost use Rattle.till_shows.specs.Refusals.{told_text};
+ghost use Rattle.till_shows.specs.Refusals.{refusal_text};
 ghost use Rattle.till_cashier.specs.Looking.{Adds, IsLines, ShowsByCategory, ShowsInAll, ShowsList, ShowsSales, lines_in, list_in, name_end, table_or};
 ghost use Rattle.till_cashier.specs.Saying.{AddsAll, SaysOfficeAnswer, SaysOutcome, end_text, ended, status_of};
 
@@ -16,17 +16,17 @@ use std::alloc::Global;
 use till_client::Answer;
 use till_shows::{
     NotShown, Table, arrivals, balance_line, film_in_stock_line, film_not_in_stock_line,
-    film_sheet, holder_line, in_stock_line, money, overdue, refusal_in, reply_line, rewards_line,
-    sales_by_film_category, sales_by_store, sent, told_refusal,
+    film_sheet, holder_line, in_stock_line, money, overdue, refusal_in, refusal_sentences,
+    reply_line, rewards_line, sales_by_film_category, sales_by_store, sent,
 };
 
 /// Says what a refusal means.
 fn says_refusal(alloc: Global, refusal: Refusal, said: &mut Said) -> Result<(), TillFault>
     ensures said { OnOk result (string_bytes said.new.text
-        ≡ string_bytes said.old.text ++ ended (told_text refusal)) }
+        ≡ string_bytes said.old.text ++ ended (refusal_text refusal)) }
     ensures status { said.new.status ≡ said.old.status }
 {
-    let text = told_refusal(alloc, refusal)?;
+    let text = refusal_sentences(alloc, refusal)?;
     said.line(text.as_str())?;
     Ok(())
 }

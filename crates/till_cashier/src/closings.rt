@@ -1,4 +1,5 @@
-//! The closings of the drawer, in a text file beside the book: a line for each.
+//! The closings of the drawers, in a text file beside the book: a line for each. A line of another drawer than the book's
+//! own ends with its number.
 
 ghost use Rattle.std.specs.Prelude.{◌≡◌};
 
@@ -25,6 +26,8 @@ pub(crate) struct Closing {
     pub(crate) counted: u64,
     /// The numbers of the entries that settlements had accepted.
     pub(crate) late: Vec<u32>,
+    /// The number of the drawer, or 0 if it is the book's own.
+    pub(crate) drawer: u32,
 }
 
 /// Returns the numbers of a list with commas between them, or none if a part isn't a number.
@@ -42,9 +45,21 @@ fn numbers_in(alloc: Global, text: &str) -> Result<Option<Vec<u32>>, AllocError>
     Ok(Some(numbers))
 }
 
+/// Returns the drawer that a line's last words say: the book's own if there are none.
+fn drawer_in(words: &[&str]) -> Option<u32> {
+    match words {
+        [] => Some(0),
+        [drawer] => drawer.parse::<u32>().ok(),
+        [_, _, ..] => None,
+    }
+}
+
 /// Returns the closing that a line's words say, or none if they say none.
 fn closing_in(alloc: Global, words: &[&str]) -> Result<Option<Closing>, AllocError> {
-    let [at, replies, expected, counted, late] = words else {
+    let [at, replies, expected, counted, late, rest @ ..] = words else {
+        return Ok(None);
+    };
+    let Some(drawer) = drawer_in(rest) else {
         return Ok(None);
     };
     let (Some(at), Ok(replies)) = (Moment::read(*at), replies.parse::<u32>()) else {
@@ -62,24 +77,30 @@ fn closing_in(alloc: Global, words: &[&str]) -> Result<Option<Closing>, AllocErr
         expected,
         counted,
         late,
+        drawer,
     }))
 }
 
-/// Returns the closings that the lines say, in their order. Fails with `Drawer` if a line says none.
-fn closings_in(alloc: Global, text: &str) -> Result<Vec<Closing>, TillFault> {
+/// Returns the drawer's closings, in their order. Fails with `Drawer` if a line says none.
+fn closings_in(alloc: Global, text: &str, drawer: u32) -> Result<Vec<Closing>, TillFault> {
     let mut closings = Vec::new(alloc);
     for line in text.lines() {
         let words: Vec<&str> = line.split(' ').collect(alloc)?;
         match closing_in(alloc, words.as_slice())? {
-            Some(closing) => closings.push(closing)?,
+            Some(closing) if closing.drawer == drawer => closings.push(closing)?,
+            Some(_) => {}
             None => return Err(TillFault::Drawer),
         }
     }
     Ok(closings)
 }
 
-/// Reads the closings, in their order. Fails with `Drawer` if the file is spoilt. It stays then.
-pub(crate) fn closings<L: Shelf>(alloc: Global, shelf: &L) -> Result<Vec<Closing>, TillFault> {
+/// Reads the drawer's closings, in their order. Fails with `Drawer` if the file is spoilt. It stays then.
+pub(crate) fn closings<L: Shelf>(
+    alloc: Global,
+    shelf: &L,
+    drawer: u32,
+) -> Result<Vec<Closing>, TillFault> {
     let Some(bytes) = shelf.whole(alloc, NAME) else {
         return Err(TillFault::Drawer);
     };
@@ -89,7 +110,7 @@ pub(crate) fn closings<L: Shelf>(alloc: Global, shelf: &L) -> Result<Vec<Closing
     if !text.is_empty() && !text.ends_with('\n') {
         return Err(TillFault::Drawer);
     }
-    closings_in(alloc, text)
+    closings_in(alloc, text, drawer)
 }
 
 /// Returns the numbers with commas between them.
@@ -116,7 +137,11 @@ fn line_of(alloc: Global, closing: &Closing) -> Result<String, TillFault> {
     };
     let (replies, expected, counted) = (closing.replies, closing.expected, closing.counted);
     let late = numbers_text(alloc, closing.late.as_slice())?;
-    Ok(format!(in alloc; "{at} {replies} {expected} {counted} {late}\n")?)
+    let text = format!(in alloc; "{at} {replies} {expected} {counted} {late}")?;
+    match closing.drawer {
+        0 => Ok(format!(in alloc; "{text}\n")?),
+        drawer => Ok(format!(in alloc; "{text} {drawer}\n")?),
+    }
 }
 
 /// Adds a closing after the last. Fails with `NotClosed` if it can't be written. Then the file stays.

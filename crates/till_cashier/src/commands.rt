@@ -6,17 +6,17 @@ ghost use Rattle.sqlite.specs.State.{HasCleanDisk};
 ghost use Rattle.shop_types.specs.Seen.{seen_act};
 ghost use Rattle.shop_model.specs.Calendar.{seconds_of};
 ghost use Rattle.till_client.specs.Replies.{seen_answer};
-ghost use Rattle.till_shows.specs.Told.{Tells};
-ghost use Rattle.till_work.specs.Told.{IsTold};
+ghost use Rattle.till_shows.specs.Refused.{HasRefusal};
+ghost use Rattle.till_work.specs.Exchanged.{IsExchanged};
 ghost use Rattle.till_work.specs.Entering.{IsTillsBook};
 ghost use Rattle.till_work.specs.Desk.{GoesOn, HasPlace, Stays};
 ghost use Rattle.till_work.specs.Stops.{Leaves};
 ghost use Rattle.till_cashier.specs.Clock.{local_clock};
 ghost use Rattle.till_cashier.specs.Faults.{IsBookKept, giver_of};
 ghost use Rattle.till_cashier.specs.Giving.{IsDated, IsRequest, EntersTry, Tries, IsBack, Gives};
-ghost use Rattle.till_cashier.specs.Adding.{AddsTries};
+ghost use Rattle.till_cashier.specs.Adding.{AddsOneTry, AddsTries};
 ghost use Rattle.till_cashier.specs.Saying.{IsCalled, IsCalledIn, IsEnd, TellsOutcome, status_of};
-ghost use Rattle.till_cashier.specs.Stops.{IsTriedAfter};
+ghost use Rattle.till_cashier.specs.Stops.{IsTriedAfter, IsTriedOnce};
 
 use crate::answers::{besides, command_said};
 use crate::book::Book;
@@ -44,13 +44,13 @@ const SPAN: u64 = 120;
 
 /// The reply to an entry.
 #[derive(Drop)]
-pub(crate) struct Told {
+pub(crate) struct EntryReply {
     pub(crate) answer: Answer,
 }
 
-impl Told {
+impl EntryReply {
     pub(crate) fn refusal(&self) -> Option<Refusal>
-        ensures { IfSome result (Tells self.now.answer.status self.now.answer.body.items) }
+        ensures { IfSome result (HasRefusal self.now.answer.status self.now.answer.body.items) }
     {
         refusal_in(self.answer.status, self.answer.body.as_slice())
     }
@@ -149,7 +149,7 @@ fn enter_act<S: Alter, K: WallClock, V: Server, L: Shelf>(
     ensures stays { HasCleanDisk (state S.Store conn.new) → IsBookKept result
         → OnErr result (Stays book.old.place (state S.Store conn.old) book.new.place (state S.Store conn.new)) }
     ensures crash { HasCleanDisk (state S.Store conn.new) → Leaves (HasPlace book.old.place (state S.Store conn.old))
-        (IsTillsBook desk.now.settings.now.mark) (IsTriedAfter (IsTold (V.opens desk.now.server.now) V.Reader.remaining V.Writer.contents)
+        (IsTillsBook desk.now.settings.now.mark) (IsTriedOnce (IsExchanged (V.opens desk.now.server.now) V.Reader.remaining V.Writer.contents)
         (local_clock (K.shows desk.now.clock.now) desk.now.settings.now.zone) desk.now.settings.now.token
         (giver_of desk.now.settings.now.staff desk.now.staff) (seen_act act.now)) (state S.Store conn.new) }
 {
@@ -171,26 +171,26 @@ fn give_once<S: Alter, K: WallClock, V: Server, L: Shelf, W: Watch>(
     act: &Act,
     ahead: u64,
     watch: &mut W,
-) -> Result<Told, TillFault>
+) -> Result<EntryReply, TillFault>
     requires { conn.old.in_transaction ≡ false }
     ensures ended { conn.new.in_transaction ≡ false }
     ensures clean { HasCleanDisk (state S.Store conn.new) → HasCleanDisk (state S.Store conn.old) }
     ensures tried { HasCleanDisk (state S.Store conn.new) → IfOk result (λ told. Tries
-        (IsTold (V.opens desk.now.server.now) V.Reader.remaining V.Writer.contents) (local_clock (K.shows desk.now.clock.now) desk.now.settings.now.zone)
+        (IsExchanged (V.opens desk.now.server.now) V.Reader.remaining V.Writer.contents) (local_clock (K.shows desk.now.clock.now) desk.now.settings.now.zone)
         desk.now.settings.now.mark desk.now.settings.now.token
         (giver_of desk.now.settings.now.staff desk.now.staff) (seen_act act.now) (seen_answer told.answer ∷ [])
         book.old.place (state S.Store conn.old) book.new.place (state S.Store conn.new)) }
     ensures keeps { HasCleanDisk (state S.Store conn.new) → IsBookKept result
-        → GoesOn (IsTold (V.opens desk.now.server.now) V.Reader.remaining V.Writer.contents)
+        → GoesOn (IsExchanged (V.opens desk.now.server.now) V.Reader.remaining V.Writer.contents)
         desk.now.settings.now.mark book.old.place (state S.Store conn.old) book.new.place
         (state S.Store conn.new) }
     ensures adds { HasCleanDisk (state S.Store conn.new) → IsBookKept result
-        → AddsTries (local_clock (K.shows desk.now.clock.now) desk.now.settings.now.zone)
+        → AddsOneTry (local_clock (K.shows desk.now.clock.now) desk.now.settings.now.zone)
         desk.now.settings.now.mark desk.now.settings.now.token
         (giver_of desk.now.settings.now.staff desk.now.staff) (seen_act act.now)
         book.old.place (state S.Store conn.old) book.new.place (state S.Store conn.new) }
     ensures crash { HasCleanDisk (state S.Store conn.new) → Leaves (HasPlace book.old.place (state S.Store conn.old))
-        (IsTillsBook desk.now.settings.now.mark) (IsTriedAfter (IsTold (V.opens desk.now.server.now) V.Reader.remaining V.Writer.contents)
+        (IsTillsBook desk.now.settings.now.mark) (IsTriedOnce (IsExchanged (V.opens desk.now.server.now) V.Reader.remaining V.Writer.contents)
         (local_clock (K.shows desk.now.clock.now) desk.now.settings.now.zone) desk.now.settings.now.token
         (giver_of desk.now.settings.now.staff desk.now.staff) (seen_act act.now)) (state S.Store conn.new) }
 {
@@ -202,7 +202,7 @@ fn give_once<S: Alter, K: WallClock, V: Server, L: Shelf, W: Watch>(
         return Err(TillFault::Waits);
     }
     match send_all(desk, conn, &mut book.place, watch) {
-        Ok(Some(answer)) => Ok(Told { answer }),
+        Ok(Some(answer)) => Ok(EntryReply { answer }),
         Ok(None) => Err(TillFault::OtherBook),
         Err(fault) => Err(fault),
     }
@@ -216,17 +216,17 @@ pub(crate) fn give<S: Alter, K: WallClock, V: Server, L: Shelf, W: Watch>(
     book: &mut Book,
     act: &Act,
     watch: &mut W,
-) -> Result<Told, TillFault>
+) -> Result<EntryReply, TillFault>
     requires { conn.old.in_transaction ≡ false }
     ensures ended { conn.new.in_transaction ≡ false }
     ensures clean { HasCleanDisk (state S.Store conn.new) → HasCleanDisk (state S.Store conn.old) }
     ensures given { HasCleanDisk (state S.Store conn.new) → IfOk result (λ told. Gives
-        (IsTold (V.opens desk.now.server.now) V.Reader.remaining V.Writer.contents) (local_clock (K.shows desk.now.clock.now) desk.now.settings.now.zone)
+        (IsExchanged (V.opens desk.now.server.now) V.Reader.remaining V.Writer.contents) (local_clock (K.shows desk.now.clock.now) desk.now.settings.now.zone)
         desk.now.settings.now.mark desk.now.settings.now.token
         (giver_of desk.now.settings.now.staff desk.now.staff) (seen_act act.now) (seen_answer told.answer)
         book.old.place (state S.Store conn.old) book.new.place (state S.Store conn.new)) }
     ensures keeps { HasCleanDisk (state S.Store conn.new) → IsBookKept result
-        → GoesOn (IsTold (V.opens desk.now.server.now) V.Reader.remaining V.Writer.contents)
+        → GoesOn (IsExchanged (V.opens desk.now.server.now) V.Reader.remaining V.Writer.contents)
         desk.now.settings.now.mark book.old.place (state S.Store conn.old) book.new.place
         (state S.Store conn.new) }
     ensures adds { HasCleanDisk (state S.Store conn.new) → IsBookKept result
@@ -235,7 +235,7 @@ pub(crate) fn give<S: Alter, K: WallClock, V: Server, L: Shelf, W: Watch>(
         (giver_of desk.now.settings.now.staff desk.now.staff) (seen_act act.now)
         book.old.place (state S.Store conn.old) book.new.place (state S.Store conn.new) }
     ensures crash { HasCleanDisk (state S.Store conn.new) → Leaves (HasPlace book.old.place (state S.Store conn.old))
-        (IsTillsBook desk.now.settings.now.mark) (IsTriedAfter (IsTold (V.opens desk.now.server.now) V.Reader.remaining V.Writer.contents)
+        (IsTillsBook desk.now.settings.now.mark) (IsTriedAfter (IsExchanged (V.opens desk.now.server.now) V.Reader.remaining V.Writer.contents)
         (local_clock (K.shows desk.now.clock.now) desk.now.settings.now.zone) desk.now.settings.now.token
         (giver_of desk.now.settings.now.staff desk.now.staff) (seen_act act.now)) (state S.Store conn.new) }
 {
@@ -292,7 +292,7 @@ fn more_of<K: WallClock, V: Server, L: Shelf>(
     desk: &Desk<'_, K, V, L>,
     act: &Act,
     rented: &Rented,
-    told: &Told,
+    told: &EntryReply,
 ) -> Result<String, TillFault>
     ensures { IfOk result (λ end. desk.now.is_json ≡ false → IsEnd (told.now.answer.status == 200) (seen_act act.now)
         (option_map string_bytes rented.now.title) rented.now.due (string_bytes end)) }
@@ -309,7 +309,7 @@ pub(crate) fn tell<K: WallClock, V: Server, L: Shelf>(
     desk: &Desk<'_, K, V, L>,
     act: &Act,
     rented: &Rented,
-    told: &Told,
+    told: &EntryReply,
 ) -> Result<Said, TillFault>
     ensures said { IfOk result (λ said. TellsOutcome desk.now.is_json (seen_act act.now)
         (option_map string_bytes rented.now.title) rented.now.due (seen_answer told.now.answer)

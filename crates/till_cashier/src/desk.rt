@@ -45,6 +45,8 @@ pub struct Desk<'d, K: WallClock, V: Server, L: Shelf> {
     pub line: Line,
     /// Who gives the word, where it isn't whose till it is.
     pub staff: Option<StaffNo>,
+    /// The drawer at which the word is given, or 0 if it is the book's own.
+    pub drawer: u32,
     /// Whether the server's bodies are printed as they are.
     pub is_json: bool,
     /// Whether what can't be undone is done without a question.
@@ -140,6 +142,7 @@ impl<K: WallClock, V: Server, L: Shelf> Desk<'_, K, V, L> {
             sheet: self.sheet,
             line: self.line,
             staff: Some(staff),
+            drawer: self.drawer,
             is_json: self.is_json,
             is_sure: self.is_sure,
             said_day: self.said_day,
@@ -161,6 +164,7 @@ impl<K: WallClock, V: Server, L: Shelf> Desk<'_, K, V, L> {
             sheet: self.sheet,
             line: self.line,
             staff: self.staff,
+            drawer: self.drawer,
             is_json: self.is_json,
             is_sure: self.is_sure,
             said_day: self.said_day,

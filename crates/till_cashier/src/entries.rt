@@ -1,12 +1,15 @@
 //! The entries of a book after a number.
 
-ghost use Rattle.std.specs.Prelude.{◌≡◌, true, false, Some, IfErr, IfOk, IfSome, slice_get};
+ghost use Rattle.std.specs.Prelude.{◌≡◌, ◌+◌, ℕ, List, true, false, Some, IfErr, IfOk, IfSome, length, map, option_map, slice_get};
 ghost use Rattle.sqlite.specs.Held.{state};
 ghost use Rattle.sqlite.specs.State.{HasCleanDisk};
 ghost use Rattle.shop_types.specs.Seen.{seen_command};
+ghost use Rattle.shop_model.specs.Values.{Command as Said};
+ghost use Rattle.till_model.specs.Settled.{accepted_of, or_reply};
 ghost use Rattle.till_book.specs.Ends.{IsReadAfter};
-ghost use Rattle.till_book.specs.Seen.{seen_reply};
-ghost use Rattle.till_book.specs.Steps.{Stays, Tells};
+ghost use Rattle.till_book.specs.Saying.{Says};
+ghost use Rattle.till_book.specs.Seen.{seen_reply, seen_settlement};
+ghost use Rattle.till_book.specs.Steps.{Stays, FindsAtRest};
 ghost use Rattle.till_cashier.specs.Again.{IsBackAt, SaysAt};
 ghost use Rattle.till_cashier.specs.Giving.{IsBack};
 
@@ -15,7 +18,7 @@ use counter_routes::Routes;
 use shop_types::{Command, Refusal};
 use sqlite::{Alter, Connection};
 use std::alloc::Global;
-use till_book::{BookReply, BookRows, read_after};
+use till_book::{BookReply, BookRows, Settlement, read_after};
 use till_client::{NotSealed, command_of};
 use till_shows::refusal_in;
 
@@ -34,6 +37,18 @@ fn is_back(reply: &BookReply) -> bool
     matches!(refusal, Some(Refusal::MomentBack))
 }
 
+/// Returns the first settlement of that number that accepted its entry.
+fn accepted_among(settled: &[Settlement], number: u128) -> Option<&BookReply>
+    ensures { option_map (λ it. seen_reply it.now) result ≡ accepted_of number (map seen_settlement settled.now) }
+{
+    for it in settled {
+        if it.number as u128 == number && it.reply.status == 200 {
+            return Some(&it.reply);
+        }
+    }
+    None
+}
+
 impl EntriesAfter {
     /// Reads the entries after that number. The book stays.
     pub(crate) fn read<S: Alter>(
@@ -47,7 +62,8 @@ impl EntriesAfter {
         ensures stays { HasCleanDisk (state S.Store conn.new)
             → Stays (state S.Store conn.old) (state S.Store conn.new) }
         ensures found { HasCleanDisk (state S.Store conn.new)
-            → IfOk result (λ it. Tells (IsReadAfter number it.rows) (state S.Store conn.old) (state S.Store conn.new)) }
+            → IfOk result (λ it. FindsAtRest (IsReadAfter number it.rows) (state S.Store conn.old) (state S.Store conn.new)) }
+        ensures first { IfOk result (λ it. it.number ≡ number) }
     {
         match read_after(alloc, conn, number) {
             Ok(rows) => Ok(EntriesAfter { number, rows }),
@@ -56,18 +72,22 @@ impl EntriesAfter {
     }
 
     /// Returns how many they are.
-    pub(crate) fn len(&self) -> usize {
+    pub(crate) fn len(&self) -> usize
+        ensures { result ≡ length self.now.rows.entries }
+    {
         self.rows.entries.as_slice().len()
     }
 
     /// Returns the number in the book of the entry at that place.
-    pub(crate) fn number_at(&self, at: usize) -> usize {
-        (self.number as usize).saturating_add(at).saturating_add(1)
+    pub(crate) fn number_at(&self, at: usize) -> u128
+        ensures { result ≡ self.now.number + at + 1 }
+    {
+        self.number as u128 + at as u128 + 1
     }
 
     /// Returns the request of the entry at that place.
     pub(crate) fn request_at(&self, at: usize) -> Option<&[u8]>
-        ensures { IfSome result (λ bytes. slice_get self.now.rows.entries at ≡ Some bytes.now) }
+        ensures { option_map (λ bytes. bytes.now) result ≡ slice_get self.now.rows.entries at }
     {
         Some(self.rows.entries.as_slice().get(at)?.request.as_slice())
     }
@@ -79,7 +99,9 @@ impl EntriesAfter {
         routes: &Routes,
         at: usize,
     ) -> Result<Command, TillFault>
-        ensures { IfOk result (λ command. SaysAt self.now.rows.entries at (seen_command command)) }
+        ensures says { IfOk result (λ command. SaysAt self.now.rows.entries at (seen_command command)) }
+        ensures other { IfErr result (λ fault. fault ≡ TillFault.OtherBook → (command : Said)
+            → ¬ SaysAt self.now.rows.entries at command) }
     {
         let Some(request) = self.request_at(at) else {
             return Err(TillFault::OtherBook);
@@ -103,12 +125,14 @@ impl EntriesAfter {
 
     /// Returns the last reply to the entry at that place: if it was sent once more and had acted, the reply to that,
     /// and else its first.
-    pub(crate) fn reply_at(&self, at: usize) -> Option<&BookReply> {
-        for it in self.rows.settled.as_slice() {
-            if it.number as usize == self.number_at(at) && it.reply.status == 200 {
-                return Some(&it.reply);
-            }
+    pub(crate) fn reply_at(&self, at: usize) -> Option<&BookReply>
+        ensures { option_map (λ it. seen_reply it.now) result
+            ≡ or_reply (accepted_of (self.now.number + at + 1) self.now.rows.settled)
+            (slice_get self.now.rows.replies at) }
+    {
+        match accepted_among(self.rows.settled.as_slice(), self.number_at(at)) {
+            Some(reply) => Some(reply),
+            None => self.rows.replies.as_slice().get(at),
         }
-        self.rows.replies.as_slice().get(at)
     }
 }

@@ -63,7 +63,7 @@ pub enum TillFault {
     TooLarge,
     /// The text can't be sent.
     NotSent,
-    /// The closings beside the book are spoilt, or another book's.
+    /// The closings or the drawers beside the book are spoilt, or another book's.
     Drawer,
     /// A closing can't be written beside the book.
     NotClosed,
@@ -85,6 +85,10 @@ pub enum TillFault {
     OtherDay { clock: i32, said: i32 },
     /// What was said is no date.
     NoDate,
+    /// The branch's sheet has no city of that name.
+    NoCity,
+    /// The branch's sheet has no member of staff of that name.
+    NoStaff,
 }
 
 impl TillFault {
@@ -109,6 +113,8 @@ impl TillFault {
             | TillFault::Undated
             | TillFault::OtherDay { .. }
             | TillFault::NoDate
+            | TillFault::NoCity
+            | TillFault::NoStaff
             | TillFault::Already
             | TillFault::NotKept => 1,
             TillFault::Waits | TillFault::Down => 4,
@@ -161,7 +167,7 @@ impl TillFault {
                 "The settings beside the book are missing or spoilt. Make a new book: init ADDRESS TOKEN --staff N --zone NAME.",
             TillFault::NotKept => "The settings can't keep that address. Write it as HOST:PORT.",
             TillFault::Drawer =>
-                "The closings beside the book are spoilt, or another book's. Move the book's file .drawer away: the drawer counts from its first entry then.",
+                "What is kept of drawers beside the book is spoilt, or another book's. Move the book's files .drawer and .drawers away: its drawer counts from its first entry then.",
             TillFault::NotClosed =>
                 "The closing can't be written beside the book. See that the disk has room, and close the drawer again.",
             TillFault::OtherBook =>
@@ -203,6 +209,10 @@ impl TillFault {
                 "There is no entry yet, or the last one is more than 36 hours ago. Look at a calendar, and say today's date first: today YYYY-MM-DD.",
             TillFault::OtherDay { .. } => "That isn't the date of the till's clock.",
             TillFault::NoDate => "That is no date. Say today's date as today YYYY-MM-DD.",
+            TillFault::NoCity =>
+                "The branch's sheet has no city of that name. Say the city's number.",
+            TillFault::NoStaff =>
+                "The branch's sheet has no member of staff of that name. Say the member's number.",
         }
     }
 }

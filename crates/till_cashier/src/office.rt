@@ -1,6 +1,6 @@
 //! Head office's words at a till, over a running server.
 
-ghost use Rattle.std.specs.Prelude.{◌≡◌, ℕ, List, Err, true, false, map, string_bytes, IfOk};
+ghost use Rattle.std.specs.Prelude.{◌≡◌, ◌<◌, ℕ, List, Err, true, false, map, string_bytes, IfOk};
 ghost use Rattle.sqlite.specs.Held.{state};
 ghost use Rattle.sqlite.specs.State.{HasCleanDisk};
 ghost use Rattle.shop_model.specs.Refusals.{Decision, KeyUsed};
@@ -9,13 +9,14 @@ ghost use Rattle.till_book.specs.Journal.{Journal};
 ghost use Rattle.till_book.specs.Marks.{is_reply_to};
 ghost use Rattle.till_book.specs.Steps.{Rests};
 ghost use Rattle.till_client.specs.Replies.{seen_answer};
-ghost use Rattle.till_work.specs.Told.{IsTold};
+ghost use Rattle.till_work.specs.Exchanged.{IsExchanged};
 ghost use Rattle.till_work.specs.Desk.{Grows, HasPlace, Sends};
 ghost use Rattle.till_work.specs.Stops.{IsAny, IsLater, IsSettledAfter, Leaves};
 ghost use Rattle.till_cashier.specs.Asking.{IsAnswered};
 ghost use Rattle.till_cashier.specs.Faults.{IsBookKept};
-ghost use Rattle.till_cashier.specs.Office.{AddsInTurn, GivesOne, GrowsInTurn, GrowsUsed, HasTurn, SaysUnder, open_key};
+ghost use Rattle.till_cashier.specs.Office.{AddsInTurn, AnswersInTurn, GivesOne, GrowsInTurn, GrowsUsed, HasTurn, SaysUnder, open_key};
 ghost use Rattle.till_cashier.specs.Printing.{SaysReading};
+ghost use Rattle.till_cashier.specs.Showing.{SaysInTurn, SaysTurn};
 ghost use Rattle.till_cashier.specs.Word.{EntersNothing};
 
 use crate::answers::office_said;
@@ -26,7 +27,7 @@ use crate::desk::Desk;
 use crate::fault::TillFault;
 use crate::office_keys::{is_key_used, read_doubtful, read_open_key};
 use crate::said::Said;
-use crate::sendings::{send_all, waited};
+use crate::sendings::{say_waited, send_all, waited};
 use crate::settling::settle_refused;
 use sqlite::{Alter, Connection};
 use till_client::Answer;
@@ -105,10 +106,10 @@ fn answer_earlier<S: Alter, K: WallClock, V: Server, L: Shelf, W: Watch>(
     ensures ended { conn.new.in_transaction ≡ false }
     ensures clean { HasCleanDisk (state S.Store conn.new) → HasCleanDisk (state S.Store conn.old) }
     ensures sends { HasCleanDisk (state S.Store conn.new) → IsBookKept result
-        → Sends (IsTold (V.opens desk.now.server.now) V.Reader.remaining V.Writer.contents) place.old
+        → Sends (IsExchanged (V.opens desk.now.server.now) V.Reader.remaining V.Writer.contents) place.old
         (state S.Store conn.old) place.new (state S.Store conn.new) }
     ensures crash { HasCleanDisk (state S.Store conn.new) → Leaves (HasPlace place.old (state S.Store conn.old)) IsAny
-        (IsLater (IsTold (V.opens desk.now.server.now) V.Reader.remaining V.Writer.contents)) (state S.Store conn.new) }
+        (IsLater (IsExchanged (V.opens desk.now.server.now) V.Reader.remaining V.Writer.contents)) (state S.Store conn.new) }
 {
     if place.replies == place.entries {
         return Ok(());
@@ -134,10 +135,10 @@ fn settle_earlier<S: Alter, K: WallClock, V: Server, L: Shelf>(
     ensures ended { conn.new.in_transaction ≡ false }
     ensures clean { HasCleanDisk (state S.Store conn.new) → HasCleanDisk (state S.Store conn.old) }
     ensures same { HasCleanDisk (state S.Store conn.new) → IsBookKept result
-        → EntersNothing (IsTold (V.opens desk.now.server.now) V.Reader.remaining V.Writer.contents) (state S.Store
+        → EntersNothing (IsExchanged (V.opens desk.now.server.now) V.Reader.remaining V.Writer.contents) (state S.Store
         conn.old) (state S.Store conn.new) }
     ensures crash { HasCleanDisk (state S.Store conn.new) → Leaves (Rests (state S.Store conn.old)) IsAny
-        (IsSettledAfter (IsTold (V.opens desk.now.server.now) V.Reader.remaining V.Writer.contents)) (state S.Store conn.new) }
+        (IsSettledAfter (IsExchanged (V.opens desk.now.server.now) V.Reader.remaining V.Writer.contents)) (state S.Store conn.new) }
 {
     let entries = read_doubtful(desk.alloc, &desk.settings.mark, conn)?;
     if entries.is_empty() {
@@ -167,14 +168,14 @@ fn give_request<S: Alter, K: WallClock, V: Server, L: Shelf, W: Watch>(
     ensures turn { HasCleanDisk (state S.Store conn.new) → IsBookKept result → (mark token : Text) (words : List Text)
         (n : ℕ) → SaysUnder mark token words n request.now → place.old.replies ≡ place.old.entries
         → (journal : Journal) → HasPlace place.old (state S.Store conn.old) journal → n ≡ open_key journal.replies
-        → HasTurn (IsTold (V.opens desk.now.server.now) V.Reader.remaining V.Writer.contents) mark token words
+        → HasTurn (IsExchanged (V.opens desk.now.server.now) V.Reader.remaining V.Writer.contents) mark token words
         place.new (state S.Store conn.new) journal }
     ensures given { HasCleanDisk (state S.Store conn.new) → place.old.replies ≡ place.old.entries
         → IfOk result (λ answer. GivesOne
-        (IsTold (V.opens desk.now.server.now) V.Reader.remaining V.Writer.contents) request.now (seen_answer answer)
+        (IsExchanged (V.opens desk.now.server.now) V.Reader.remaining V.Writer.contents) request.now (seen_answer answer)
         place.old (state S.Store conn.old) place.new (state S.Store conn.new)) }
     ensures crash { HasCleanDisk (state S.Store conn.new) → Leaves (HasPlace place.old (state S.Store conn.old)) IsAny
-        (IsLater (IsTold (V.opens desk.now.server.now) V.Reader.remaining V.Writer.contents)) (state S.Store conn.new) }
+        (IsLater (IsExchanged (V.opens desk.now.server.now) V.Reader.remaining V.Writer.contents)) (state S.Store conn.new) }
 {
     match enter_request(conn, place, request) {
         Ok(()) => {}
@@ -203,16 +204,20 @@ fn give_keyed<S: Alter, K: WallClock, V: Server, L: Shelf, W: Watch>(
     ensures ended { conn.new.in_transaction ≡ false }
     ensures clean { HasCleanDisk (state S.Store conn.new) → HasCleanDisk (state S.Store conn.old) }
     ensures turn { HasCleanDisk (state S.Store conn.new) → IsBookKept result
-        → GrowsInTurn (IsTold (V.opens desk.now.server.now) V.Reader.remaining V.Writer.contents)
+        → GrowsInTurn (IsExchanged (V.opens desk.now.server.now) V.Reader.remaining V.Writer.contents)
         desk.now.settings.now.mark desk.now.settings.now.token (map string_bytes words.now) place.old
         (state S.Store conn.old) place.new (state S.Store conn.new) }
     ensures used { HasCleanDisk (state S.Store conn.new)
         → IfOk result (λ answer. is_reply_to (Decision KeyUsed) (seen_answer answer) ≡ true
-        → GrowsUsed (IsTold (V.opens desk.now.server.now) V.Reader.remaining V.Writer.contents)
+        → GrowsUsed (IsExchanged (V.opens desk.now.server.now) V.Reader.remaining V.Writer.contents)
         desk.now.settings.now.mark desk.now.settings.now.token (map string_bytes words.now) place.old
         (state S.Store conn.old) place.new (state S.Store conn.new)) }
+    ensures answered { HasCleanDisk (state S.Store conn.new) → IfOk result (λ answer. AnswersInTurn
+        (IsExchanged (V.opens desk.now.server.now) V.Reader.remaining V.Writer.contents)
+        desk.now.settings.now.mark desk.now.settings.now.token (map string_bytes words.now) (seen_answer answer)
+        place.old (state S.Store conn.old) place.new (state S.Store conn.new)) }
     ensures crash { HasCleanDisk (state S.Store conn.new) → Leaves (HasPlace place.old (state S.Store conn.old)) IsAny
-        (IsLater (IsTold (V.opens desk.now.server.now) V.Reader.remaining V.Writer.contents)) (state S.Store conn.new) }
+        (IsLater (IsExchanged (V.opens desk.now.server.now) V.Reader.remaining V.Writer.contents)) (state S.Store conn.new) }
 {
     if place.replies != place.entries {
         return Err(TillFault::OtherBook);
@@ -237,11 +242,15 @@ fn give_words<S: Alter, K: WallClock, V: Server, L: Shelf, W: Watch>(
     ensures ended { conn.new.in_transaction ≡ false }
     ensures clean { HasCleanDisk (state S.Store conn.new) → HasCleanDisk (state S.Store conn.old) }
     ensures turn { HasCleanDisk (state S.Store conn.new) → IsBookKept result
-        → GrowsInTurn (IsTold (V.opens desk.now.server.now) V.Reader.remaining V.Writer.contents)
+        → GrowsInTurn (IsExchanged (V.opens desk.now.server.now) V.Reader.remaining V.Writer.contents)
         desk.now.settings.now.mark desk.now.settings.now.token (map string_bytes words.now) place.old
         (state S.Store conn.old) place.new (state S.Store conn.new) }
+    ensures answered { HasCleanDisk (state S.Store conn.new) → IfOk result (λ answer. AnswersInTurn
+        (IsExchanged (V.opens desk.now.server.now) V.Reader.remaining V.Writer.contents)
+        desk.now.settings.now.mark desk.now.settings.now.token (map string_bytes words.now) (seen_answer answer)
+        place.old (state S.Store conn.old) place.new (state S.Store conn.new)) }
     ensures crash { HasCleanDisk (state S.Store conn.new) → Leaves (HasPlace place.old (state S.Store conn.old)) IsAny
-        (IsLater (IsTold (V.opens desk.now.server.now) V.Reader.remaining V.Writer.contents)) (state S.Store conn.new) }
+        (IsLater (IsExchanged (V.opens desk.now.server.now) V.Reader.remaining V.Writer.contents)) (state S.Store conn.new) }
 {
     match settle_earlier(desk, conn, said) {
         Ok(()) => {}
@@ -272,12 +281,12 @@ fn told<K: WallClock, V: Server, L: Shelf>(
     answer: &Answer,
     waited: &Option<Said>,
     more: &Said,
-) -> Result<Said, TillFault> {
+) -> Result<Said, TillFault>
+    ensures { IfOk result (λ said. SaysTurn desk.now.is_json (seen_answer answer.now) (string_bytes said.text)
+        said.status) }
+{
     let mut said = office_said(desk.alloc, desk.is_json, answer)?;
-    if let Some(table) = waited {
-        said.line("What had waited was sent first:")?;
-        said.text.push_str(table.text.as_str())?;
-    }
+    say_waited(waited, &mut said)?;
     said.text.push_str(more.text.as_str())?;
     Ok(said)
 }
@@ -288,7 +297,8 @@ fn fault_told<K: WallClock, V: Server, L: Shelf>(
     fault: TillFault,
     more: &Said,
 ) -> Result<Said, TillFault>
-    ensures { fault ≡ TillFault.Book → result ≡ Err TillFault.Book }
+    ensures book { fault ≡ TillFault.Book → result ≡ Err TillFault.Book }
+    ensures status { IfOk result (λ said. 0 < said.status) }
 {
     if fault == TillFault::Book || more.text.as_str().is_empty() {
         return Err(fault);
@@ -314,11 +324,15 @@ fn give_in_turn<S: Alter, K: WallClock, V: Server, L: Shelf, W: Watch>(
     ensures ended { conn.new.in_transaction ≡ false }
     ensures clean { HasCleanDisk (state S.Store conn.new) → HasCleanDisk (state S.Store conn.old) }
     ensures turn { HasCleanDisk (state S.Store conn.new) → IsBookKept result
-        → GrowsInTurn (IsTold (V.opens desk.now.server.now) V.Reader.remaining V.Writer.contents)
+        → GrowsInTurn (IsExchanged (V.opens desk.now.server.now) V.Reader.remaining V.Writer.contents)
         desk.now.settings.now.mark desk.now.settings.now.token (map string_bytes words.now) place.old
         (state S.Store conn.old) place.new (state S.Store conn.new) }
+    ensures says { HasCleanDisk (state S.Store conn.new) → IfOk result (λ said. SaysInTurn
+        (IsExchanged (V.opens desk.now.server.now) V.Reader.remaining V.Writer.contents)
+        desk.now.settings.now.mark desk.now.settings.now.token desk.now.is_json (map string_bytes words.now)
+        place.old (state S.Store conn.old) place.new (state S.Store conn.new) (string_bytes said.text) said.status) }
     ensures crash { HasCleanDisk (state S.Store conn.new) → Leaves (HasPlace place.old (state S.Store conn.old)) IsAny
-        (IsLater (IsTold (V.opens desk.now.server.now) V.Reader.remaining V.Writer.contents)) (state S.Store conn.new) }
+        (IsLater (IsExchanged (V.opens desk.now.server.now) V.Reader.remaining V.Writer.contents)) (state S.Store conn.new) }
 {
     let before = *place;
     match answer_earlier(desk, conn, place, watch) {
@@ -348,13 +362,18 @@ pub(crate) fn give_office<S: Alter, K: WallClock, V: Server, L: Shelf, W: Watch>
     ensures ended { conn.new.in_transaction ≡ false }
     ensures clean { HasCleanDisk (state S.Store conn.new) → HasCleanDisk (state S.Store conn.old) }
     ensures grows { HasCleanDisk (state S.Store conn.new) → IsBookKept result
-        → Grows (IsTold (V.opens desk.now.server.now) V.Reader.remaining V.Writer.contents) book.old.place (state
+        → Grows (IsExchanged (V.opens desk.now.server.now) V.Reader.remaining V.Writer.contents) book.old.place (state
         S.Store conn.old) book.new.place (state S.Store conn.new) }
     ensures adds { HasCleanDisk (state S.Store conn.new) → IsBookKept result
         → AddsInTurn desk.now.settings.now.mark desk.now.settings.now.token (map string_bytes words.now)
         book.old.place (state S.Store conn.old) book.new.place (state S.Store conn.new) }
+    ensures says { HasCleanDisk (state S.Store conn.new) → IfOk result (λ said. SaysInTurn
+        (IsExchanged (V.opens desk.now.server.now) V.Reader.remaining V.Writer.contents)
+        desk.now.settings.now.mark desk.now.settings.now.token desk.now.is_json (map string_bytes words.now)
+        book.old.place (state S.Store conn.old) book.new.place (state S.Store conn.new) (string_bytes said.text)
+        said.status) }
     ensures crash { HasCleanDisk (state S.Store conn.new) → Leaves (HasPlace book.old.place (state S.Store conn.old)) IsAny
-        (IsLater (IsTold (V.opens desk.now.server.now) V.Reader.remaining V.Writer.contents)) (state S.Store conn.new) }
+        (IsLater (IsExchanged (V.opens desk.now.server.now) V.Reader.remaining V.Writer.contents)) (state S.Store conn.new) }
 {
     match office_bytes(desk, 1, words) {
         Ok(_) => give_in_turn(desk, conn, &mut book.place, words, watch),

@@ -6,7 +6,7 @@ ghost use Rattle.sqlite.specs.Held.{state};
 ghost use Rattle.sqlite.specs.State.{HasCleanDisk};
 ghost use Rattle.till_client.specs.Replies.{seen_answer};
 ghost use Rattle.till_book.specs.Seen.{seen_reply};
-ghost use Rattle.till_book.specs.Steps.{Stays, Tells};
+ghost use Rattle.till_book.specs.Steps.{Stays, FindsAtRest};
 ghost use Rattle.shop_model.specs.Refusals.{Decision, KeyUsed};
 ghost use Rattle.till_book.specs.Marks.{is_reply_to};
 ghost use Rattle.till_cashier.specs.Office.{HasOpenKey, key_after, last_number, shows_used};
@@ -83,7 +83,7 @@ fn last_number<S: Alter>(conn: &mut Connection<S>) -> Result<u32, TillFault>
     ensures clean { HasCleanDisk (state S.Store conn.new) → HasCleanDisk (state S.Store conn.old) }
     ensures stays { HasCleanDisk (state S.Store conn.new) → Stays (state S.Store conn.old) (state S.Store conn.new) }
     ensures last { HasCleanDisk (state S.Store conn.new)
-        → IfOk result (λ n. Tells (λ journal. n ≡ last_number journal) (state S.Store conn.old) (state S.Store conn.new)) }
+        → IfOk result (λ n. FindsAtRest (λ journal. n ≡ last_number journal) (state S.Store conn.old) (state S.Store conn.new)) }
 {
     match last_accepted(conn) {
         Ok(Some(last)) => Ok(last.number),

@@ -10,9 +10,9 @@ use crate::desk::Desk;
 use crate::entries::EntriesAfter;
 use crate::fault::TillFault;
 use crate::lists_of_entries::asked_at;
-use crate::same_act::is_same_act;
 use crate::today::wall_day;
 use shop_types::{Act, Command, StaffNo};
+use till_requests::is_same_act;
 use till_work::Server;
 
 /// An act that was refused so, and who gave it.

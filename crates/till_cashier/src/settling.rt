@@ -5,7 +5,7 @@ ghost use Rattle.sqlite.specs.Held.{state};
 ghost use Rattle.sqlite.specs.State.{HasCleanDisk};
 ghost use Rattle.shop_model.specs.Values.{Text};
 ghost use Rattle.till_book.specs.Steps.{Rests, Stays};
-ghost use Rattle.till_work.specs.Told.{IsTold};
+ghost use Rattle.till_work.specs.Exchanged.{IsExchanged};
 ghost use Rattle.till_work.specs.Desk.{IsBookKept as IsDeskKept};
 ghost use Rattle.till_work.specs.Stops.{IsAny, IsSettledAfter, Leaves};
 ghost use Rattle.till_cashier.specs.Faults.{IsBookKept};
@@ -114,10 +114,10 @@ fn settle_one<S: Alter, K: WallClock, V: Server, L: Shelf>(
     ensures ended { conn.new.in_transaction ≡ false }
     ensures clean { HasCleanDisk (state S.Store conn.new) → HasCleanDisk (state S.Store conn.old) }
     ensures same { HasCleanDisk (state S.Store conn.new) → IsBookKept result
-        → EntersNothing (IsTold (V.opens desk.now.server.now) V.Reader.remaining V.Writer.contents) (state S.Store
+        → EntersNothing (IsExchanged (V.opens desk.now.server.now) V.Reader.remaining V.Writer.contents) (state S.Store
         conn.old) (state S.Store conn.new) }
     ensures crash { HasCleanDisk (state S.Store conn.new) → Leaves (Rests (state S.Store conn.old)) IsAny
-        (IsSettledAfter (IsTold (V.opens desk.now.server.now) V.Reader.remaining V.Writer.contents)) (state S.Store conn.new) }
+        (IsSettledAfter (IsExchanged (V.opens desk.now.server.now) V.Reader.remaining V.Writer.contents)) (state S.Store conn.new) }
 {
     let Ok((mut reader, mut writer)) = desk.server.connect() else {
         return Ok(false);
@@ -160,10 +160,10 @@ pub(crate) fn settle_refused<S: Alter, K: WallClock, V: Server, L: Shelf>(
     ensures ended { conn.new.in_transaction ≡ false }
     ensures clean { HasCleanDisk (state S.Store conn.new) → HasCleanDisk (state S.Store conn.old) }
     ensures same { HasCleanDisk (state S.Store conn.new) → IsBookKept result
-        → EntersNothing (IsTold (V.opens desk.now.server.now) V.Reader.remaining V.Writer.contents) (state S.Store
+        → EntersNothing (IsExchanged (V.opens desk.now.server.now) V.Reader.remaining V.Writer.contents) (state S.Store
         conn.old) (state S.Store conn.new) }
     ensures crash { HasCleanDisk (state S.Store conn.new) → Leaves (Rests (state S.Store conn.old)) IsAny
-        (IsSettledAfter (IsTold (V.opens desk.now.server.now) V.Reader.remaining V.Writer.contents)) (state S.Store conn.new) }
+        (IsSettledAfter (IsExchanged (V.opens desk.now.server.now) V.Reader.remaining V.Writer.contents)) (state S.Store conn.new) }
 {
     'entries: for entry in entries {
         if entry.number == 0 || is_over(desk, end) {
@@ -189,15 +189,15 @@ fn make_sure_until<S: Alter, K: WallClock, V: Server, L: Shelf>(
     ensures ended { conn.new.in_transaction ≡ false }
     ensures clean { HasCleanDisk (state S.Store conn.new) → HasCleanDisk (state S.Store conn.old) }
     ensures same { HasCleanDisk (state S.Store conn.new) → IsBookKept result
-        → EntersNothing (IsTold (V.opens desk.now.server.now) V.Reader.remaining V.Writer.contents) (state S.Store
+        → EntersNothing (IsExchanged (V.opens desk.now.server.now) V.Reader.remaining V.Writer.contents) (state S.Store
         conn.old) (state S.Store conn.new) }
     ensures keeps { HasCleanDisk (state S.Store conn.new) → IsBookKept result → (mark : Text)
-        → KeepsATillsBook (IsTold (V.opens desk.now.server.now) V.Reader.remaining V.Writer.contents) mark (state
+        → KeepsATillsBook (IsExchanged (V.opens desk.now.server.now) V.Reader.remaining V.Writer.contents) mark (state
         S.Store conn.old) (state S.Store conn.new) }
     ensures crash { HasCleanDisk (state S.Store conn.new) → Leaves (Rests (state S.Store conn.old)) IsAny
-        (IsSettledAfter (IsTold (V.opens desk.now.server.now) V.Reader.remaining V.Writer.contents)) (state S.Store conn.new) }
+        (IsSettledAfter (IsExchanged (V.opens desk.now.server.now) V.Reader.remaining V.Writer.contents)) (state S.Store conn.new) }
     ensures crash_keeps { HasCleanDisk (state S.Store conn.new) → (mark : Text)
-        → LeavesATillsBook (IsTold (V.opens desk.now.server.now) V.Reader.remaining V.Writer.contents) mark (state
+        → LeavesATillsBook (IsExchanged (V.opens desk.now.server.now) V.Reader.remaining V.Writer.contents) mark (state
         S.Store conn.old) (state S.Store conn.new) }
 {
     if desk.settings.staff.is_none() || desk.line.is_down() {
@@ -224,15 +224,15 @@ pub fn make_sure<S: Alter, K: WallClock, V: Server, L: Shelf>(
     ensures ended { conn.new.in_transaction ≡ false }
     ensures clean { HasCleanDisk (state S.Store conn.new) → HasCleanDisk (state S.Store conn.old) }
     ensures same { HasCleanDisk (state S.Store conn.new) → IsBookKept result
-        → EntersNothing (IsTold (V.opens desk.now.server.now) V.Reader.remaining V.Writer.contents) (state S.Store
+        → EntersNothing (IsExchanged (V.opens desk.now.server.now) V.Reader.remaining V.Writer.contents) (state S.Store
         conn.old) (state S.Store conn.new) }
     ensures keeps { HasCleanDisk (state S.Store conn.new) → IsBookKept result → (mark : Text)
-        → KeepsATillsBook (IsTold (V.opens desk.now.server.now) V.Reader.remaining V.Writer.contents) mark (state
+        → KeepsATillsBook (IsExchanged (V.opens desk.now.server.now) V.Reader.remaining V.Writer.contents) mark (state
         S.Store conn.old) (state S.Store conn.new) }
     ensures crash { HasCleanDisk (state S.Store conn.new) → Leaves (Rests (state S.Store conn.old)) IsAny
-        (IsSettledAfter (IsTold (V.opens desk.now.server.now) V.Reader.remaining V.Writer.contents)) (state S.Store conn.new) }
+        (IsSettledAfter (IsExchanged (V.opens desk.now.server.now) V.Reader.remaining V.Writer.contents)) (state S.Store conn.new) }
     ensures crash_keeps { HasCleanDisk (state S.Store conn.new) → (mark : Text)
-        → LeavesATillsBook (IsTold (V.opens desk.now.server.now) V.Reader.remaining V.Writer.contents) mark (state
+        → LeavesATillsBook (IsExchanged (V.opens desk.now.server.now) V.Reader.remaining V.Writer.contents) mark (state
         S.Store conn.old) (state S.Store conn.new) }
 {
     make_sure_until(desk, conn, None, said)
@@ -249,15 +249,15 @@ pub fn make_sure_soon<S: Alter, K: WallClock, V: Server, L: Shelf>(
     ensures ended { conn.new.in_transaction ≡ false }
     ensures clean { HasCleanDisk (state S.Store conn.new) → HasCleanDisk (state S.Store conn.old) }
     ensures same { HasCleanDisk (state S.Store conn.new) → IsBookKept result
-        → EntersNothing (IsTold (V.opens desk.now.server.now) V.Reader.remaining V.Writer.contents) (state S.Store
+        → EntersNothing (IsExchanged (V.opens desk.now.server.now) V.Reader.remaining V.Writer.contents) (state S.Store
         conn.old) (state S.Store conn.new) }
     ensures keeps { HasCleanDisk (state S.Store conn.new) → IsBookKept result → (mark : Text)
-        → KeepsATillsBook (IsTold (V.opens desk.now.server.now) V.Reader.remaining V.Writer.contents) mark (state
+        → KeepsATillsBook (IsExchanged (V.opens desk.now.server.now) V.Reader.remaining V.Writer.contents) mark (state
         S.Store conn.old) (state S.Store conn.new) }
     ensures crash { HasCleanDisk (state S.Store conn.new) → Leaves (Rests (state S.Store conn.old)) IsAny
-        (IsSettledAfter (IsTold (V.opens desk.now.server.now) V.Reader.remaining V.Writer.contents)) (state S.Store conn.new) }
+        (IsSettledAfter (IsExchanged (V.opens desk.now.server.now) V.Reader.remaining V.Writer.contents)) (state S.Store conn.new) }
     ensures crash_keeps { HasCleanDisk (state S.Store conn.new) → (mark : Text)
-        → LeavesATillsBook (IsTold (V.opens desk.now.server.now) V.Reader.remaining V.Writer.contents) mark (state
+        → LeavesATillsBook (IsExchanged (V.opens desk.now.server.now) V.Reader.remaining V.Writer.contents) mark (state
         S.Store conn.old) (state S.Store conn.new) }
 {
     match desk.clock.monotonic() {

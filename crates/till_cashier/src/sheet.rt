@@ -1,8 +1,8 @@
 //! The branch's sheet beside the book: which copy is which film, and rentals from before the book began.
 
-ghost use Rattle.std.specs.Prelude.{◌≡◌, Some, None, IfOk, IfSome, option_map, string_bytes};
+ghost use Rattle.std.specs.Prelude.{◌≡◌, Some, None, IfOk, IfSome, codes, option_map, string_bytes};
 ghost use Rattle.shop_types.specs.Seen.{seen_act};
-ghost use Rattle.till_requests.specs.SheetRows.{row_in_sheet};
+ghost use Rattle.till_requests.specs.SheetRows.{number_in_sheet, row_in_sheet};
 ghost use Rattle.till_requests.specs.SheetSeen.{seen_row};
 ghost use Rattle.till_cashier.specs.Returns.{IsOnSheet};
 ghost use Rattle.till_cashier.specs.Saying.{IsTitleIn, IsTitleOf, title_text, due_text, weekday_text};
@@ -12,11 +12,11 @@ use crate::clock::WallClock;
 use crate::desk::Desk;
 use crate::fault::TillFault;
 use serde_json::Value;
-use shop_types::{Act, Ask, BranchNo, CopyNo, CustomerNo, FilmNo, Moment};
+use shop_types::{Act, Ask, BranchNo, CityNo, CopyNo, CustomerNo, FilmNo, Moment, StaffNo};
 use std::alloc::Global;
 use till_book::HeldRental;
 use till_client::Answer;
-use till_requests::{SheetRow, find_row, look_request, moment_at};
+use till_requests::{SheetRow, find_number, find_row, look_request, moment_at};
 use till_shows::{day_words, holder};
 use till_work::Server;
 
@@ -71,6 +71,28 @@ pub(crate) fn name_on_sheet<'s>(
         }
     }
     None
+}
+
+/// Returns the number that a sheet has for the city of that name. Upper and lower case are the same. Fails with `NoCity` if
+/// the sheet has none.
+pub fn city_on_sheet(alloc: Global, sheet: &[u8], name: &str) -> Result<CityNo, TillFault>
+    ensures { IfOk result (λ city. number_in_sheet (codes "city") name.now sheet.now ≡ Some (Some city)) }
+{
+    match find_number(alloc, sheet, "city", name) {
+        Ok(Some(city)) => Ok(city),
+        Ok(None) | Err(_) => Err(TillFault::NoCity),
+    }
+}
+
+/// Returns the number that a sheet has for the member of staff of that name. Upper and lower case are the same. Fails with
+/// `NoStaff` if the sheet has none.
+pub fn staff_on_sheet(alloc: Global, sheet: &[u8], name: &str) -> Result<StaffNo, TillFault>
+    ensures { IfOk result (λ staff. number_in_sheet (codes "staff") name.now sheet.now ≡ Some (Some staff)) }
+{
+    match find_number(alloc, sheet, "staff", name) {
+        Ok(Some(staff)) => Ok(staff),
+        Ok(None) | Err(_) => Err(TillFault::NoStaff),
+    }
 }
 
 /// Returns the copy's row of the sheet, if the sheet has one.

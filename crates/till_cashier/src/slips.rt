@@ -1,9 +1,10 @@
 //! Slips: what a customer gets on paper after an accepted rent, return or payment. A slip is a courtesy. The book is the
 //! truth, and the word `last` shows it.
 
-ghost use Rattle.std.specs.Prelude.{◌≡◌};
+ghost use Rattle.std.specs.Prelude.{◌≡◌, IfOk, IfSome, string_bytes};
 ghost use Rattle.shop_types.specs.Seen.{seen_act};
 ghost use Rattle.till_cashier.specs.Following.{debtor_of};
+ghost use Rattle.till_cashier.specs.Showing.{IsLastSlip, SaysSlip, slip_or_none, unread_text};
 
 use crate::caches::Shelf;
 use crate::clock::WallClock;
@@ -152,7 +153,9 @@ pub(crate) fn write_slip<K: WallClock, V: Server, L: Shelf>(
 /// Returns the last whole slip that was written: an empty text if there is none, and none if the slips can't be read.
 fn last_written<K: WallClock, V: Server, L: Shelf>(
     desk: &Desk<'_, K, V, L>,
-) -> Result<Option<String>, TillFault> {
+) -> Result<Option<String>, TillFault>
+    ensures { IfOk result (λ it. IfSome it (λ slip. IsLastSlip (string_bytes slip))) }
+{
     let Some(bytes) = desk.shelf.whole(desk.alloc, NAME) else {
         return Ok(None);
     };
@@ -162,18 +165,39 @@ fn last_written<K: WallClock, V: Server, L: Shelf>(
     }
 }
 
+/// Says a slip, or that there is none.
+fn slip_said(alloc: Global, slip: &str) -> Result<Said, TillFault>
+    ensures said { IfOk result (λ said. string_bytes said.text ≡ slip_or_none slip.now) }
+    ensures status { IfOk result (λ said. said.status ≡ 0) }
+{
+    let mut said = Said::done(alloc);
+    if slip.is_empty() {
+        said.line("no slip was written yet")?;
+    } else {
+        said.line(slip)?;
+    }
+    Ok(said)
+}
+
+/// Says that the slips can't be read.
+fn unread_said(alloc: Global) -> Result<Said, TillFault>
+    ensures said { IfOk result (λ said. string_bytes said.text ≡ unread_text) }
+    ensures status { IfOk result (λ said. said.status ≡ 3) }
+{
+    let mut said = Said::done(alloc);
+    said.line("The slips can't be read. What was done is in the book: last.")?;
+    said.status = 3;
+    Ok(said)
+}
+
 /// Says the last whole slip that was written, or that there is none.
 pub(crate) fn say_slip<K: WallClock, V: Server, L: Shelf>(
     desk: &Desk<'_, K, V, L>,
-) -> Result<Said, TillFault> {
-    let mut said = Said::done(desk.alloc);
+) -> Result<Said, TillFault>
+    ensures { IfOk result (λ said. SaysSlip (string_bytes said.text) said.status) }
+{
     match last_written(desk)? {
-        Some(slip) if slip.as_str().is_empty() => said.line("no slip was written yet")?,
-        Some(slip) => said.line(slip.as_str())?,
-        None => {
-            said.line("The slips can't be read. What was done is in the book: last.")?;
-            said.status = 3;
-        }
+        Some(slip) => slip_said(desk.alloc, slip.as_str()),
+        None => unread_said(desk.alloc),
     }
-    Ok(said)
 }

@@ -3,7 +3,7 @@
 ghost use Rattle.std.specs.Prelude.{◌≡◌, false, None, IfOk, IsSome};
 ghost use Rattle.sqlite.specs.State.{HasCleanDisk};
 ghost use Rattle.sqlite.specs.Files.{file_state};
-ghost use Rattle.till_work.specs.Told.{IsTold};
+ghost use Rattle.till_work.specs.Exchanged.{IsExchanged};
 ghost use Rattle.till_cashier.specs.Clock.{local_clock};
 ghost use Rattle.till_cashier.specs.Faults.{giver_of};
 ghost use Rattle.till_cashier.specs.Stops.{OpensATillsBook, OpensABook, OpensWord};
@@ -32,13 +32,13 @@ pub fn do_word_over_a_stop<D: Crash + Drop, K: WallClock, V: Server, L: Shelf, W
     ensures ended { IfOk result (λ again. again.in_transaction ≡ false) }
     ensures honest { IfOk result (λ again. HasCleanDisk (file_state again) → HasCleanDisk (file_state conn)) }
     ensures keeps { IfOk result (λ again. HasCleanDisk (file_state again) → IsSome desk.now.settings.now.staff
-        → OpensATillsBook (IsTold (V.opens desk.now.server.now) V.Reader.remaining V.Writer.contents)
+        → OpensATillsBook (IsExchanged (V.opens desk.now.server.now) V.Reader.remaining V.Writer.contents)
         desk.now.settings.now.mark (file_state conn) (file_state again)) }
     ensures office { IfOk result (λ again. HasCleanDisk (file_state again) → desk.now.settings.now.staff ≡ None
-        → OpensABook (IsTold (V.opens desk.now.server.now) V.Reader.remaining V.Writer.contents)
+        → OpensABook (IsExchanged (V.opens desk.now.server.now) V.Reader.remaining V.Writer.contents)
         (file_state conn) (file_state again)) }
     ensures enters { IfOk result (λ again. HasCleanDisk (file_state again)
-        → OpensWord (IsTold (V.opens desk.now.server.now) V.Reader.remaining V.Writer.contents)
+        → OpensWord (IsExchanged (V.opens desk.now.server.now) V.Reader.remaining V.Writer.contents)
         (local_clock (K.shows desk.now.clock.now) desk.now.settings.now.zone) desk.now.settings.now.mark desk.now.settings.now.token
         (giver_of desk.now.settings.now.staff desk.now.staff) desk.now.sheet.now act (file_state conn) (file_state again)) }
 {

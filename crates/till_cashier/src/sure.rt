@@ -25,7 +25,7 @@ pub(crate) fn wants_yes(act: &TillAct) -> bool
         TillAct::Waiting | TillAct::Last(_) | TillAct::Help | TillAct::Init(_) => false,
         TillAct::Import { .. } | TillAct::Prompt | TillAct::Zone(_) | TillAct::Day(_) => false,
         TillAct::Today(_) | TillAct::Again { .. } => false,
-        TillAct::Slip => false,
+        TillAct::Slip | TillAct::JoinIn(_) => false,
     }
 }
 
@@ -158,6 +158,6 @@ pub fn question<K: WallClock, V: Server, L: Shelf>(
         TillAct::Waiting | TillAct::Last(_) | TillAct::Help | TillAct::Init(_) => Ok(None),
         TillAct::Import { .. } | TillAct::Prompt | TillAct::Zone(_) | TillAct::Day(_) => Ok(None),
         TillAct::Today(_) | TillAct::Again { .. } => Ok(None),
-        TillAct::Slip => Ok(None),
+        TillAct::Slip | TillAct::JoinIn(_) => Ok(None),
     }
 }

@@ -1,6 +1,6 @@
 //! Today's date. A person says it before a book's first entry, and before one that is more than 36 hours after the last.
 
-ghost use Rattle.std.specs.Prelude.{◌≡◌, true, pos, IfOk, OnOk, Some};
+ghost use Rattle.std.specs.Prelude.{◌≡◌, true, pos, IfOk, OnOk, Some, string_bytes};
 ghost use Rattle.shop_model.specs.Calendar.{day_of, seconds_of};
 ghost use Rattle.till_requests.specs.Zones.{offset_of};
 ghost use Rattle.till_cashier.specs.Clock.{local_clock};
@@ -10,6 +10,7 @@ use crate::book::Book;
 use crate::caches::Shelf;
 use crate::clock::WallClock;
 use crate::desk::Desk;
+use crate::drawers::note_drawer;
 use crate::fault::TillFault;
 use crate::said::Said;
 use shop_types::Moment;
@@ -49,7 +50,7 @@ pub(crate) fn enters_acts(act: &TillAct) -> bool
         TillAct::Office(_) | TillAct::Send | TillAct::Look(_) | TillAct::Waiting => false,
         TillAct::Last(_) | TillAct::Help | TillAct::Init(_) | TillAct::Import { .. } => false,
         TillAct::Prompt | TillAct::Zone(_) | TillAct::Day(_) | TillAct::Today(_) => false,
-        TillAct::Slip => false,
+        TillAct::Slip | TillAct::JoinIn(_) => false,
     }
 }
 
@@ -133,7 +134,7 @@ pub(crate) fn dated<K: WallClock, V: Server, L: Shelf>(
     Err(TillFault::Undated)
 }
 
-/// Tests that a word may be entered, if it enters commands.
+/// Tests that a word may be entered, if it enters commands, and notes whose drawer its entries are.
 pub(crate) fn dated_if<K: WallClock, V: Server, L: Shelf>(
     desk: &Desk<'_, K, V, L>,
     book: &Book,
@@ -144,7 +145,11 @@ pub(crate) fn dated_if<K: WallClock, V: Server, L: Shelf>(
         (offset_of desk.now.settings.now.zone) desk.now.said_day
         (spec.last_moment book.now.place.entries book.now.last)) }
 {
-    if enters { dated(desk, book) } else { Ok(()) }
+    if !enters {
+        return Ok(());
+    }
+    dated(desk, book)?;
+    note_drawer(desk.alloc, desk.shelf, desk.drawer, book.place.entries)
 }
 
 /// The day of a date that was said, and a moment of the clock on the wall on that day.
@@ -194,9 +199,11 @@ pub(crate) fn day_said<K: WallClock, V: Server, L: Shelf>(
     Ok(said)
 }
 
-/// Returns the name of a day of the week.
-fn weekday(day: i32) -> &'static str {
-    match day.rem_euclid(7) {
+/// Returns the name of the moment's day of the week.
+fn weekday(at: Moment) -> &'static str
+    ensures { result.now ≡ spec.weekday_text at }
+{
+    match at.seconds() / 86_400 % 7 {
         0 => "Thursday",
         1 => "Friday",
         2 => "Saturday",
@@ -207,16 +214,27 @@ fn weekday(day: i32) -> &'static str {
     }
 }
 
+/// Returns the line that says a date with its day of the week.
+fn today_line(alloc: Global, at: Moment) -> Result<String, AllocError>
+    ensures { IfOk result (λ s. string_bytes s ≡ spec.today_text at) }
+{
+    let (weekday, words) = (weekday(at), day_words(alloc, at)?);
+    format!(in alloc; "Today is {weekday} {words}.")
+}
+
 /// Accepts the date as today's, puts it beside the book, and says it with its day of the week.
 pub(crate) fn today<K: WallClock, V: Server, L: Shelf>(
     desk: &Desk<'_, K, V, L>,
     date: &str,
-) -> Result<Said, TillFault> {
-    let alloc = desk.alloc;
+) -> Result<Said, TillFault>
+    ensures says { IfOk result (λ said. spec.SaysToday
+        (local_clock (K.shows desk.now.clock.now) desk.now.settings.now.zone) desk.now.wall
+        (offset_of desk.now.settings.now.zone) (string_bytes said.text)) }
+    ensures status { IfOk result (λ said. said.status ≡ 0) }
+{
     let Accepted { wall, .. } = accept_day(desk, date)?;
-    let (weekday, words) = (weekday(wall.day()), day_words(alloc, wall)?);
-    let mut said = Said::done(alloc);
-    let line = format!(in alloc; "Today is {weekday} {words}.")?;
+    let mut said = Said::done(desk.alloc);
+    let line = today_line(desk.alloc, wall)?;
     said.line(line.as_str())?;
     Ok(said)
 }

@@ -7,7 +7,7 @@ ghost use Rattle.sqlite.specs.State.{HasCleanDisk};
 ghost use Rattle.shop_types.specs.Seen.{seen_act};
 ghost use Rattle.till_book.specs.Steps.{Stays};
 ghost use Rattle.till_client.specs.Replies.{seen_answer};
-ghost use Rattle.till_work.specs.Told.{IsTold};
+ghost use Rattle.till_work.specs.Exchanged.{IsExchanged};
 ghost use Rattle.till_work.specs.Entering.{IsTillsBook};
 ghost use Rattle.till_work.specs.Desk.{GoesOn, Grows, HasPlace};
 ghost use Rattle.till_work.specs.Stops.{Leaves};
@@ -28,8 +28,9 @@ ghost use Rattle.till_cashier.specs.Word.{
 };
 ghost use Rattle.till_cashier.specs.Doing.{IsPlanOf, IsCarriedOut, DoesWord, RepeatsPlan, RepeatsWord, office_planned};
 ghost use Rattle.till_cashier.specs.Saying.{IsTitleIn};
-ghost use Rattle.till_cashier.specs.Following.{AddsBalance, AddsDebt, AddsRest, AddsUnwritten, AddsWaited, SaysAct, debtor_of};
+ghost use Rattle.till_cashier.specs.Following.{AddsBalance, AddsDebt, AddsRest, AddsUnwritten, SaysAct, debtor_of};
 ghost use Rattle.till_cashier.specs.Printing.{GivesSaying, SaysPlan, SaysWord};
+ghost use Rattle.till_cashier.specs.Showing.{ShowsPlan, ShowsWord};
 ghost use Rattle.till_cashier.specs.Stops.{IsTriedAfter, LeavesPlan, LeavesWord, LeavesATillsBook, LeavesABook};
 ghost use Rattle.till_cashier.specs.Sure as sure;
 ghost use Rattle.till_cashier.specs.Today as dates;
@@ -38,7 +39,7 @@ use crate::again::again;
 use crate::book::Book;
 use crate::caches::Shelf;
 use crate::clock::WallClock;
-use crate::commands::{Told, give, tell};
+use crate::commands::{EntryReply, give, tell};
 use crate::day::day;
 use crate::desk::Desk;
 use crate::fault::TillFault;
@@ -48,7 +49,7 @@ use crate::looks::look;
 use crate::office::{give_office, read_office};
 use crate::returns::{balance_of, customer_of, owed_line, rental_at};
 use crate::said::Said;
-use crate::sendings::{send, waited};
+use crate::sendings::{say_waited, send, waited};
 use crate::sheet::{Rented, about_rent};
 use crate::slips::{debtor_of, say_slip, slip_of, write_slip};
 use crate::sure::{is_answered, wants_yes};
@@ -298,7 +299,7 @@ fn plan_of<S: Alter, K: WallClock, V: Server, L: Shelf>(
         TillAct::Last(count) => Ok(Plan::Last(count)),
         TillAct::Day(asked) => day_plan(desk, asked),
         TillAct::Help | TillAct::Init(_) | TillAct::Import { .. } => Ok(Plan::Usage),
-        TillAct::Zone(_) | TillAct::Prompt => Ok(Plan::Usage),
+        TillAct::Zone(_) | TillAct::Prompt | TillAct::JoinIn(_) => Ok(Plan::Usage),
         TillAct::Today(date) => Ok(Plan::Today(date)),
         TillAct::Again { late } => again_plan(desk, book, late),
         TillAct::Slip => slip_plan(desk),
@@ -354,7 +355,7 @@ fn follow_up<K: WallClock, V: Server, L: Shelf>(
     customer: &Option<CustomerNo>,
     last: &Option<Moment>,
     rented: &Rented,
-    told: &Told,
+    told: &EntryReply,
     said: &mut Said,
 ) -> Result<bool, TillFault>
     ensures said { OnOk result (AddsDebt
@@ -382,7 +383,7 @@ fn about_accepted<K: WallClock, V: Server, L: Shelf>(
     desk: &Desk<'_, K, V, L>,
     act: &Act,
     last: &Option<Moment>,
-    told: &Told,
+    told: &EntryReply,
 ) -> Rented
     ensures { IsTitleIn desk.now.sheet.now (seen_act act.now) (option_map string_bytes result.title) }
 {
@@ -390,19 +391,6 @@ fn about_accepted<K: WallClock, V: Server, L: Shelf>(
         return Rented::nothing();
     }
     about_rent(desk, act, last)
-}
-
-/// Says the outcomes of the entries that had waited, if there were some.
-fn say_waited(waited: &Option<Said>, said: &mut Said) -> Result<(), TillFault>
-    ensures said { OnOk result (AddsWaited (string_bytes said.old.text) (string_bytes said.new.text)) }
-    ensures status { said.new.status ≡ said.old.status }
-{
-    let Some(table) = waited else {
-        return Ok(());
-    };
-    said.line("What had waited was sent first:")?;
-    said.text.push_str(table.text.as_str())?;
-    Ok(())
 }
 
 /// Says that the slip wasn't written, if it wasn't.
@@ -440,7 +428,7 @@ fn told<K: WallClock, V: Server, L: Shelf>(
     act: &Act,
     customer: Option<CustomerNo>,
     last: Option<Moment>,
-    told: &Told,
+    told: &EntryReply,
     waited: Option<Said>,
 ) -> Result<Said, TillFault>
     ensures { IfOk result (λ said. SaysAct
@@ -456,7 +444,7 @@ fn told<K: WallClock, V: Server, L: Shelf>(
 }
 
 /// Gives a command, and says its outcome.
-fn give_and_tell<S: Alter, K: WallClock, V: Server, L: Shelf, W: Watch>(
+fn give_and_say<S: Alter, K: WallClock, V: Server, L: Shelf, W: Watch>(
     desk: &Desk<'_, K, V, L>,
     conn: &mut Connection<S>,
     book: &mut Book,
@@ -468,12 +456,12 @@ fn give_and_tell<S: Alter, K: WallClock, V: Server, L: Shelf, W: Watch>(
     ensures ended { conn.new.in_transaction ≡ false }
     ensures clean { HasCleanDisk (state S.Store conn.new) → HasCleanDisk (state S.Store conn.old) }
     ensures given { HasCleanDisk (state S.Store conn.new)
-        → OnOk result (GivesAct (IsTold (V.opens desk.now.server.now) V.Reader.remaining V.Writer.contents)
+        → OnOk result (GivesAct (IsExchanged (V.opens desk.now.server.now) V.Reader.remaining V.Writer.contents)
         (local_clock (K.shows desk.now.clock.now) desk.now.settings.now.zone) desk.now.settings.now.mark desk.now.settings.now.token
         (giver_of desk.now.settings.now.staff desk.now.staff) (seen_act act.now) book.old.place
         (state S.Store conn.old) book.new.place (state S.Store conn.new)) }
     ensures keeps { HasCleanDisk (state S.Store conn.new) → IsBookKept result
-        → GoesOn (IsTold (V.opens desk.now.server.now) V.Reader.remaining V.Writer.contents)
+        → GoesOn (IsExchanged (V.opens desk.now.server.now) V.Reader.remaining V.Writer.contents)
         desk.now.settings.now.mark book.old.place (state S.Store conn.old) book.new.place
         (state S.Store conn.new) }
     ensures adds { HasCleanDisk (state S.Store conn.new) → IsBookKept result
@@ -482,14 +470,14 @@ fn give_and_tell<S: Alter, K: WallClock, V: Server, L: Shelf, W: Watch>(
         (giver_of desk.now.settings.now.staff desk.now.staff) (seen_act act.now)
         book.old.place (state S.Store conn.old) book.new.place (state S.Store conn.new) }
     ensures says { HasCleanDisk (state S.Store conn.new) → IfOk result (λ said. GivesSaying
-        (IsTold (V.opens desk.now.server.now) V.Reader.remaining V.Writer.contents)
+        (IsExchanged (V.opens desk.now.server.now) V.Reader.remaining V.Writer.contents)
         (IsAnswered (V.opens desk.now.server.now) V.Reader.remaining V.Writer.contents)
         (local_clock (K.shows desk.now.clock.now) desk.now.settings.now.zone) desk.now.settings.now.mark desk.now.settings.now.token
         (giver_of desk.now.settings.now.staff desk.now.staff) desk.now.is_json desk.now.sheet.now
         (seen_act act.now) customer book.old.place (state S.Store conn.old) book.new.place (state S.Store conn.new)
         (string_bytes said.text) said.status) }
     ensures crash { HasCleanDisk (state S.Store conn.new) → Leaves (HasPlace book.old.place (state S.Store conn.old))
-        (IsTillsBook desk.now.settings.now.mark) (IsTriedAfter (IsTold (V.opens desk.now.server.now) V.Reader.remaining V.Writer.contents)
+        (IsTillsBook desk.now.settings.now.mark) (IsTriedAfter (IsExchanged (V.opens desk.now.server.now) V.Reader.remaining V.Writer.contents)
         (local_clock (K.shows desk.now.clock.now) desk.now.settings.now.zone) desk.now.settings.now.token
         (giver_of desk.now.settings.now.staff desk.now.staff) (seen_act act.now)) (state S.Store conn.new) }
 {
@@ -524,18 +512,18 @@ fn carry_out<S: Alter, K: WallClock, V: Server, L: Shelf, W: Watch>(
     ensures ended { conn.new.in_transaction ≡ false }
     ensures clean { HasCleanDisk (state S.Store conn.new) → HasCleanDisk (state S.Store conn.old) }
     ensures done { HasCleanDisk (state S.Store conn.new)
-        → OnOk result (IsCarriedOut (IsTold (V.opens desk.now.server.now) V.Reader.remaining V.Writer.contents)
+        → OnOk result (IsCarriedOut (IsExchanged (V.opens desk.now.server.now) V.Reader.remaining V.Writer.contents)
         (local_clock (K.shows desk.now.clock.now) desk.now.settings.now.zone) desk.now.settings.now.mark desk.now.settings.now.token
         (giver_of desk.now.settings.now.staff desk.now.staff) plan book.old.place
         (state S.Store conn.old) book.new.place (state S.Store conn.new)) }
     ensures keeps { HasCleanDisk (state S.Store conn.new) → IsBookKept result → IsSome desk.now.settings.now.staff
         → IsPlannedFor desk.now.settings.now.staff plan
-        → GoesOn (IsTold (V.opens desk.now.server.now) V.Reader.remaining V.Writer.contents)
+        → GoesOn (IsExchanged (V.opens desk.now.server.now) V.Reader.remaining V.Writer.contents)
         desk.now.settings.now.mark book.old.place (state S.Store conn.old) book.new.place
         (state S.Store conn.new) }
     ensures grows { HasCleanDisk (state S.Store conn.new) → IsBookKept result → desk.now.settings.now.staff ≡ None
         → IsPlannedFor desk.now.settings.now.staff plan
-        → Grows (IsTold (V.opens desk.now.server.now) V.Reader.remaining V.Writer.contents) book.old.place (state
+        → Grows (IsExchanged (V.opens desk.now.server.now) V.Reader.remaining V.Writer.contents) book.old.place (state
         S.Store conn.old) book.new.place (state S.Store conn.new) }
     ensures enters { HasCleanDisk (state S.Store conn.new) → IsBookKept result
         → EntersPlan (local_clock (K.shows desk.now.clock.now) desk.now.settings.now.zone)
@@ -543,25 +531,31 @@ fn carry_out<S: Alter, K: WallClock, V: Server, L: Shelf, W: Watch>(
         (giver_of desk.now.settings.now.staff desk.now.staff) plan book.old.place
         (state S.Store conn.old) book.new.place (state S.Store conn.new) }
     ensures again { HasCleanDisk (state S.Store conn.new) → IfOk result (λ said. said.status < 3
-        → RepeatsPlan (IsTold (V.opens desk.now.server.now) V.Reader.remaining V.Writer.contents)
+        → RepeatsPlan (IsExchanged (V.opens desk.now.server.now) V.Reader.remaining V.Writer.contents)
         (local_clock (K.shows desk.now.clock.now) desk.now.settings.now.zone) desk.now.settings.now.mark desk.now.settings.now.token
         desk.now.settings.now.staff plan book.old.place (state S.Store conn.old) book.new.place
         (state S.Store conn.new)) }
     ensures says { HasCleanDisk (state S.Store conn.new) → IfOk result (λ said. SaysPlan
-        (IsTold (V.opens desk.now.server.now) V.Reader.remaining V.Writer.contents)
+        (IsExchanged (V.opens desk.now.server.now) V.Reader.remaining V.Writer.contents)
         (IsAnswered (V.opens desk.now.server.now) V.Reader.remaining V.Writer.contents)
         (local_clock (K.shows desk.now.clock.now) desk.now.settings.now.zone) desk.now.settings.now.mark desk.now.settings.now.token
         (giver_of desk.now.settings.now.staff desk.now.staff) desk.now.is_json desk.now.sheet.now book.old.last
         plan book.old.place (state S.Store conn.old) book.new.place (state S.Store conn.new)
         (string_bytes said.text) said.status) }
+    ensures shows { HasCleanDisk (state S.Store conn.new) → IfOk result (λ said. ShowsPlan
+        (IsExchanged (V.opens desk.now.server.now) V.Reader.remaining V.Writer.contents)
+        (local_clock (K.shows desk.now.clock.now) desk.now.settings.now.zone)
+        desk.now.wall (offset_of desk.now.settings.now.zone) desk.now.settings.now.staff desk.now.settings.now.mark
+        desk.now.settings.now.token desk.now.is_json plan book.old.place (state S.Store conn.old) book.new.place
+        (state S.Store conn.new) (string_bytes said.text) said.status) }
     ensures crash { HasCleanDisk (state S.Store conn.new)
-        → LeavesPlan (IsTold (V.opens desk.now.server.now) V.Reader.remaining V.Writer.contents)
+        → LeavesPlan (IsExchanged (V.opens desk.now.server.now) V.Reader.remaining V.Writer.contents)
         (local_clock (K.shows desk.now.clock.now) desk.now.settings.now.zone) desk.now.settings.now.mark desk.now.settings.now.token
         (giver_of desk.now.settings.now.staff desk.now.staff) plan (HasPlace book.old.place (state S.Store conn.old))
         (state S.Store conn.new) }
 {
     match plan {
-        Plan::Give(act, customer) => give_and_tell(desk, conn, book, &act, customer, watch),
+        Plan::Give(act, customer) => give_and_say(desk, conn, book, &act, customer, watch),
         Plan::Office(words) => give_office(desk, conn, book, words.as_slice(), watch),
         Plan::Send => send(desk, conn, &mut book.place, watch),
         Plan::Look(it) => look(desk, conn, book, it),
@@ -605,15 +599,15 @@ pub fn do_word<S: Alter, K: WallClock, V: Server, L: Shelf, W: Watch>(
     ensures ended { conn.new.in_transaction ≡ false }
     ensures clean { HasCleanDisk (state S.Store conn.new) → HasCleanDisk (state S.Store conn.old) }
     ensures done { HasCleanDisk (state S.Store conn.new)
-        → OnOk result (DoesWord (IsTold (V.opens desk.now.server.now) V.Reader.remaining V.Writer.contents)
+        → OnOk result (DoesWord (IsExchanged (V.opens desk.now.server.now) V.Reader.remaining V.Writer.contents)
         (local_clock (K.shows desk.now.clock.now) desk.now.settings.now.zone) desk.now.settings.now.mark desk.now.settings.now.token
         (giver_of desk.now.settings.now.staff desk.now.staff) desk.now.sheet.now act (state S.Store conn.old)
         (state S.Store conn.new)) }
     ensures keeps { HasCleanDisk (state S.Store conn.new) → IsBookKept result → IsSome desk.now.settings.now.staff
-        → KeepsATillsBook (IsTold (V.opens desk.now.server.now) V.Reader.remaining V.Writer.contents)
+        → KeepsATillsBook (IsExchanged (V.opens desk.now.server.now) V.Reader.remaining V.Writer.contents)
         desk.now.settings.now.mark (state S.Store conn.old) (state S.Store conn.new) }
     ensures office { HasCleanDisk (state S.Store conn.new) → IsBookKept result → desk.now.settings.now.staff ≡ None
-        → KeepsABook (IsTold (V.opens desk.now.server.now) V.Reader.remaining V.Writer.contents) (state S.Store
+        → KeepsABook (IsExchanged (V.opens desk.now.server.now) V.Reader.remaining V.Writer.contents) (state S.Store
         conn.old) (state S.Store conn.new) }
     ensures own { OnOk result (IsFor desk.now.settings.now.staff act) }
     ensures others { ¬ IsFor desk.now.settings.now.staff act → IfErr result (λ fault. IsReading fault
@@ -645,23 +639,29 @@ pub fn do_word<S: Alter, K: WallClock, V: Server, L: Shelf, W: Watch>(
         (giver_of desk.now.settings.now.staff desk.now.staff) desk.now.sheet.now act
         (state S.Store conn.old) (state S.Store conn.new) }
     ensures again { HasCleanDisk (state S.Store conn.new) → IfOk result (λ said. said.status < 3
-        → RepeatsWord (IsTold (V.opens desk.now.server.now) V.Reader.remaining V.Writer.contents)
+        → RepeatsWord (IsExchanged (V.opens desk.now.server.now) V.Reader.remaining V.Writer.contents)
         (local_clock (K.shows desk.now.clock.now) desk.now.settings.now.zone) desk.now.settings.now.mark desk.now.settings.now.token
         desk.now.settings.now.staff act (state S.Store conn.old) (state S.Store conn.new)) }
     ensures says { HasCleanDisk (state S.Store conn.new) → IfOk result (λ said. SaysWord
-        (IsTold (V.opens desk.now.server.now) V.Reader.remaining V.Writer.contents)
+        (IsExchanged (V.opens desk.now.server.now) V.Reader.remaining V.Writer.contents)
         (IsAnswered (V.opens desk.now.server.now) V.Reader.remaining V.Writer.contents)
         (local_clock (K.shows desk.now.clock.now) desk.now.settings.now.zone) desk.now.settings.now.mark desk.now.settings.now.token
         (giver_of desk.now.settings.now.staff desk.now.staff) desk.now.is_json desk.now.sheet.now
         act (state S.Store conn.old) (state S.Store conn.new) (string_bytes said.text) said.status) }
+    ensures shows { HasCleanDisk (state S.Store conn.new) → IfOk result (λ said. ShowsWord
+        (IsExchanged (V.opens desk.now.server.now) V.Reader.remaining V.Writer.contents)
+        (local_clock (K.shows desk.now.clock.now) desk.now.settings.now.zone)
+        desk.now.wall (offset_of desk.now.settings.now.zone) desk.now.settings.now.staff desk.now.settings.now.mark
+        desk.now.settings.now.token desk.now.is_json act (state S.Store conn.old) (state S.Store conn.new)
+        (string_bytes said.text) said.status) }
     ensures crash { HasCleanDisk (state S.Store conn.new) → IsSome desk.now.settings.now.staff
-        → LeavesATillsBook (IsTold (V.opens desk.now.server.now) V.Reader.remaining V.Writer.contents)
+        → LeavesATillsBook (IsExchanged (V.opens desk.now.server.now) V.Reader.remaining V.Writer.contents)
         desk.now.settings.now.mark (state S.Store conn.old) (state S.Store conn.new) }
     ensures crash_office { HasCleanDisk (state S.Store conn.new) → desk.now.settings.now.staff ≡ None
-        → LeavesABook (IsTold (V.opens desk.now.server.now) V.Reader.remaining V.Writer.contents) (state S.Store
+        → LeavesABook (IsExchanged (V.opens desk.now.server.now) V.Reader.remaining V.Writer.contents) (state S.Store
         conn.old) (state S.Store conn.new) }
     ensures crash_enters { HasCleanDisk (state S.Store conn.new)
-        → LeavesWord (IsTold (V.opens desk.now.server.now) V.Reader.remaining V.Writer.contents)
+        → LeavesWord (IsExchanged (V.opens desk.now.server.now) V.Reader.remaining V.Writer.contents)
         (local_clock (K.shows desk.now.clock.now) desk.now.settings.now.zone) desk.now.settings.now.mark desk.now.settings.now.token
         (giver_of desk.now.settings.now.staff desk.now.staff) desk.now.sheet.now act (state S.Store conn.old)
         (state S.Store conn.new) }

@@ -5,7 +5,7 @@ use Rattle.till_cashier.proofs.GoingOn.{kept_ok, kept_as}
 use Rattle.till_cashier.specs.Clock.{local_clock}
 use Rattle.till_cashier.specs.Faults.{giver_of}
 use Rattle.till_cashier.proofs.Giving.{try_goes, tries_one}
-use Rattle.till_cashier.proofs.Adding.{adds_nothing, adds_try, try_sent}
+use Rattle.till_cashier.proofs.Adding.{one_nothing, one_try, one_sent}
 use Rattle.till_cashier.proofs.Stops.{try_then_leaves}
 use Rattle.till_cashier.proofs.commands.give_once.Goals as goal
 
@@ -63,21 +63,21 @@ returns-then-is_down-clause-keeps g c clean kept =
 
 pub returns-in-Err-clause-adds : goal.returns-in-Err-clause-adds
 returns-in-Err-clause-adds g c clean kept =
-    adds_nothing (local_clock (g.K.WallClock.shows c.args.desk.now.clock.now) c.args.desk.now.settings.now.zone) c.args.desk.now.settings.now.mark
+    one_nothing (local_clock (g.K.WallClock.shows c.args.desk.now.clock.now) c.args.desk.now.settings.now.zone) c.args.desk.now.settings.now.mark
     c.args.desk.now.settings.now.token (giver_of c.args.desk.now.settings.now.staff c.args.desk.now.staff) (seen_act c.args.act.now)
     c.args.book.now.place c.enter_act.new.book.place (state g.S.Store c.args.conn.now) (state g.S.Store c.enter_act.new.conn)
     (c.in-Err.ensures.stays clean (kept_as c.in-Err.fault kept))
 
 pub returns-then-is_down-clause-adds : goal.returns-then-is_down-clause-adds
 returns-then-is_down-clause-adds g c clean kept =
-    adds_try (local_clock (g.K.WallClock.shows c.args.desk.now.clock.now) c.args.desk.now.settings.now.zone) c.args.desk.now.settings.now.mark
+    one_try (local_clock (g.K.WallClock.shows c.args.desk.now.clock.now) c.args.desk.now.settings.now.zone) c.args.desk.now.settings.now.mark
     c.args.desk.now.settings.now.token (giver_of c.args.desk.now.settings.now.staff c.args.desk.now.staff) (seen_act c.args.act.now)
     c.args.book.now.place c.enter_act.new.book.place (state g.S.Store c.args.conn.now) (state g.S.Store c.enter_act.new.conn)
     (c.in-Ok.ensures.entered clean)
 
 pub returns-in-Ok-Some-clause-adds : goal.returns-in-Ok-Some-clause-adds
 returns-in-Ok-Some-clause-adds g c clean kept =
-    try_sent (local_clock (g.K.WallClock.shows c.args.desk.now.clock.now) c.args.desk.now.settings.now.zone) c.args.desk.now.settings.now.mark
+    one_sent (local_clock (g.K.WallClock.shows c.args.desk.now.clock.now) c.args.desk.now.settings.now.zone) c.args.desk.now.settings.now.mark
     c.args.desk.now.settings.now.token (giver_of c.args.desk.now.settings.now.staff c.args.desk.now.staff) (seen_act c.args.act.now) _
     c.args.book.now.place c.enter_act.new.book.place c.send_all.new.place (state g.S.Store c.args.conn.now)
     (state g.S.Store c.enter_act.new.conn) (state g.S.Store c.send_all.new.conn)
@@ -85,7 +85,7 @@ returns-in-Ok-Some-clause-adds g c clean kept =
 
 pub returns-in-Ok-None-clause-adds : goal.returns-in-Ok-None-clause-adds
 returns-in-Ok-None-clause-adds g c clean kept =
-    try_sent (local_clock (g.K.WallClock.shows c.args.desk.now.clock.now) c.args.desk.now.settings.now.zone) c.args.desk.now.settings.now.mark
+    one_sent (local_clock (g.K.WallClock.shows c.args.desk.now.clock.now) c.args.desk.now.settings.now.zone) c.args.desk.now.settings.now.mark
     c.args.desk.now.settings.now.token (giver_of c.args.desk.now.settings.now.staff c.args.desk.now.staff) (seen_act c.args.act.now) _
     c.args.book.now.place c.enter_act.new.book.place c.send_all.new.place (state g.S.Store c.args.conn.now)
     (state g.S.Store c.enter_act.new.conn) (state g.S.Store c.send_all.new.conn)
@@ -93,7 +93,7 @@ returns-in-Ok-None-clause-adds g c clean kept =
 
 pub returns-in-Err-send_all-clause-adds : goal.returns-in-Err-send_all-clause-adds
 returns-in-Err-send_all-clause-adds g c clean kept =
-    try_sent (local_clock (g.K.WallClock.shows c.args.desk.now.clock.now) c.args.desk.now.settings.now.zone) c.args.desk.now.settings.now.mark
+    one_sent (local_clock (g.K.WallClock.shows c.args.desk.now.clock.now) c.args.desk.now.settings.now.zone) c.args.desk.now.settings.now.mark
     c.args.desk.now.settings.now.token (giver_of c.args.desk.now.settings.now.staff c.args.desk.now.staff) (seen_act c.args.act.now) _
     c.args.book.now.place c.enter_act.new.book.place c.send_all.new.place (state g.S.Store c.args.conn.now)
     (state g.S.Store c.enter_act.new.conn) (state g.S.Store c.send_all.new.conn)

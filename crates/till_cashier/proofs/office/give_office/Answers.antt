@@ -3,6 +3,8 @@ use Rattle.std.specs.Prelude.{string_bytes}
 use Rattle.sqlite.specs.Held.{state}
 use Rattle.till_cashier.proofs.InTurn.{turn_grows, turn_adds}
 use Rattle.till_cashier.proofs.OfficeStops.{office_stays}
+use Rattle.std.proofs.Common.{inl, arith}
+use Rattle.till_cashier.proofs.Printing.{if_ok_so}
 use Rattle.till_cashier.proofs.office.give_office.Goals as goal
 
 pub returns-in-Ok-clause-grows : goal.returns-in-Ok-clause-grows
@@ -21,3 +23,9 @@ returns-in-Ok-clause-crash g c clean =
 
 pub returns-clause-crash : goal.returns-clause-crash
 returns-clause-crash g c clean = office_stays _ c.args.book.now.place (state g.S.Store c.args.conn.now)
+
+pub returns-in-Ok-clause-says : goal.returns-in-Ok-clause-says
+returns-in-Ok-clause-says g c clean = c.give_in_turn.ensures.says clean
+
+pub returns-clause-says : goal.returns-clause-says
+returns-clause-says g c clean = if_ok_so c.unsaid.result _ _ c.unsaid.ensures (λ said two. inl (omega (arith, two)))

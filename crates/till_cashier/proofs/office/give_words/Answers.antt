@@ -5,6 +5,9 @@ use Rattle.till_cashier.proofs.GoingOn.{kept_ok, kept_as}
 use Rattle.till_cashier.proofs.InTurn.{settles_none, none_turn, turn_none, turn_after, used_turn}
 use Rattle.till_cashier.proofs.InTurn.{turn_grows}
 use Rattle.till_cashier.proofs.OfficeStops.{none_grows, grown_then, settling_left}
+use Rattle.till_client.specs.Replies.{seen_answer}
+use Rattle.till_cashier.proofs.InTurn.{answered_after, answered_none, used_answered}
+use Rattle.till_cashier.proofs.Printing.{if_ok_so}
 use Rattle.till_cashier.proofs.office.give_words.Goals as goal
 
 pub returns-in-Err-clause-turn : goal.returns-in-Err-clause-turn
@@ -151,3 +154,54 @@ returns-clause-crash g c clean =
     (settles_none _ c.give_keyed.new.place (state g.S.Store c.give_keyed.new.conn)
     (state g.S.Store c.settle_earlier-2.new.conn) (c.in-Ok-settle_earlier.ensures.same settled (kept_ok _))))
     (c.give_keyed-2.ensures.crash clean)))
+
+-- ---- the last reply
+
+pub returns-then-not-is_key_used-clause-answered : goal.returns-then-not-is_key_used-clause-answered
+returns-then-not-is_key_used-clause-answered g c clean =
+    answered_after _ c.args.desk.now.settings.now.mark c.args.desk.now.settings.now.token
+    (map string_bytes c.args.words.now) (seen_answer c.in-Ok-give_keyed.answer)
+    c.args.place.now c.args.place.now c.give_keyed.new.place
+    (state g.S.Store c.args.conn.now) (state g.S.Store c.settle_earlier.new.conn) (state g.S.Store c.give_keyed.new.conn)
+    (settles_none _ c.args.place.now (state g.S.Store c.args.conn.now) (state g.S.Store c.settle_earlier.new.conn)
+    (c.in-Ok.ensures.same (c.give_keyed.ensures.clean clean) (kept_ok _)))
+    (c.in-Ok-give_keyed.ensures.answered clean)
+
+pub returns-then-as_str-before-clause-answered : goal.returns-then-as_str-before-clause-answered
+returns-then-as_str-before-clause-answered g c clean =
+    let given = c.settle_earlier-2.ensures.clean clean in
+    answered_none _ c.args.desk.now.settings.now.mark c.args.desk.now.settings.now.token
+    (map string_bytes c.args.words.now) (seen_answer c.in-Ok-give_keyed.answer)
+    c.args.place.now c.give_keyed.new.place c.give_keyed.new.place
+    (state g.S.Store c.args.conn.now) (state g.S.Store c.give_keyed.new.conn) (state g.S.Store c.settle_earlier-2.new.conn)
+    (answered_after _ c.args.desk.now.settings.now.mark c.args.desk.now.settings.now.token
+    (map string_bytes c.args.words.now) (seen_answer c.in-Ok-give_keyed.answer)
+    c.args.place.now c.args.place.now c.give_keyed.new.place
+    (state g.S.Store c.args.conn.now) (state g.S.Store c.settle_earlier.new.conn) (state g.S.Store c.give_keyed.new.conn)
+    (settles_none _ c.args.place.now (state g.S.Store c.args.conn.now) (state g.S.Store c.settle_earlier.new.conn)
+    (c.in-Ok.ensures.same (c.give_keyed.ensures.clean given) (kept_ok _)))
+    (c.in-Ok-give_keyed.ensures.answered given))
+    (settles_none _ c.give_keyed.new.place (state g.S.Store c.give_keyed.new.conn) (state g.S.Store c.settle_earlier-2.new.conn)
+    (c.in-Ok-settle_earlier.ensures.same clean (kept_ok _)))
+
+pub returns-clause-answered : goal.returns-clause-answered
+returns-clause-answered g c clean =
+    let settled = c.give_keyed-2.ensures.clean clean in
+    let given = c.settle_earlier-2.ensures.clean settled in
+    if_ok_so c.give_keyed-2.result _ _ (c.give_keyed-2.ensures.answered clean)
+    (λ answer answered.
+    answered_after _ c.args.desk.now.settings.now.mark c.args.desk.now.settings.now.token (map string_bytes c.args.words.now) (seen_answer answer)
+    c.args.place.now c.args.place.now c.give_keyed-2.new.place
+    (state g.S.Store c.args.conn.now) (state g.S.Store c.settle_earlier.new.conn) (state g.S.Store c.give_keyed-2.new.conn)
+    (settles_none _ c.args.place.now (state g.S.Store c.args.conn.now) (state g.S.Store c.settle_earlier.new.conn)
+    (c.in-Ok.ensures.same (c.give_keyed.ensures.clean given) (kept_ok _)))
+    (used_answered _ c.args.desk.now.settings.now.mark c.args.desk.now.settings.now.token (map string_bytes c.args.words.now) (seen_answer answer)
+    c.args.place.now c.give_keyed.new.place c.give_keyed-2.new.place
+    (state g.S.Store c.settle_earlier.new.conn) (state g.S.Store c.give_keyed.new.conn) (state g.S.Store c.give_keyed-2.new.conn)
+    (c.in-Ok-give_keyed.ensures.used given (sym c.is_key_used.ensures ∙ c.if-not-is_key_used.false))
+    (answered_after _ c.args.desk.now.settings.now.mark c.args.desk.now.settings.now.token (map string_bytes c.args.words.now) (seen_answer answer)
+    c.give_keyed.new.place c.give_keyed.new.place c.give_keyed-2.new.place
+    (state g.S.Store c.give_keyed.new.conn) (state g.S.Store c.settle_earlier-2.new.conn) (state g.S.Store c.give_keyed-2.new.conn)
+    (settles_none _ c.give_keyed.new.place (state g.S.Store c.give_keyed.new.conn) (state g.S.Store c.settle_earlier-2.new.conn)
+    (c.in-Ok-settle_earlier.ensures.same settled (kept_ok _)))
+    answered)))

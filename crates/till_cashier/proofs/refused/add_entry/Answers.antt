@@ -17,7 +17,7 @@ returns g c all =
       at = c.args.at;
       command = seen_command c.in_ok-command.command;
       back = c.requires;
-      says = c.in_ok-command.ensures;
+      says = c.in_ok-command.ensures.says;
       staff = refl;
       act = refl;
     })))

@@ -4,6 +4,11 @@ use Rattle.till_cashier.proofs.GoingOn.{kept_ok, kept_as, goes_stays, grows_stay
 use Rattle.till_cashier.proofs.Doing.{sends_all, all_stays}
 use Rattle.till_cashier.proofs.Adding.{sends_no_entry, no_entry_stays}
 use Rattle.till_work.proofs.Stops.{sends_leaves}
+use Rattle.std.specs.Prelude.{string_bytes}
+use Rattle.till_requests.specs.Zones.{offset_of}
+use Rattle.till_work.specs.Exchanged.{IsExchanged}
+use Rattle.till_cashier.proofs.Printing.{if_ok_so}
+use Rattle.till_cashier.proofs.Showing.{sent_shown}
 use Rattle.till_cashier.proofs.sendings.send.Goals as goal
 
 pub returns-in-Err-clause-keeps : goal.returns-in-Err-clause-keeps
@@ -56,3 +61,15 @@ returns-clause-crash g c clean =
     (state g.S.Store c.send_all.new.conn) (state g.S.Store c.entries_after.new.conn)
     (c.in-Ok.ensures.sends (c.entries_after.ensures.clean clean) (kept_ok _))
     (rests_stays c.send_all.new.place (state g.S.Store c.send_all.new.conn) (state g.S.Store c.entries_after.new.conn) (c.entries_after.ensures.stays clean)))
+
+pub returns-clause-says : goal.returns-clause-says
+returns-clause-says g c clean =
+    let looked = c.entries_after.ensures.clean clean in
+    if_ok_so c.entries_after.result _ _ (c.entries_after.ensures.says clean)
+    (λ said shows. sent_shown (IsExchanged (g.V.Server.opens c.args.desk.now.server.now) g.V.Reader.Read.remaining g.V.Writer.Write.contents)
+    c.args.desk.now.wall (offset_of c.args.desk.now.settings.now.zone) c.args.desk.now.settings.now.staff
+    c.args.place.now c.send_all.new.place (state g.S.Store c.args.conn.now) (state g.S.Store c.send_all.new.conn)
+    (state g.S.Store c.entries_after.new.conn) (string_bytes said.text)
+    (sends_all _ c.args.place.now c.send_all.new.place (state g.S.Store c.args.conn.now) (state g.S.Store c.send_all.new.conn)
+    (c.in-Ok.ensures.sends looked (kept_ok _)) c.in-Ok.ensures.all)
+    (c.entries_after.ensures.stays clean) shows)

@@ -9,7 +9,7 @@ use Rattle.till_cashier.specs.Clock.{local_clock}
 use Rattle.till_cashier.specs.Faults.{giver_of}
 use Rattle.till_cashier.proofs.Adding.{stays_word, word_enters}
 use Rattle.till_cashier.proofs.Marks.{own_book, other_book}
-use Rattle.till_work.specs.Told.{IsTold}
+use Rattle.till_work.specs.Exchanged.{IsExchanged}
 use Rattle.till_requests.specs.Zones.{offset_of}
 use Rattle.till_cashier.specs.Clock.{local_clock}
 use Rattle.till_cashier.proofs.Dates.{dated_book}
@@ -18,6 +18,7 @@ use Rattle.till_cashier.specs.Asking.{IsAnswered}
 use Rattle.till_cashier.proofs.Printing.{if_ok_so, word_says}
 use Rattle.till_work.specs.Desk.{HasPlace}
 use Rattle.till_cashier.proofs.Stops.{read_leaves, plan_at_till, plan_at_office, stays_at_till, stays_at_any, stays_left, word_left}
+use Rattle.till_cashier.proofs.Showing.{word_shows}
 use Rattle.till_cashier.proofs.word.do_word.Goals as goal
 
 pub returns-in_err-book-clause-keeps : goal.returns-in_err-book-clause-keeps
@@ -322,7 +323,7 @@ returns-clause-again g c clean =
     let planned = c.carry_out.ensures.clean clean in
     let read = c.plan_of.ensures.clean planned in
     if_ok_then c.carry_out.result _ (c.carry_out.ensures.again clean)
-    (word_repeated (IsTold (g.V.Server.opens c.args.desk.now.server.now) g.V.Reader.Read.remaining g.V.Writer.Write.contents)
+    (word_repeated (IsExchanged (g.V.Server.opens c.args.desk.now.server.now) g.V.Reader.Read.remaining g.V.Writer.Write.contents)
     (local_clock (g.K.WallClock.shows c.args.desk.now.clock.now) c.args.desk.now.settings.now.zone)
     c.args.desk.now.settings.now.mark c.args.desk.now.settings.now.token c.args.desk.now.settings.now.staff
     c.args.desk.now.sheet.now c.args.act c.in_ok-plan.plan c.in_ok-book.book.place c.carry_out.new.book.place
@@ -338,7 +339,7 @@ returns-clause-says g c clean =
     let planned = c.carry_out.ensures.clean clean in
     let read = c.plan_of.ensures.clean planned in
     if_ok_so c.carry_out.result _ _ (c.carry_out.ensures.says clean)
-    (λ said. word_says (IsTold (g.V.Server.opens c.args.desk.now.server.now) g.V.Reader.Read.remaining g.V.Writer.Write.contents)
+    (λ said. word_says (IsExchanged (g.V.Server.opens c.args.desk.now.server.now) g.V.Reader.Read.remaining g.V.Writer.Write.contents)
     (IsAnswered (g.V.Server.opens c.args.desk.now.server.now) g.V.Reader.Read.remaining g.V.Writer.Write.contents)
     (local_clock (g.K.WallClock.shows c.args.desk.now.clock.now) c.args.desk.now.settings.now.zone)
     c.args.desk.now.settings.now.mark c.args.desk.now.settings.now.token (giver_of c.args.desk.now.settings.now.staff c.args.desk.now.staff)
@@ -362,7 +363,7 @@ returns-in_err-book-clause-crash_office g c clean office =
 
 pub returns-in_err-book-clause-crash_enters : goal.returns-in_err-book-clause-crash_enters
 returns-in_err-book-clause-crash_enters g c clean =
-    stays_left (IsTold (g.V.Server.opens c.args.desk.now.server.now) g.V.Reader.Read.remaining g.V.Writer.Write.contents)
+    stays_left (IsExchanged (g.V.Server.opens c.args.desk.now.server.now) g.V.Reader.Read.remaining g.V.Writer.Write.contents)
     (local_clock (g.K.WallClock.shows c.args.desk.now.clock.now) c.args.desk.now.settings.now.zone)
     c.args.desk.now.settings.now.mark c.args.desk.now.settings.now.token (giver_of c.args.desk.now.settings.now.staff c.args.desk.now.staff)
     c.args.desk.now.sheet.now c.args.act (state g.S.Store c.args.conn.now) (state g.S.Store c.read.new.conn)
@@ -384,7 +385,7 @@ returns-in_err-plan-clause-crash_office g c clean office =
 
 pub returns-in_err-plan-clause-crash_enters : goal.returns-in_err-plan-clause-crash_enters
 returns-in_err-plan-clause-crash_enters g c clean =
-    stays_left (IsTold (g.V.Server.opens c.args.desk.now.server.now) g.V.Reader.Read.remaining g.V.Writer.Write.contents)
+    stays_left (IsExchanged (g.V.Server.opens c.args.desk.now.server.now) g.V.Reader.Read.remaining g.V.Writer.Write.contents)
     (local_clock (g.K.WallClock.shows c.args.desk.now.clock.now) c.args.desk.now.settings.now.zone)
     c.args.desk.now.settings.now.mark c.args.desk.now.settings.now.token (giver_of c.args.desk.now.settings.now.staff c.args.desk.now.staff)
     c.args.desk.now.sheet.now c.args.act (state g.S.Store c.args.conn.now) (state g.S.Store c.plan_of.new.conn)
@@ -408,7 +409,7 @@ returns-in_err-dated_if-clause-crash_office g c clean office =
 
 pub returns-in_err-dated_if-clause-crash_enters : goal.returns-in_err-dated_if-clause-crash_enters
 returns-in_err-dated_if-clause-crash_enters g c clean =
-    stays_left (IsTold (g.V.Server.opens c.args.desk.now.server.now) g.V.Reader.Read.remaining g.V.Writer.Write.contents)
+    stays_left (IsExchanged (g.V.Server.opens c.args.desk.now.server.now) g.V.Reader.Read.remaining g.V.Writer.Write.contents)
     (local_clock (g.K.WallClock.shows c.args.desk.now.clock.now) c.args.desk.now.settings.now.zone)
     c.args.desk.now.settings.now.mark c.args.desk.now.settings.now.token (giver_of c.args.desk.now.settings.now.staff c.args.desk.now.staff)
     c.args.desk.now.sheet.now c.args.act (state g.S.Store c.args.conn.now) (state g.S.Store c.plan_of.new.conn)
@@ -432,7 +433,7 @@ returns-in_err-is_answered-clause-crash_office g c clean office =
 
 pub returns-in_err-is_answered-clause-crash_enters : goal.returns-in_err-is_answered-clause-crash_enters
 returns-in_err-is_answered-clause-crash_enters g c clean =
-    stays_left (IsTold (g.V.Server.opens c.args.desk.now.server.now) g.V.Reader.Read.remaining g.V.Writer.Write.contents)
+    stays_left (IsExchanged (g.V.Server.opens c.args.desk.now.server.now) g.V.Reader.Read.remaining g.V.Writer.Write.contents)
     (local_clock (g.K.WallClock.shows c.args.desk.now.clock.now) c.args.desk.now.settings.now.zone)
     c.args.desk.now.settings.now.mark c.args.desk.now.settings.now.token (giver_of c.args.desk.now.settings.now.staff c.args.desk.now.staff)
     c.args.desk.now.sheet.now c.args.act (state g.S.Store c.args.conn.now) (state g.S.Store c.plan_of.new.conn)
@@ -448,7 +449,7 @@ returns-clause-crash g c clean branch =
     (state g.S.Store c.carry_out.new.conn) (c.in_ok-book.ensures.place read)
     (stays_both (state g.S.Store c.args.conn.now) (state g.S.Store c.read.new.conn)
     (state g.S.Store c.plan_of.new.conn) (c.read.ensures.stays read) (c.plan_of.ensures.stays planned)) _ _
-    (plan_at_till (IsTold (g.V.Server.opens c.args.desk.now.server.now) g.V.Reader.Read.remaining g.V.Writer.Write.contents)
+    (plan_at_till (IsExchanged (g.V.Server.opens c.args.desk.now.server.now) g.V.Reader.Read.remaining g.V.Writer.Write.contents)
     (local_clock (g.K.WallClock.shows c.args.desk.now.clock.now) c.args.desk.now.settings.now.zone)
     c.args.desk.now.settings.now.mark c.args.desk.now.settings.now.token (giver_of c.args.desk.now.settings.now.staff c.args.desk.now.staff)
     c.args.desk.now.settings.now.staff c.in_ok-plan.plan
@@ -463,7 +464,7 @@ returns-clause-crash_office g c clean office =
     (state g.S.Store c.carry_out.new.conn) (c.in_ok-book.ensures.place read)
     (stays_both (state g.S.Store c.args.conn.now) (state g.S.Store c.read.new.conn)
     (state g.S.Store c.plan_of.new.conn) (c.read.ensures.stays read) (c.plan_of.ensures.stays planned)) _ _
-    (plan_at_office (IsTold (g.V.Server.opens c.args.desk.now.server.now) g.V.Reader.Read.remaining g.V.Writer.Write.contents)
+    (plan_at_office (IsExchanged (g.V.Server.opens c.args.desk.now.server.now) g.V.Reader.Read.remaining g.V.Writer.Write.contents)
     (local_clock (g.K.WallClock.shows c.args.desk.now.clock.now) c.args.desk.now.settings.now.zone)
     c.args.desk.now.settings.now.mark c.args.desk.now.settings.now.token (giver_of c.args.desk.now.settings.now.staff c.args.desk.now.staff)
     c.args.desk.now.settings.now.staff c.in_ok-plan.plan
@@ -474,10 +475,28 @@ pub returns-clause-crash_enters : goal.returns-clause-crash_enters
 returns-clause-crash_enters g c clean =
     let planned = c.carry_out.ensures.clean clean in
     let read = c.plan_of.ensures.clean planned in
-    word_left (IsTold (g.V.Server.opens c.args.desk.now.server.now) g.V.Reader.Read.remaining g.V.Writer.Write.contents)
+    word_left (IsExchanged (g.V.Server.opens c.args.desk.now.server.now) g.V.Reader.Read.remaining g.V.Writer.Write.contents)
     (local_clock (g.K.WallClock.shows c.args.desk.now.clock.now) c.args.desk.now.settings.now.zone)
     c.args.desk.now.settings.now.mark c.args.desk.now.settings.now.token (giver_of c.args.desk.now.settings.now.staff c.args.desk.now.staff)
     c.args.desk.now.sheet.now c.args.act c.in_ok-plan.plan c.in_ok-book.book.place (state g.S.Store c.args.conn.now)
     (state g.S.Store c.read.new.conn) (state g.S.Store c.plan_of.new.conn) (state g.S.Store c.carry_out.new.conn)
     (c.in_ok-book.ensures.place read) (c.read.ensures.stays read) (c.plan_of.ensures.stays planned)
     (c.in_ok-plan.ensures.acts planned) (c.carry_out.ensures.crash clean)
+
+-- ---- the book is shown
+
+pub returns-clause-shows : goal.returns-clause-shows
+returns-clause-shows g c clean =
+    let planned = c.carry_out.ensures.clean clean in
+    let read = c.plan_of.ensures.clean planned in
+    if_ok_so c.carry_out.result _ _ (c.carry_out.ensures.shows clean)
+    (λ said. word_shows (IsExchanged (g.V.Server.opens c.args.desk.now.server.now) g.V.Reader.Read.remaining g.V.Writer.Write.contents)
+    c.args.desk.now.wall (offset_of c.args.desk.now.settings.now.zone) c.args.desk.now.settings.now.staff
+    (local_clock (g.K.WallClock.shows c.args.desk.now.clock.now) c.args.desk.now.settings.now.zone)
+    c.args.desk.now.settings.now.mark c.args.desk.now.settings.now.token
+    c.args.desk.now.is_json
+    c.args.desk.now.sheet.now c.args.act c.in_ok-plan.plan c.in_ok-book.book.place
+    c.carry_out.new.book.place (state g.S.Store c.args.conn.now) (state g.S.Store c.read.new.conn)
+    (state g.S.Store c.plan_of.new.conn) (state g.S.Store c.carry_out.new.conn) (string_bytes said.text) said.status
+    (c.in_ok-book.ensures.place read) (c.read.ensures.stays read) (c.plan_of.ensures.stays planned)
+    (c.in_ok-plan.ensures.acts planned))

@@ -1,7 +1,7 @@
 use Rattle.sqlite.specs.Held.{state}
 use Rattle.till_client.specs.Replies.{seen_answer}
 use Rattle.shop_types.specs.Seen.{seen_act}
-use Rattle.till_work.specs.Told.{IsTold}
+use Rattle.till_work.specs.Exchanged.{IsExchanged}
 use Rattle.till_cashier.specs.Clock.{local_clock}
 use Rattle.till_cashier.specs.Faults.{giver_of}
 use Rattle.till_cashier.specs.Asking.{IsAnswered}
@@ -10,7 +10,7 @@ use Rattle.till_cashier.proofs.Printing.{gives_saying}
 use Rattle.till_cashier.proofs.Adding.{adds_stays}
 use Rattle.till_cashier.proofs.GoingOn.{kept_ok, kept_as, goes_stays}
 use Rattle.till_cashier.proofs.Stops.{given_leaves}
-use Rattle.till_cashier.proofs.word.give_and_tell.Goals as goal
+use Rattle.till_cashier.proofs.word.give_and_say.Goals as goal
 
 pub returns-in-Err-clause-keeps : goal.returns-in-Err-clause-keeps
 returns-in-Err-clause-keeps g c clean kept = c.in-Err.ensures.keeps clean (kept_as c.in-Err.fault kept)
@@ -29,7 +29,7 @@ returns-clause-keeps g c clean kept =
 
 pub returns-clause-given : goal.returns-clause-given
 returns-clause-given g c clean =
-    gives_told (IsTold (g.V.Server.opens c.args.desk.now.server.now) g.V.Reader.Read.remaining g.V.Writer.Write.contents)
+    gives_told (IsExchanged (g.V.Server.opens c.args.desk.now.server.now) g.V.Reader.Read.remaining g.V.Writer.Write.contents)
     (local_clock (g.K.WallClock.shows c.args.desk.now.clock.now) c.args.desk.now.settings.now.zone)
     c.args.desk.now.settings.now.mark c.args.desk.now.settings.now.token
     (giver_of c.args.desk.now.settings.now.staff c.args.desk.now.staff) c.told.result (seen_act c.args.act.now)
@@ -58,7 +58,7 @@ returns-in-Err-clause-adds g c clean kept = c.in-Err.ensures.adds clean (kept_as
 
 pub returns-clause-says : goal.returns-clause-says
 returns-clause-says g c clean =
-    gives_saying (IsTold (g.V.Server.opens c.args.desk.now.server.now) g.V.Reader.Read.remaining g.V.Writer.Write.contents)
+    gives_saying (IsExchanged (g.V.Server.opens c.args.desk.now.server.now) g.V.Reader.Read.remaining g.V.Writer.Write.contents)
     (IsAnswered (g.V.Server.opens c.args.desk.now.server.now) g.V.Reader.Read.remaining g.V.Writer.Write.contents)
     (local_clock (g.K.WallClock.shows c.args.desk.now.clock.now) c.args.desk.now.settings.now.zone)
     c.args.desk.now.settings.now.mark c.args.desk.now.settings.now.token
