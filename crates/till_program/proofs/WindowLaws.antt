@@ -21,27 +21,27 @@ use Rattle.till_cashier.specs.Returns.{IsReturned}
 use Rattle.till_cashier.specs.Word.{KeepsATillsBook, IsBehind}
 use Rattle.till_program.specs.Windows.{Done, IsDone, AreDone, IsGivenIn, IsIn, ActsStay, CopiesComeBack, book_after}
 
-module _ {S : Type 0} (g : Ghosts S) (Tells : List ℕ → Answer → Type 0) (shows : ℕ → Type 0) where
+module _ {S : Type 0} (g : Ghosts S) (Exchanged : List ℕ → Answer → Type 0) (shows : ℕ → Type 0) where
   -- a book that goes on, and goes on again
-  then_behind : (mark : Text) (s mid : State) (journal : Journal) (commands : List Command) (one : IsBehind Tells mark mid journal commands)
-      → IsBehind Tells mark s one.journal one.commands → IsBehind Tells mark s journal commands
+  then_behind : (mark : Text) (s mid : State) (journal : Journal) (commands : List Command) (one : IsBehind Exchanged mark mid journal commands)
+      → IsBehind Exchanged mark s one.journal one.commands → IsBehind Exchanged mark s journal commands
   then_behind mark s mid journal commands one two = record {
     journal = two.journal;
     commands = two.commands;
     rests = two.rests;
     book = two.book;
-    extends = extends_then Tells journal one.journal two.journal one.extends two.extends;
+    extends = extends_then Exchanged journal one.journal two.journal one.extends two.extends;
     says = (one.says.0 ++ two.says.0, more_then commands one.commands two.commands one.says.0 two.says.0 one.says.1 two.says.1);
   }
 
-  pub windows_share : (mark token : Text) (s : Held S) (words : List (Done S)) → AreDone g Tells shows mark token s words
-      → KeepsATillsBook Tells mark (state g s) (state g (book_after s words))
+  pub windows_share : (mark token : Text) (s : Held S) (words : List (Done S)) → AreDone g Exchanged shows mark token s words
+      → KeepsATillsBook Exchanged mark (state g s) (state g (book_after s words))
   windows_share mark token s [] done journal commands rests book = record {
     journal = journal;
     commands = commands;
     rests = rests;
     book = book;
-    extends = extends_same Tells journal;
+    extends = extends_same Exchanged journal;
     says = ([], sym (append-nil commands));
   }
   windows_share mark token s (word ∷ words) done journal commands rests book =
@@ -52,8 +52,8 @@ module _ {S : Type 0} (g : Ghosts S) (Tells : List ℕ → Answer → Type 0) (s
   -- an act that was given stays
   given_stays : (mark token : Text) (s : Held S) (journal : Journal) (commands : List Command) (before later : List (Done S)) (word : Done S) (act : Act)
       → Rests (state g s) journal → IsTillsBook mark journal commands
-      → AreDone g Tells shows mark token s before → AreDone g Tells shows mark token word.after later
-      → GivesWord Tells shows mark token word.giver act (state g (book_after s before)) (state g word.after)
+      → AreDone g Exchanged shows mark token s before → AreDone g Exchanged shows mark token word.after later
+      → GivesWord Exchanged shows mark token word.giver act (state g (book_after s before)) (state g word.after)
       → IsIn shows mark token word.giver act commands (state g (book_after word.after later))
   given_stays mark token s journal commands before later word act rests book first last gives =
       let front = windows_share mark token s before first journal commands rests book in
@@ -88,16 +88,16 @@ module _ {S : Type 0} (g : Ghosts S) (Tells : List ℕ → Answer → Type 0) (s
         },
       )
 
-  pub acts_stay : ActsStay g Tells shows
+  pub acts_stay : ActsStay g Exchanged shows
   acts_stay mark token s journal commands before later word what rests book first done last told is =
-      let does : DoesWord Tells shows mark token word.giver word.sheet (typed.Do what) (state g (book_after s before)) (state g word.after) =
-      subst (λ (act : TillAct). DoesWord Tells shows mark token word.giver word.sheet act (state g (book_after s before)) (state g word.after))
+      let does : DoesWord Exchanged shows mark token word.giver word.sheet (typed.Do what) (state g (book_after s before)) (state g word.after) =
+      subst (λ (act : TillAct). DoesWord Exchanged shows mark token word.giver word.sheet act (state g (book_after s before)) (state g word.after))
       is (done.does told) in
       given_stays mark token s journal commands before later word (seen_act what) rests book first last does
 
-  pub copies_come_back : CopiesComeBack g Tells shows
+  pub copies_come_back : CopiesComeBack g Exchanged shows
   copies_come_back mark token s journal commands before later word copy rests book first done last told is =
-      let does : DoesWord Tells shows mark token word.giver word.sheet (typed.ReturnCopy copy) (state g (book_after s before)) (state g word.after) =
-      subst (λ (act : TillAct). DoesWord Tells shows mark token word.giver word.sheet act (state g (book_after s before)) (state g word.after))
+      let does : DoesWord Exchanged shows mark token word.giver word.sheet (typed.ReturnCopy copy) (state g (book_after s before)) (state g word.after) =
+      subst (λ (act : TillAct). DoesWord Exchanged shows mark token word.giver word.sheet act (state g (book_after s before)) (state g word.after))
       is (done.does told) in
       (does.0, does.1, given_stays mark token s journal commands before later word (seen_act (TakeBack does.0.rental)) rests book first last does.2)

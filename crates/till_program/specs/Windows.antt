@@ -31,15 +31,15 @@ pub record Done (S : Type 0) : Type 0 where
   pub after : Held S
 
 -- The word kept the book as `do_word` says. If the desk replied that it was done, it was done as `do_word` says.
-pub record IsDone {S : Type 0} (g : Ghosts S) (Tells : List ℕ → Answer → Type 0) (shows : ℕ → Type 0)
+pub record IsDone {S : Type 0} (g : Ghosts S) (Exchanged : List ℕ → Answer → Type 0) (shows : ℕ → Type 0)
     (mark token : Text) (before : Held S) (word : Done S) : Type 0 where
-  pub keeps : KeepsATillsBook Tells mark (state g before) (state g word.after)
-  pub does : IsTrue word.is_said → DoesWord Tells shows mark token word.giver word.sheet word.act (state g before) (state g word.after)
+  pub keeps : KeepsATillsBook Exchanged mark (state g before) (state g word.after)
+  pub does : IsTrue word.is_said → DoesWord Exchanged shows mark token word.giver word.sheet word.act (state g before) (state g word.after)
 
 -- Words were done one after another, of any windows in any order. Each found the book as the word before it had left it.
 abbrev pub AreDone : {S : Type 0} → Ghosts S → (List ℕ → Answer → Type 0) → (ℕ → Type 0) → Text → Text → Held S → List (Done S) → Type 0
-AreDone g Tells shows mark token s [] = ⊤
-AreDone g Tells shows mark token s (word ∷ words) = IsDone g Tells shows mark token s word × AreDone g Tells shows mark token word.after words
+AreDone g Exchanged shows mark token s [] = ⊤
+AreDone g Exchanged shows mark token s (word ∷ words) = IsDone g Exchanged shows mark token s word × AreDone g Exchanged shows mark token word.after words
 
 -- the book after the last word
 abbrev pub book_after : {S : Type 0} → Held S → List (Done S) → Held S
@@ -78,27 +78,27 @@ IsIn shows mark token giver act said s =
 -- Whatever words the windows had done, in whatever order: a till's book is one still. What was entered, recorded and settled is a front part of it.
 -- The commands are one sequence, with the earlier ones in front. So the laws of a till's book hold of it.
 abbrev pub WindowsShareABook : {S : Type 0} → Ghosts S → (List ℕ → Answer → Type 0) → (ℕ → Type 0) → Type 0
-WindowsShareABook {S} g Tells shows =
+WindowsShareABook {S} g Exchanged shows =
     (mark token : Text) (s : Held S) (words : List (Done S))
-    → AreDone g Tells shows mark token s words → KeepsATillsBook Tells mark (state g s) (state g (book_after s words))
+    → AreDone g Exchanged shows mark token s words → KeepsATillsBook Exchanged mark (state g s) (state g (book_after s words))
 
 -- If the desk replied that an act was done, the act is in the book with its answer. The windows may do anything before it and after it.
 abbrev pub ActsStay : {S : Type 0} → Ghosts S → (List ℕ → Answer → Type 0) → (ℕ → Type 0) → Type 0
-ActsStay {S} g Tells shows =
+ActsStay {S} g Exchanged shows =
     (mark token : Text) (s : Held S) (journal : Journal) (commands : List Command) (before later : List (Done S)) (word : Done S) (what : Typed)
     → Rests (state g s) journal → IsTillsBook mark journal commands
-    → AreDone g Tells shows mark token s before → IsDone g Tells shows mark token (book_after s before) word
-    → AreDone g Tells shows mark token word.after later
+    → AreDone g Exchanged shows mark token s before → IsDone g Exchanged shows mark token (book_after s before) word
+    → AreDone g Exchanged shows mark token word.after later
     → IsTrue word.is_said → word.act ≡ typed.Do what
     → IsIn shows mark token word.giver (seen_act what) commands (state g (book_after word.after later))
 
 -- A copy that came back at any window is the return of its rental in the one book, or in the sheet. Which window entered that rental doesn't matter.
 abbrev pub CopiesComeBack : {S : Type 0} → Ghosts S → (List ℕ → Answer → Type 0) → (ℕ → Type 0) → Type 0
-CopiesComeBack {S} g Tells shows =
+CopiesComeBack {S} g Exchanged shows =
     (mark token : Text) (s : Held S) (journal : Journal) (commands : List Command) (before later : List (Done S)) (word : Done S) (copy : ℕ)
     → Rests (state g s) journal → IsTillsBook mark journal commands
-    → AreDone g Tells shows mark token s before → IsDone g Tells shows mark token (book_after s before) word
-    → AreDone g Tells shows mark token word.after later
+    → AreDone g Exchanged shows mark token s before → IsDone g Exchanged shows mark token (book_after s before) word
+    → AreDone g Exchanged shows mark token word.after later
     → IsTrue word.is_said → word.act ≡ typed.ReturnCopy copy
     → (held : HeldRental) × IsReturned word.sheet copy held (state g (book_after s before))
     × IsIn shows mark token word.giver (seen_act (TakeBack held.rental)) commands (state g (book_after word.after later))

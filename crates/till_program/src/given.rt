@@ -46,7 +46,7 @@ pub(crate) fn read_leading(words: &[String]) -> Leading<'_> {
                 takes = None;
             }
             Some(_) => takes = None,
-            None if word == "--book" || word == "--staff" => {
+            None if word == "--book" || word == "--staff" || word == "--drawer" => {
                 leading.names_staff = leading.names_staff || word == "--staff";
                 takes = Some(word);
             }

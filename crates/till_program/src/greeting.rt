@@ -106,6 +106,7 @@ fn attendant_with<'x>(
         wall: wall_zone(&tools.rules, &tools.settings.zone),
         line,
         staff: Some(staff),
+        drawer: 0,
         is_json: false,
         is_sure: false,
         said_day: None,

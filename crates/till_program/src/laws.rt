@@ -1,6 +1,6 @@
 //! A law, on a function with nothing to do.
 
-ghost use Rattle.till_work.specs.Told.{IsTold};
+ghost use Rattle.till_work.specs.Exchanged.{IsExchanged};
 ghost use Rattle.till_program.specs.Windows as law;
 
 use sqlite::Alter;
@@ -10,11 +10,11 @@ use till_work::Server;
 /// Windows share one book, whatever words they have done, in whatever order. Each word did as `do_word` says, and
 /// found the book as the word before it had left it.
 pub fn windows_share_a_book<S: Alter, K: WallClock, V: Server>(clock: &K, server: &V)
-    ensures shared { law.WindowsShareABook S.Store (IsTold (V.opens server.now) V.Reader.remaining V.Writer.contents)
+    ensures shared { law.WindowsShareABook S.Store (IsExchanged (V.opens server.now) V.Reader.remaining V.Writer.contents)
         (K.shows clock.now) }
-    ensures acts { law.ActsStay S.Store (IsTold (V.opens server.now) V.Reader.remaining V.Writer.contents)
+    ensures acts { law.ActsStay S.Store (IsExchanged (V.opens server.now) V.Reader.remaining V.Writer.contents)
         (K.shows clock.now) }
-    ensures copies { law.CopiesComeBack S.Store (IsTold (V.opens server.now) V.Reader.remaining V.Writer.contents)
+    ensures copies { law.CopiesComeBack S.Store (IsExchanged (V.opens server.now) V.Reader.remaining V.Writer.contents)
         (K.shows clock.now) }
 {
     let _ = clock;

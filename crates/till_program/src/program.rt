@@ -3,7 +3,7 @@
 ghost use Rattle.std.specs.Prelude.{◌≡◌, false, IfErr, IfSome};
 ghost use Rattle.sqlite.specs.Held.{state};
 ghost use Rattle.sqlite.specs.State.{HasCleanDisk};
-ghost use Rattle.till_work.specs.Told.{IsTold};
+ghost use Rattle.till_work.specs.Exchanged.{IsExchanged};
 ghost use Rattle.till_cashier.specs.Faults.{IsBookKept};
 ghost use Rattle.till_cashier.specs.Word.{EntersNothing};
 
@@ -16,17 +16,19 @@ use crate::tcp::Tcp;
 use crate::way::{Patience, Way};
 use crate::zone_setting::set_zone;
 use crate::zones::wall_zone;
-use shop_types::{Act, Moment, StaffNo, StockFile, Usage};
+use shop_types::{Act, Moment, NewCustomer, Person, StaffNo, StockFile, Usage};
 use sqlite::{Alter, Connection, FileStore};
 use sqlite_std_file::File;
 use std::fs;
 use std::io::Write;
 use std::time::{Clock, Duration};
 use till_cashier::{
-    Desk, Inquiry, Line, Said, Shelf, TillFault, WallClock, ask_before, do_word, make_sure,
-    make_sure_soon, question, read_sheet, said_day,
+    Desk, Inquiry, Line, Said, Shelf, TillFault, WallClock, ask_before, city_on_sheet, do_word,
+    make_sure, make_sure_soon, question, read_sheet, said_day,
 };
-use till_words::{FileName, TillAct, TillLine, asks_for_help, help_text, read_till_words};
+use till_words::{
+    FileName, PersonIn, TillAct, TillLine, asks_for_help, help_text, read_till_words,
+};
 use till_work::{Server, Watch};
 
 /// The book's file, if none is named.
@@ -69,9 +71,30 @@ fn stock_file(rt: &HostRuntime, stock: Stock<'_>, file: &FileName) -> Result<Vec
     }
 }
 
-/// Returns the act with its stock file read, if it names one.
-fn with_file(rt: &HostRuntime, stock: Stock<'_>, act: TillAct) -> Result<TillAct, TillFault> {
+/// Returns the act of who joins in a city that the sheet beside the book names.
+fn join_in(rt: &HostRuntime, book: &str, who: PersonIn) -> Result<TillAct, TillFault> {
+    let sheet = read_sheet(rt.alloc(), &FileShelf { rt, book });
+    let city = city_on_sheet(rt.alloc(), sheet.as_slice(), who.city.as_str())?;
+    let person = Person {
+        first: who.first,
+        last: who.last,
+        address: who.address,
+        postal: who.postal,
+        phone: who.phone,
+        city,
+    };
+    Ok(TillAct::Do(Act::Customer(NewCustomer { person })))
+}
+
+/// Returns the act with its stock file read, or with its city's number, if it names one.
+fn completed(
+    rt: &HostRuntime,
+    stock: Stock<'_>,
+    book: &str,
+    act: TillAct,
+) -> Result<TillAct, TillFault> {
     match act {
+        TillAct::JoinIn(who) => join_in(rt, book, who),
         TillAct::Import { file, lot } => {
             let bytes = stock_file(rt, stock, &file)?;
             match StockFile::new(bytes) {
@@ -140,7 +163,7 @@ fn made_sure<S: Alter, K: WallClock, V: Server, L: Shelf>(
     ensures ended { conn.new.in_transaction ≡ false }
     ensures clean { HasCleanDisk (state S.Store conn.new) → HasCleanDisk (state S.Store conn.old) }
     ensures same { HasCleanDisk (state S.Store conn.new) → IsBookKept result
-        → EntersNothing (IsTold (V.opens desk.now.server.now) V.Reader.remaining V.Writer.contents) (state S.Store
+        → EntersNothing (IsExchanged (V.opens desk.now.server.now) V.Reader.remaining V.Writer.contents) (state S.Store
         conn.old) (state S.Store conn.new) }
 {
     if is_send {
@@ -162,7 +185,7 @@ fn sure_at<S: Alter, K: WallClock, V: Server, L: Shelf, W: Write, E: Write>(
     ensures ended { conn.new.in_transaction ≡ false }
     ensures clean { HasCleanDisk (state S.Store conn.new) → HasCleanDisk (state S.Store conn.old) }
     ensures same { HasCleanDisk (state S.Store conn.new) → result ≡ false
-        → EntersNothing (IsTold (V.opens desk.now.server.now) V.Reader.remaining V.Writer.contents) (state S.Store
+        → EntersNothing (IsExchanged (V.opens desk.now.server.now) V.Reader.remaining V.Writer.contents) (state S.Store
         conn.old) (state S.Store conn.new) }
 {
     let mut more = Said::done(desk.alloc);
@@ -236,6 +259,8 @@ struct Word {
     is_sure: bool,
     asks: Asks,
     staff: Option<StaffNo>,
+    /// The drawer, or 0 for the book's own.
+    drawer: u32,
     act: TillAct,
     way: Way,
 }
@@ -321,6 +346,7 @@ fn with_tools<'x, W: Write, E: Write>(
         is_sure,
         asks,
         staff,
+        drawer,
         act,
         way,
     } = word;
@@ -345,6 +371,7 @@ fn with_tools<'x, W: Write, E: Write>(
         wall: wall_zone(&tools.rules, &tools.settings.zone),
         line: way.line,
         staff,
+        drawer,
         is_json,
         is_sure,
         said_day: said_day(rt.alloc(), &shelf),
@@ -429,9 +456,14 @@ fn perform_line<W: Write, E: Write>(
         is_json,
         is_sure,
         staff,
+        drawer,
         act,
     } = line;
     let book = book_of(rt, &book)?;
+    let drawer = match drawer {
+        Some(drawer) => drawer.get(),
+        None => 0,
+    };
     let (standing, way) = (given.standing, given.way);
     match act {
         TillAct::Init(beginning) => {
@@ -449,12 +481,13 @@ fn perform_line<W: Write, E: Write>(
             Ok(Performed::at(print(said, out, err), way))
         }
         act => {
-            let act = with_file(rt, given.stock, act)?;
+            let act = completed(rt, given.stock, book.as_str(), act)?;
             let word = Word {
                 is_json,
                 is_sure,
                 asks: if is_json { Asks::Nobody } else { standing.asks },
                 staff: staff.or(standing.staff),
+                drawer,
                 act,
                 way,
             };

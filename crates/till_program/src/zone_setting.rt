@@ -42,6 +42,7 @@ fn accepted(
         wall: wall_zone(&tools.rules, &tools.settings.zone),
         line: way.line,
         staff: None,
+        drawer: 0,
         is_json: false,
         is_sure: false,
         said_day: None,
