@@ -26,6 +26,8 @@ pub struct Play<'x, D: InMemory, C: Counter> {
     wanted: Texts,
     /// Whether the outcome of the last word or request was heard.
     is_heard: bool,
+    /// Whether the window stops before it gets the answer to the next word.
+    is_lost: bool,
     /// How many words were typed, and how many requests others sent.
     count: u32,
     /// How many lines were played.
@@ -50,6 +52,7 @@ impl<'x, D: InMemory, C: Counter> Play<'x, D, C> {
             told: Texts::new(alloc),
             wanted: Texts::new(alloc),
             is_heard: false,
+            is_lost: false,
             count: 0,
             line: 0,
         })
@@ -109,9 +112,11 @@ impl<'x, D: InMemory, C: Counter> Play<'x, D, C> {
     /// Types words.
     fn types(&mut self, typist: Typist, words: &str) -> Result<(), Fault> {
         let before = self.kit.begins(self.cut)?;
-        self.is_heard = self
+        let is_done = self
             .book
             .types(self.world, self.kit, typist, words, &mut self.told)?;
+        let is_lost = mem::replace(&mut self.is_lost, false);
+        self.is_heard = is_done && !is_lost;
         self.kit.repeats(before);
         Ok(())
     }
@@ -133,6 +138,10 @@ impl<'x, D: InMemory, C: Counter> Play<'x, D, C> {
                 "office" => {
                     let number = self.world.zones().number_of(HEAD_OFFICE)?;
                     self.kit.sets_zone(number);
+                    Ok(())
+                }
+                "lost" => {
+                    self.is_lost = true;
                     Ok(())
                 }
                 "copy" => self.book.copies(),

@@ -8,13 +8,14 @@ use crate::line::{Counter, Line};
 use crate::shelf::{Board, Hands};
 use crate::texts::Texts;
 use crate::world::World;
-use shop_types::{Act, LotName, StaffNo, StockFile};
+use shop_types::{Act, LotName, NewCustomer, Person, StaffNo, StockFile};
 use sqlite::{Alter, Connection};
 use std::alloc::Global;
 use till_cashier::{
-    Desk, Quiet, Said, TillFault, accept_zone, do_word, make_sure, read_sheet, said_day, zone_said,
+    Desk, Quiet, Said, TillFault, accept_zone, city_on_sheet, do_word, make_sure, read_sheet,
+    said_day, zone_said,
 };
-use till_words::{TillAct, TillLine, read_till_words, split_line};
+use till_words::{PersonIn, TillAct, TillLine, read_till_words, split_line};
 
 /// Returns the import of the stock file as a lot of that name.
 fn import(alloc: Global, stock: &[u8], lot: LotName) -> Result<TillAct, Fault> {
@@ -24,9 +25,26 @@ fn import(alloc: Global, stock: &[u8], lot: LotName) -> Result<TillAct, Fault> {
     }
 }
 
-/// Replaces the name of the stock file by the file, if the act is an import.
-fn with_stock(alloc: Global, act: TillAct, stock: &[u8]) -> Result<TillAct, Fault> {
+/// Returns the act of who joins in a city that the sheet names.
+fn join_in(alloc: Global, sheet: &[u8], who: PersonIn) -> Result<TillAct, Fault> {
+    let Ok(city) = city_on_sheet(alloc, sheet, who.city.as_str()) else {
+        return Err(Fault::Line("the sheet has no city of that name"));
+    };
+    let person = Person {
+        first: who.first,
+        last: who.last,
+        address: who.address,
+        postal: who.postal,
+        phone: who.phone,
+        city,
+    };
+    Ok(TillAct::Do(Act::Customer(NewCustomer { person })))
+}
+
+/// Replaces the name of the stock file by the file, if the act is an import, and a city's name by its number.
+fn completed(alloc: Global, act: TillAct, stock: &[u8], sheet: &[u8]) -> Result<TillAct, Fault> {
     match act {
+        TillAct::JoinIn(who) => join_in(alloc, sheet, who),
         TillAct::Import { file, lot } => {
             drop(file);
             import(alloc, stock, lot)
@@ -81,6 +99,8 @@ struct Typed {
     act: TillAct,
     /// Who gives it, if that isn't the member of staff whose till it is.
     staff: Option<StaffNo>,
+    /// The drawer, or 0 for the book's own.
+    drawer: u32,
     /// Whether what can't be undone is to be done.
     is_sure: bool,
     /// What is known of the line to the server.
@@ -104,10 +124,12 @@ fn read_input<C: Counter>(
     kit: &Kit<C>,
     typist: Typist,
     words: &str,
+    sheet: &[u8],
 ) -> Result<Typed, Fault> {
     let TillLine {
         book,
         staff,
+        drawer,
         act,
         is_sure,
         ..
@@ -118,10 +140,15 @@ fn read_input<C: Counter>(
         Typist::Window(staff) => (Some(staff), kit.line()),
     };
     let zone = zone_in(world, kit, &act)?;
-    let act = with_stock(alloc, act, world.stock())?;
+    let drawer = match drawer {
+        Some(drawer) => drawer.get(),
+        None => 0,
+    };
+    let act = completed(alloc, act, world.stock(), sheet)?;
     Ok(Typed {
         act,
         staff: staff.or(own),
+        drawer,
         is_sure,
         line,
         zone,
@@ -204,6 +231,7 @@ fn at_desk<'d, 'x, S: Alter, C: Counter>(
     let Typed {
         act,
         staff,
+        drawer,
         is_sure,
         line,
         zone,
@@ -220,6 +248,7 @@ fn at_desk<'d, 'x, S: Alter, C: Counter>(
         wall: till.wall(),
         line,
         staff,
+        drawer,
         is_json: false,
         is_sure,
         said_day: said_day(alloc, kit.shelf()),
@@ -246,9 +275,9 @@ pub fn type_at<'x, S: Alter, C: Counter>(
     if !conn.is_autocommit() {
         return Err(NO_BOOK);
     }
-    let typed = read_input(alloc, world, kit, typist, words)?;
-    let server = Line { wire: kit.wire() };
     let sheet = read_sheet(alloc, kit.shelf());
+    let typed = read_input(alloc, world, kit, typist, words, sheet.as_slice())?;
+    let server = Line { wire: kit.wire() };
     at_desk(
         alloc,
         &*world,
