@@ -252,8 +252,9 @@ class Prompt:
         self.reads()
 
     def reads(self):
+        """What is printed up to the next prompt, or to a question, at which the bench would wait without an end."""
         found = b""
-        while not found.endswith(b"till> "):
+        while not found.endswith((b"till> ", b"y/n ")):
             piece = os.read(self.program.stdout.fileno(), 1 << 16)
             if not piece:
                 break

@@ -233,7 +233,7 @@ def write_whole(path, text, mode=0o666):
 # The sheets that ops/sheet writes: another form has another version.
 SHEET_VERSION = "1"
 # What a line of the copies' sheet with a name has in place of the version.
-SHEET_NAMES = ("branch", "staff")
+SHEET_NAMES = ("branch", "staff", "city")
 COPY_SHEET = ["version", "branch", "until", "copy", "film", "title", "rating", "price", "rental", "customer", "name", "due"]
 CUSTOMER_SHEET = ["version", "branch", "until", "customer", "name"]
 

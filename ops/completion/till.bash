@@ -40,7 +40,7 @@ _till() {
     local office="country-add language-add category-add city-add actor-add film-add film-price film-withdraw cast-add branch-add staff-add staff-leave manager-set balance-rule sales custody transit audit"
     local current=$2 previous=$3 word="" at offered=""
     for ((at = 1; at < COMP_CWORD; at++)); do
-        if [[ ${COMP_WORDS[at - 1]} != --@(book|staff) && -n ${options[${COMP_WORDS[at]}]+is} ]]; then
+        if [[ ${COMP_WORDS[at - 1]} != --@(book|drawer|staff) && -n ${options[${COMP_WORDS[at]}]+is} ]]; then
             word=${COMP_WORDS[at]}
             break
         fi
@@ -51,7 +51,7 @@ _till() {
         --json | --yes | --office | --late) ;&
         [!-]*)
             if [[ -z $word ]]; then
-                offered="${!options[*]} --book --json --staff --yes --help"
+                offered="${!options[*]} --book --drawer --json --staff --yes --help"
             elif [[ $word == help ]]; then
                 ((at + 1 < COMP_CWORD)) || offered="${!options[*]}"
             elif [[ $word == office ]]; then

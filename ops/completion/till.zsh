@@ -41,7 +41,7 @@ _till() {
     local -a office=(country-add language-add category-add city-add actor-add film-add film-price film-withdraw cast-add branch-add staff-add staff-leave manager-set balance-rule sales custody transit audit)
     local word="" at
     for ((at = 2; at < CURRENT; at++)); do
-        if [[ $words[at-1] != --(book|staff) ]] && (( ${+options[$words[at]]} )); then
+        if [[ $words[at-1] != --(book|drawer|staff) ]] && (( ${+options[$words[at]]} )); then
             word=$words[at]
             break
         fi
@@ -51,7 +51,7 @@ _till() {
         --zone) compadd -- UTC ${(f)"$(awk -F '\t' '!/^#/ {print $3}' /usr/share/zoneinfo/zone.tab 2>/dev/null)"} ;;
         --json | --yes | --office | --late | [^-]*)
             if [[ -z $word ]]; then
-                compadd -- ${(k)options} --book --json --staff --yes --help
+                compadd -- ${(k)options} --book --drawer --json --staff --yes --help
             elif [[ $word == help ]]; then
                 (( at + 1 < CURRENT )) || compadd -- ${(k)options}
             elif [[ $word == office ]]; then
