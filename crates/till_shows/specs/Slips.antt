@@ -1,11 +1,11 @@
 -- The slip that a customer gets: lines of at most 42 columns, and a line of hyphens.
 use Rattle.std.specs.Prelude.{ℕ, nat_lt, ◌||◌, ◌&&◌, Bool, true, false, if◌then◌else◌, [], ◌++◌, Option, None, Some, option_map, encode_utf8}
-use Rattle.std.specs.Prelude.{ℤ, codes, decimal, fold, bytes_eq}
+use Rattle.std.specs.Prelude.{ℤ, pos, negsuc, suc, codes, decimal, fold, bytes_eq}
 use Rattle.std.specs.Str.{chars}
 use Rattle.std.specs.Str.Lines.{lines}
 use Rattle.shop_model.specs.Values.{Text}
 use Rattle.shop_model.specs.Calendar.{Moment}
-use Rattle.till_shows.specs.Money.{amount_text, money_text}
+use Rattle.till_shows.specs.Money.{amount_text}
 use Rattle.till_shows.specs.Tables.{width_of}
 use Rattle.till_shows.specs.Times.{day_text, moment_text}
 use Rattle.till_shows.specs.declared.slips.Slip.{Slip}
@@ -66,9 +66,14 @@ abbrev pub paid_line : Option ℕ → Text
 paid_line None = []
 paid_line (Some cents) = slip_line (codes "paid: " ++ amount_text cents)
 
+-- what the customer owes, or what the branch owes the customer
+abbrev pub owed_text : ℤ → Text
+owed_text (pos n) = codes "owed: " ++ amount_text n
+owed_text (negsuc n) = codes "credit: " ++ amount_text (suc n)
+
 abbrev pub owed_line : Option ℤ → Text
 owed_line None = []
-owed_line (Some cents) = slip_line (codes "owed: " ++ money_text cents)
+owed_line (Some cents) = slip_line (owed_text cents)
 
 abbrev pub rental_line : Option ℕ → Text
 rental_line None = []

@@ -5,12 +5,12 @@ ghost use Rattle.std.specs.Prelude.{string_bytes, encode_utf8};
 ghost use Rattle.till_shows.specs.Bodies.{body_of, number_at};
 ghost use Rattle.till_shows.specs.Seen.{seen_cut, seen_slips};
 ghost use Rattle.till_shows.specs.Slips.{is_shown, is_narrow, with_char, cut_text, slip_line, head_line, kind_text};
-ghost use Rattle.till_shows.specs.Slips.{title_line, due_line, paid_line, owed_line, rental_line};
+ghost use Rattle.till_shows.specs.Slips.{title_line, due_line, paid_line, owed_text, owed_line, rental_line};
 ghost use Rattle.till_shows.specs.Slips as spec;
 ghost use Rattle.till_shows.specs.declared.bodies.NotShown.TheVariants.{OtherForm};
 
 use crate::bodies::{NotShown, number_at, value_of};
-use crate::cents::{amount, money};
+use crate::cents::amount;
 use crate::moments::{day_words, moment_words};
 use shop_types::{BranchNo, Moment, StaffNo};
 use std::alloc::{AllocError, Global};
@@ -186,13 +186,24 @@ fn paid_line(alloc: Global, paid: Option<u64>) -> Result<String, AllocError>
     }
 }
 
+/// Returns what the customer owes, or what the branch owes the customer.
+fn owed_text(alloc: Global, cents: i64) -> Result<String, AllocError>
+    ensures { IfOk result (λ s. string_bytes s ≡ owed_text cents) }
+{
+    let sum = amount(alloc, cents.unsigned_abs())?;
+    if cents < 0 {
+        format!(in alloc; "credit: {sum}")
+    } else {
+        format!(in alloc; "owed: {sum}")
+    }
+}
+
 fn owed_line(alloc: Global, owed: Option<i64>) -> Result<String, AllocError>
     ensures { IfOk result (λ s. string_bytes s ≡ owed_line owed) }
 {
     match owed {
         Some(cents) => {
-            let sum = money(alloc, cents)?;
-            let text = format!(in alloc; "owed: {sum}")?;
+            let text = owed_text(alloc, cents)?;
             slip_line(alloc, text.as_str())
         }
         None => Ok(String::new(alloc)),
