@@ -1,8 +1,8 @@
 //! A till's mark. It makes the keys of the till's commands its own.
 
-ghost use Rattle.std.specs.Prelude.{◌≡◌, true, Some, None, if◌then◌else◌};
+ghost use Rattle.std.specs.Prelude.{◌≡◌, ⊤, ℕ, List, true, Some, None, IfOk, if◌then◌else◌};
 ghost use Rattle.std.specs.List.{list_all};
-ghost use Rattle.till_requests.specs.Marks.{is_mark, is_mark_letter};
+ghost use Rattle.till_requests.specs.Marks.{is_mark, is_mark_letter, letter_of, IsDrawnMark};
 
 use std::io;
 use std::marker::Model;
@@ -71,14 +71,54 @@ impl Mark {
     }
 }
 
-/// Draws a new mark, one of 2^40, by the randomness of the system.
-pub fn new_mark<R: RandomSource>(rt: &R) -> io::Result<Mark> {
-    let mut letters = [0u8; 11];
-    rt.fill_bytes(&mut letters)?;
-    for letter in letters.iter_mut() {
-        *letter = b'a' + (*letter & 15);
+/// A source of random bytes. What it draws is its own: no other bytes can be said to be drawn.
+pub trait Dice {
+    // these bytes were drawn
+    ghost draws: { Self → List ℕ → Type 0 };
+
+    /// Draws ten bytes.
+    fn draw(&self) -> io::Result<[u8; 10]>
+        ensures { IfOk result (λ bytes. draws self.now bytes) };
+}
+
+impl Dice for HostRuntime {
+    // nothing is known of the system's randomness
+    ghost draws = { λ _ _. ⊤ };
+
+    fn draw(&self) -> io::Result<[u8; 10]> {
+        let mut bytes = [0u8; 10];
+        self.fill_bytes(&mut bytes)?;
+        Ok(bytes)
     }
-    letters[0] = b't';
+}
+
+/// Returns a letter from `a` to `p`, by the byte's low four bits.
+fn letter(byte: u8) -> u8
+    ensures { result ≡ letter_of byte }
+{
+    b'a' + byte % 16
+}
+
+/// Draws a new mark, one of 2^40.
+pub fn new_mark<D: Dice>(dice: &D) -> io::Result<Mark>
+    ensures { IfOk result (λ mark. IsDrawnMark (D.draws dice.now) mark) }
+{
+    let b = dice.draw()?;
+    let (one, two, three, four, five) = (b[0], b[1], b[2], b[3], b[4]);
+    let (six, seven, eight, nine, ten) = (b[5], b[6], b[7], b[8], b[9]);
+    let letters = [
+        b't',
+        letter(one),
+        letter(two),
+        letter(three),
+        letter(four),
+        letter(five),
+        letter(six),
+        letter(seven),
+        letter(eight),
+        letter(nine),
+        letter(ten),
+    ];
     match Mark::read(&letters) {
         Some(mark) => Ok(mark),
         None => Err(io::Error::from(io::ErrorKind::Other)),
