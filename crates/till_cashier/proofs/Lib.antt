@@ -10,6 +10,9 @@ pub mod LastMoment
 pub mod Marks
 pub mod Dates
 pub mod Repeating
+pub mod Late
+pub mod Left
+pub mod Departed
 pub mod Printing
 pub mod Saying
 pub mod Stops

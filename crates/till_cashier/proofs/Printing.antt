@@ -1,5 +1,5 @@
 -- Which answer is printed.
-use Rattle.std.proofs.Common.{◌≡◌, ℕ, Bool, true, false, List, Option, Some, Result, Ok, Err, IfOk, sym, subst}
+use Rattle.std.proofs.Common.{◌≡◌, ℕ, [], Bool, true, false, List, Option, Some, Result, Ok, Err, IfOk, sym, subst}
 use Rattle.std.specs.Prelude.{if◌then◌else◌, IsTrue, string_bytes}
 use Rattle.std.proofs.lemmas.Bool.{false≢true}
 use Rattle.sqlite.specs.State.{State}
@@ -21,7 +21,7 @@ use Rattle.till_cashier.specs.declared.fault.TillFault.{TillFault}
 use Rattle.till_cashier.specs.declared.said.Said.{Said}
 use Rattle.till_cashier.specs.declared.word.Plan.{Plan}
 use Rattle.till_cashier.specs.declared.word.Plan.TheVariants as plan
-use Rattle.till_cashier.specs.Asking.{IsOwing}
+use Rattle.till_cashier.specs.Asking.{IsLookedUp, IsOwing}
 use Rattle.till_cashier.specs.Giving.{Gives}
 use Rattle.till_cashier.specs.LastMoment.{TellsMoment}
 use Rattle.till_cashier.specs.Doing.{IsPlanOf}
@@ -29,6 +29,7 @@ use Rattle.till_cashier.specs.Drawers.{SaysDay, SaysSums}
 use Rattle.till_cashier.specs.Printing.{GivesSaying, SaysPlan, SaysReading, GivesWordSaying, SaysWord}
 use Rattle.till_cashier.specs.Following.{SaysAct}
 use Rattle.till_cashier.specs.Word.{IsDebtor, IsPlaceOf}
+use Rattle.till_cashier.proofs.Departed.{looked_before}
 use Rattle.till_cashier.proofs.Doing.{gives_stays, returned_before}
 use Rattle.till_cashier.proofs.GoingOn.{stays_both}
 
@@ -70,13 +71,16 @@ module _ (Exchanged Answers : List ℕ → Answer → Type 0) (shows : ℕ → T
   gives_saying r act customer answer before after old mid new gives stays says =
       if_ok_so r _ _ says (λ said is. (answer, gives_stays Exchanged shows mark token giver act answer before after old mid new gives stays, is))
 
+module _ (Exchanged Answers : List ℕ → Answer → Type 0) (shows : ℕ → Type 0) (OnWall : Moment → Moment → Type 0) (mark token : Text)
+    (giver : Result ℕ TillFault) (json : Bool) (sheet : Text) where
   -- what is printed of a plan is printed of the same plan by another name
   pub says_as : (last : Option Moment) (r : Result Said TillFault) (it other : Plan) (before : Place) (old : State) (after : Place) (new : State) → it ≡ other
-      → IfOk r (λ said. SaysPlan Exchanged Answers shows mark token giver json sheet last other before old after new (string_bytes said.text) said.status)
-      → IfOk r (λ said. SaysPlan Exchanged Answers shows mark token giver json sheet last it before old after new (string_bytes said.text) said.status)
+      → IfOk r (λ said.
+      SaysPlan Exchanged Answers shows OnWall mark token giver json sheet last other before old after new (string_bytes said.text) said.status)
+      → IfOk r (λ said. SaysPlan Exchanged Answers shows OnWall mark token giver json sheet last it before old after new (string_bytes said.text) said.status)
   says_as last r it other before old after new same is =
       subst (λ (p : Plan). IfOk r (λ said.
-      SaysPlan Exchanged Answers shows mark token giver json sheet last p before old after new (string_bytes said.text) said.status))
+      SaysPlan Exchanged Answers shows OnWall mark token giver json sheet last p before old after new (string_bytes said.text) said.status))
       (sym same) is
 
   word_saying : (act : Act) (customer : Option ℕ) (place after : Place) (old mid new : State) (text : Text) (status : ℕ)
@@ -94,16 +98,16 @@ module _ (Exchanged Answers : List ℕ → Answer → Type 0) (shows : ℕ → T
   )
 
   as_plan : (last : Option Moment) (it other : Plan) (before : Place) (old : State) (after : Place) (new : State) (text : Text) (status : ℕ) → it ≡ other
-      → SaysPlan Exchanged Answers shows mark token giver json sheet last it before old after new text status
-      → SaysPlan Exchanged Answers shows mark token giver json sheet last other before old after new text status
+      → SaysPlan Exchanged Answers shows OnWall mark token giver json sheet last it before old after new text status
+      → SaysPlan Exchanged Answers shows OnWall mark token giver json sheet last other before old after new text status
   as_plan last it other before old after new text status same says =
-      subst (λ (p : Plan). SaysPlan Exchanged Answers shows mark token giver json sheet last p before old after new text status) same says
+      subst (λ (p : Plan). SaysPlan Exchanged Answers shows OnWall mark token giver json sheet last p before old after new text status) same says
 
   -- words of head office that only read
   reading_says : (last : Option Moment) (reads : Bool) (words : List Text) (it : Plan) (before : Place) (old : State) (after : Place) (new : State)
       (text : Text) (status : ℕ)
       → it ≡ (if reads then plan.ReadOffice words else plan.Office words)
-      → SaysPlan Exchanged Answers shows mark token giver json sheet last it before old after new text status
+      → SaysPlan Exchanged Answers shows OnWall mark token giver json sheet last it before old after new text status
       → IsTrue reads → SaysReading Answers token json words text status
   reading_says last true words it before old after new text status same says is =
       as_plan last it (plan.ReadOffice words) before old after new text status same says
@@ -112,8 +116,8 @@ module _ (Exchanged Answers : List ℕ → Answer → Type 0) (shows : ℕ → T
   -- What is printed of the word's plan is printed of the word. The plan was made of the book as it was read.
   pub word_says : (last : Option Moment) (word : TillAct) (it : Plan) (place after : Place) (old read mid new : State) (text : Text) (status : ℕ)
       → IsPlaceOf place old → TellsMoment last old → book.Stays old read → book.Stays read mid → IsPlanOf sheet read word it
-      → SaysPlan Exchanged Answers shows mark token giver json sheet last it place mid after new text status
-      → SaysWord Exchanged Answers shows mark token giver json sheet word old new text status
+      → SaysPlan Exchanged Answers shows OnWall mark token giver json sheet last it place mid after new text status
+      → SaysWord Exchanged Answers shows OnWall mark token giver json sheet word old new text status
   word_says last (typed.Do what) it place after old read mid new text status is moment first second plans says = (
     plans.0,
     debtor_before what plans.0 old read first plans.1,
@@ -129,8 +133,12 @@ module _ (Exchanged Answers : List ℕ → Answer → Type 0) (shows : ℕ → T
   word_says last (typed.Office words) it place after old read mid new text status is moment first second plans says =
       λ reads. reading_says last (is_reading words) words it place mid after new text status plans says reads
   word_says last typed.Send it place after old read mid new text status is moment first second plans says = tt
-  word_says last (typed.Look look) it place after old read mid new text status is moment first second plans says =
-      (last, moment, as_plan last it (plan.Look look) place mid after new text status plans says)
+  word_says last (typed.Look look) it place after old read mid new text status is moment first second plans says = (
+    last,
+    moment,
+    looked_before (IsLookedUp Answers token) OnWall old mid (stays_both old read mid first second) sheet shows last json look [] 0 text status
+        (as_plan last it (plan.Look look) place mid after new text status plans says),
+  )
   word_says last typed.Waiting it place after old read mid new text status is moment first second plans says = tt
   word_says last (typed.Last count) it place after old read mid new text status is moment first second plans says = tt
   word_says last (typed.Day asked) it place after old read mid new text status is moment first second plans says = (

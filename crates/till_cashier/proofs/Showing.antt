@@ -4,13 +4,11 @@ use Rattle.std.specs.Prelude.{if◌then◌else◌, ℤ, codes, string_bytes}
 use Rattle.std.proofs.lemmas.Bool.{true≢false}
 use Rattle.sqlite.specs.State.{State}
 use Rattle.jiff_tz.specs.declared.timezone.TimeZone.{TimeZone}
-use Rattle.shop_model.specs.Values.{Text, Command}
+use Rattle.shop_model.specs.Values.{Text}
 use Rattle.shop_model.specs.Answers.{Answer}
-use Rattle.till_book.specs.Journal.{Journal}
 use Rattle.till_book.specs.Steps as book
 use Rattle.till_requests.specs.Requests.{is_reading}
 use Rattle.till_work.specs.Desk.{GoesOn, with_replies}
-use Rattle.till_work.specs.Entering.{IsTillsBook}
 use Rattle.till_work.specs.declared.place.Place.{Place}
 use Rattle.till_words.specs.declared.words.TillAct.{TillAct}
 use Rattle.till_words.specs.declared.words.TillAct.TheVariants as typed
@@ -18,17 +16,23 @@ use Rattle.till_cashier.specs.declared.fault.TillFault.{TillFault}
 use Rattle.till_cashier.specs.declared.said.Said.{Said}
 use Rattle.till_cashier.specs.declared.word.Plan.{Plan}
 use Rattle.till_cashier.specs.declared.word.Plan.TheVariants as plan
+use Rattle.till_cashier.specs.Again.{GivesLeft}
 use Rattle.till_cashier.specs.Doing.{IsPlanOf}
-use Rattle.till_cashier.specs.Listing.{OfBook, OfEach, ShowsEntries, ShowsLast, ShowsSent, ShowsWaiting}
-use Rattle.till_cashier.specs.Showing.{AddsMore, SaysInTurn, SaysEntered, SaysAgain, SaysNothing, RepeatsSaying, ShowsAgain, ShowsPlan, ShowsWord}
+use Rattle.till_cashier.specs.Listing.{OfBook, OfEach, ShowsEntries, ShowsSent}
+use Rattle.till_cashier.specs.Showing.{AddsMore, SaysInTurn, SaysEntered, SaysAgain, RepeatsSaying, ShowsPlan, ShowsWord}
 use Rattle.till_cashier.specs.Word.{IsPlaceOf, SendsAll}
 use Rattle.till_cashier.proofs.GoingOn.{stays_both}
+use Rattle.till_cashier.proofs.Left.{given_before, left_before}
 use Rattle.till_cashier.proofs.Listing.{book_each}
 
 -- both hold of a result that is no fault
 pub both_ok : {A E : Type 0} (r : Result A E) (P Q R : A → Type 0) → IfOk r P → IfOk r Q → ((a : A) → P a → Q a → R a) → IfOk r R
 both_ok (Ok a) P Q R one two follows = follows a one two
 both_ok (Err e) P Q R one two follows = tt
+
+pub three_ok : {A E : Type 0} (r : Result A E) (P Q R S : A → Type 0) → IfOk r P → IfOk r Q → IfOk r R → ((a : A) → P a → Q a → R a → S a) → IfOk r S
+three_ok (Ok a) P Q R S one two three follows = follows a one two three
+three_ok (Err e) P Q R S one two three follows = tt
 
 -- a fault was added below
 pub stopped_more : (r : Result Said TillFault) (old mid : Text) (was : ℕ) → AddsMore old mid was → IfOk r (λ it. it.status < 3 → ⊥)
@@ -39,6 +43,11 @@ stopped_more (Ok it) old mid was one high two = (
   (λ none. absurd (high (omega (arith, none)))),
 )
 stopped_more (Err e) old mid was one high two = tt
+
+-- a fault's status isn't 0
+pub high_then : (r : Result Said TillFault) (P : Type 0) → IfOk r (λ it. it.status < 3 → ⊥) → IfOk r (λ it. it.status ≡ 0 → P)
+high_then (Ok it) P high = λ zero. absurd (high (omega (arith, zero)))
+high_then (Err e) P high = tt
 
 module _ (Exchanged : List ℕ → Answer → Type 0) (wall : TimeZone) (offset : ℤ) (own : Option ℕ) where
   -- what waited was sent, and is shown
@@ -57,21 +66,24 @@ module _ (Exchanged : List ℕ → Answer → Type 0) (wall : TimeZone) (offset 
       }
 
   -- a till's book went on, and is shown
-  pub again_shown : (mark : Text) (before after : Place) (old mid new : State) (table text : Text) (status : ℕ)
-      → GoesOn Exchanged mark before old after mid → book.Stays mid new
+  pub again_shown : (shows : ℕ → Type 0) (mark token : Text) (before after : Place) (old mid new : State) (table text : Text) (status : ℕ)
+      → (status ≡ 0 → GivesLeft Exchanged shows mark token own before old after new) → GoesOn Exchanged mark before old after mid → book.Stays mid new
       → OfEach mid (λ journal. ShowsEntries wall offset own [] before.replies journal table) → AddsMore table text status
-      → SaysAgain Exchanged wall offset own mark before old after new text status
-  again_shown mark before after old mid new table text status goes stays shows more = inr (λ journal commands at.
-      let it = goes journal commands at in
-      record {
-        journal = it.journal;
-        commands = it.commands;
-        is_at = record { rests = stays it.journal it.is_at.rests; book = it.is_at.book; entries = it.is_at.entries; replies = it.is_at.replies };
-        extends = it.extends;
-        table = table;
-        shows = subst (λ (n : ℕ). ShowsEntries wall offset own [] n it.journal table) at.replies (shows it.journal it.is_at.rests);
-        more = more;
-      })
+      → SaysAgain Exchanged shows wall offset own mark token before old after new text status
+  again_shown shows mark token before after old mid new table text status left goes stays says more = inr (
+    left,
+    λ journal commands at.
+        let it = goes journal commands at in
+        record {
+          journal = it.journal;
+          commands = it.commands;
+          is_at = record { rests = stays it.journal it.is_at.rests; book = it.is_at.book; entries = it.is_at.entries; replies = it.is_at.replies };
+          extends = it.extends;
+          table = table;
+          shows = subst (λ (n : ℕ). ShowsEntries wall offset own [] n it.journal table) at.replies (says it.journal it.is_at.rests);
+          more = more;
+        },
+  )
 
   module _ (shows : ℕ → Type 0) (mark token : Text) (json : Bool) where
     -- what is printed of a plan is printed of the same plan by another name
@@ -92,14 +104,15 @@ module _ (Exchanged : List ℕ → Answer → Type 0) (wall : TimeZone) (offset 
     entered : (words : List Text) (place after : Place) (old mid new : State) (text : Text) (status : ℕ) → IsPlaceOf place old → book.Stays old mid
         → SaysInTurn Exchanged mark token json words place mid after new text status
         → SaysEntered Exchanged mark token json words old new text status
-    entered words place after old mid new text status is stays (inl low) = inl low
-    entered words place after old mid new text status is stays (inr says) = inr (
+    entered words place after old mid new text status is stays (inl two) = inl two
+    entered words place after old mid new text status is stays (inr (inl fault)) = inr (inl fault)
+    entered words place after old mid new text status is stays (inr (inr says)) = inr (inr (
       says.0,
       (λ journal rests.
           let counted = is journal rests in
           (after, says.1 journal (record { rests = stays journal rests; entries = counted.0; replies = counted.1 }))),
       says.2,
-    )
+    ))
 
     office_shows : (reads : Bool) (words : List Text) (it : Plan) (place after : Place) (old mid new : State) (text : Text) (status : ℕ)
         → it ≡ (if reads then plan.ReadOffice words else plan.Office words) → IsPlaceOf place old → book.Stays old mid
@@ -110,12 +123,16 @@ module _ (Exchanged : List ℕ → Answer → Type 0) (wall : TimeZone) (offset 
         entered words place after old mid new text status is stays (as_plan it (plan.Office words) place mid after new text status same prints)
 
     repeated : (place after : Place) (old mid new : State) (text : Text) (status : ℕ) → IsPlaceOf place old → book.Stays old mid
-        → SaysAgain Exchanged wall offset own mark place mid after new text status
-        → RepeatsSaying Exchanged wall offset own mark old new text status
-    repeated place after old mid new text status is stays (inl none) = inl (stays_both old mid new stays none.0, none.1)
-    repeated place after old mid new text status is stays (inr prints) = inr (λ journal commands rests tills.
-        let counted = is journal rests in
-        (after, prints journal commands (record { rests = stays journal rests; book = tills; entries = counted.0; replies = counted.1 })))
+        → SaysAgain Exchanged shows wall offset own mark token place mid after new text status
+        → RepeatsSaying Exchanged shows wall offset own mark token old new text status
+    repeated place after old mid new text status is stays (inl none) =
+        inl (stays_both old mid new stays none.0, none.1, λ zero. left_before [] old mid stays (none.2 zero))
+    repeated place after old mid new text status is stays (inr prints) = inr (
+      (λ zero. (place, after, is, given_before Exchanged shows mark token own place after old mid new stays (prints.0 zero))),
+      λ journal commands rests tills.
+          let counted = is journal rests in
+          (after, prints.1 journal commands (record { rests = stays journal rests; book = tills; entries = counted.0; replies = counted.1 })),
+    )
 
     -- What is printed of the word's plan is printed of the word. The plan was made of the book as it was read.
     pub word_shows : (sheet : Text) (word : TillAct) (it : Plan) (place after : Place) (old read mid new : State) (text : Text) (status : ℕ)

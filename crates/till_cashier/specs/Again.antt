@@ -1,5 +1,5 @@
 -- Acts that are given once more, one after another.
-use Rattle.std.specs.Prelude.{◌≡◌, ℕ, zero, suc, List, [], ◌∷◌, ◌++◌, length, slice_get, Option, Some, Result, Ok}
+use Rattle.std.specs.Prelude.{◌≡◌, ◌<◌, ◌+◌, ◌⊎◌, ℕ, zero, suc, List, [], ◌∷◌, ◌++◌, length, slice_get, Option, Some, Result, Ok}
 use Rattle.std.specs.List.{All, AllByRecursion}
 use Rattle.sqlite.specs.State.{State}
 use Rattle.shop_model.specs.Values.{Text, Act, Command}
@@ -31,6 +31,36 @@ pub record IsRefused (entries : List (List ℕ)) (replies : List Answer) (it : R
   pub says : SaysAt entries at command
   pub staff : command.staff ≡ it.staff
   pub act : command.act ≡ seen_act it.act
+
+-- a later entry asks for the same by the same member of staff
+abbrev pub IsRepeated : List (List ℕ) → ℕ → Command → Type 0
+IsRepeated entries at command =
+    (later : ℕ) × (other : Command) × (at < later) × SaysAt entries later other × (other.staff ≡ command.staff) × (other.act ≡ command.act)
+
+-- the entry at that place wasn't refused for its moment, or it was repeated
+abbrev pub IsSettledAt : List (List ℕ) → List Answer → ℕ → Type 0
+IsSettledAt entries replies at = (command : Command) → IsBackAt replies at → SaysAt entries at command → IsRepeated entries at command
+
+-- the entry at that place was refused for its moment, and is of that act by that member of staff
+abbrev pub IsRefusedAt : List (List ℕ) → List Answer → ℕ → Repeat → Type 0
+IsRefusedAt entries replies at it =
+    (command : Command) × IsBackAt replies at × SaysAt entries at command × (command.staff ≡ it.staff) × (command.act ≡ seen_act it.act)
+
+-- Each act is of one of the first n entries that was refused for its moment, in their order. Any other entry so refused was repeated.
+abbrev pub AreLeft : List (List ℕ) → List Answer → ℕ → List Repeat → Type 0
+AreLeft entries replies zero acts = acts ≡ []
+AreLeft entries replies (suc n) acts =
+    (AreLeft entries replies n acts × IsSettledAt entries replies n)
+    ⊎ ((before : List Repeat) × (it : Repeat) × AreLeft entries replies n before × IsRefusedAt entries replies n it × (acts ≡ before ++ it ∷ []))
+
+-- so of all entries of each journal that the book stands for
+abbrev pub AreLeftIn : State → List Repeat → Type 0
+AreLeftIn s acts = (journal : Journal) → Rests s journal → AreLeft journal.entries journal.replies (length journal.entries) acts
+
+-- If nothing is left out with the entry at that place, nothing was before, and the acts are of one entry more.
+abbrev pub AddsLeft : List (List ℕ) → List Answer → ℕ → Text → List Repeat → Text → List Repeat → Type 0
+AddsLeft entries replies at left acts more with_it =
+    more ≡ [] → (left ≡ []) × (AreLeft entries replies at acts → AreLeft entries replies (at + 1) with_it)
 
 -- so of each journal that the book stands for
 abbrev pub IsRefusedIn : State → Repeat → Type 0
@@ -84,3 +114,8 @@ GivesBook Exchanged shows mark token own n acts before old after new =
 abbrev pub GivesAll : (List ℕ → Answer → Type 0) → (ℕ → Type 0) → Text → Text → Option ℕ → Place → State → Place → State → Type 0
 GivesAll Exchanged shows mark token own before old after new =
     (acts : List Repeat) × All (IsRefusedIn old) acts × GivesBook Exchanged shows mark token own (length acts) acts before old after new
+
+-- all that are left were given so
+abbrev pub GivesLeft : (List ℕ → Answer → Type 0) → (ℕ → Type 0) → Text → Text → Option ℕ → Place → State → Place → State → Type 0
+GivesLeft Exchanged shows mark token own before old after new =
+    (acts : List Repeat) × AreLeftIn old acts × GivesBook Exchanged shows mark token own (length acts) acts before old after new

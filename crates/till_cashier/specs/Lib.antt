@@ -20,6 +20,7 @@ pub mod Printing
 pub mod Asked
 pub mod Stops
 pub mod Stocked
+pub mod Late
 pub mod Looking
 pub mod Listing
 pub mod Showing

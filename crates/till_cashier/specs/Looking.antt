@@ -1,6 +1,7 @@
 -- What a look prints, and its status.
 use Rattle.std.specs.Prelude.{◌≡◌, ◌≢◌, ◌==◌, ◌<◌, ◌≤◌, ◌⊎◌, ⊤, ℕ, Bool, true, false, if◌then◌else◌, [], ◌++◌, List, Option, None, Some}
 use Rattle.std.specs.Prelude.{IfSome, codes, decimal}
+use Rattle.sqlite.specs.State.{State}
 use Rattle.shop_model.specs.Answers.{Answer}
 use Rattle.shop_model.specs.Calendar.{Moment, seconds_of}
 use Rattle.shop_model.specs.Values.{Text, Ask, OneCustomer, OneFilm, InStock, HeldBy, FilmInStock, FilmNotInStock, Balance, Overdue, Rewards, Arrivals}
@@ -22,9 +23,10 @@ use Rattle.till_cashier.specs.declared.lists.List.TheVariants as kept
 use Rattle.till_cashier.specs.declared.stock.Whereabouts.{Whereabouts}
 use Rattle.till_cashier.specs.declared.stock.Whereabouts.TheVariants as it
 use Rattle.till_cashier.specs.Asking.{IsLookedUp}
+use Rattle.till_cashier.specs.Late.{TablesLate, lates_in}
 use Rattle.till_cashier.specs.Saying.{SaysRefusal, IsNoRefusal, IsCalled, IsListed, ended}
 use Rattle.till_cashier.specs.Stocked.{stocked_in}
-use Rattle.till_cashier.specs.Whereabouts.{whereabouts_text}
+use Rattle.till_cashier.specs.Whereabouts.{HasDeparted, whereabouts_text}
 
 -- ---- the moment of a look
 
@@ -256,49 +258,59 @@ pub record IsInStock (Asks : Ask → Answer → Type 0) (sheet : Text) (copy : �
   pub of : row.film ≡ Some film
   pub says : IsListedStock Asks film copy is
 
--- By an answer the copy is here, or isn't. Of a copy that was sent off or scrapped by the book nothing is said here.
-abbrev pub IsPlace : (Ask → Answer → Type 0) → Text → ℕ → Whereabouts → Type 0
-IsPlace Asks sheet copy it.Here = IsInStock Asks sheet copy true
-IsPlace Asks sheet copy (it.Sent to at) = ⊤
-IsPlace Asks sheet copy (it.Scrapped at) = ⊤
-IsPlace Asks sheet copy it.Gone = IsInStock Asks sheet copy false
+-- By an answer the copy is here, or isn't. Or it was sent off or scrapped by the book.
+abbrev pub IsPlace : (Ask → Answer → Type 0) → (Moment → Moment → Type 0) → State → Text → ℕ → Whereabouts → Type 0
+IsPlace Asks OnWall s sheet copy it.Here = IsInStock Asks sheet copy true
+IsPlace Asks OnWall s sheet copy (it.Sent to at) = HasDeparted OnWall s copy (it.Sent to at)
+IsPlace Asks OnWall s sheet copy (it.Scrapped at) = HasDeparted OnWall s copy (it.Scrapped at)
+IsPlace Asks OnWall s sheet copy it.Gone = IsInStock Asks sheet copy false
 
 -- a place of the copy, or that nobody has the copy
-abbrev pub IsPlaceLine : (Ask → Answer → Type 0) → Text → ℕ → Text → Type 0
-IsPlaceLine Asks sheet copy line =
-    ((place : Whereabouts) × IsPlace Asks sheet copy place × (line ≡ whereabouts_text copy place)) ⊎ (line ≡ holder_text copy None)
+abbrev pub IsPlaceLine : (Ask → Answer → Type 0) → (Moment → Moment → Type 0) → State → Text → ℕ → Text → Type 0
+IsPlaceLine Asks OnWall s sheet copy line =
+    ((place : Whereabouts) × IsPlace Asks OnWall s sheet copy place × (line ≡ whereabouts_text copy place)) ⊎ (line ≡ holder_text copy None)
+
+-- That place was added. If there is none, it was added that nobody has the copy, or else some answer to the word's own question.
+abbrev pub SaysPlace : (Ask → Answer → Type 0) → Ask → ℕ → Option Whereabouts → Text → ℕ → Text → ℕ → Type 0
+SaysPlace Asks ask copy (Some place) old was new status = (new ≡ old ++ ended (whereabouts_text copy place)) × (status ≡ was)
+SaysPlace Asks ask copy None old was new status =
+    ((new ≡ old ++ ended (holder_text copy None)) × (status ≡ was)) ⊎ AddsLook (Asks ask) false (ShowsLines ask) old was new status
 
 -- Where a copy is that nobody has was added, or else some answer to the word's own question.
-abbrev pub AddsPlace : (Ask → Answer → Type 0) → Text → Ask → ℕ → Text → ℕ → Text → ℕ → Type 0
-AddsPlace Asks sheet ask copy old was new status =
-    ((line : Text) × IsPlaceLine Asks sheet copy line × (new ≡ old ++ ended line) × (status ≡ was))
+abbrev pub AddsPlace : (Ask → Answer → Type 0) → (Moment → Moment → Type 0) → State → Text → Ask → ℕ → Text → ℕ → Text → ℕ → Type 0
+AddsPlace Asks OnWall s sheet ask copy old was new status =
+    ((line : Text) × IsPlaceLine Asks OnWall s sheet copy line × (new ≡ old ++ ended line) × (status ≡ was))
     ⊎ AddsLook (Asks ask) false (ShowsLines ask) old was new status
 
 -- By some answer nobody has the copy, and it was added where the copy is.
-pub record AddsNobody (Asks : Ask → Answer → Type 0) (sheet : Text) (ask : Ask) (copy : ℕ) (old : Text) (was : ℕ) (new : Text) (status : ℕ) : Type 0 where
+pub record AddsNobody (Asks : Ask → Answer → Type 0) (OnWall : Moment → Moment → Type 0) (s : State) (sheet : Text) (ask : Ask) (copy : ℕ)
+    (old : Text) (was : ℕ) (new : Text) (status : ℕ) : Type 0 where
   pub answer : Answer
   pub asked : Asks (HeldBy copy) answer
   pub accepted : IsNoRefusal answer
   pub nobody : holder_in answer.body ≡ Some None
-  pub place : AddsPlace Asks sheet ask copy old (status_with answer was) new status
+  pub place : AddsPlace Asks OnWall s sheet ask copy old (status_with answer was) new status
 
 -- With `--json` the answer to the word's own question. Else who has the copy, or where the copy is if nobody has.
-abbrev pub AddsWhere : (Ask → Answer → Type 0) → Bool → Text → Ask → ℕ → Text → ℕ → Text → ℕ → Type 0
-AddsWhere Asks true sheet ask copy old was new status = AddsLook (Asks ask) true (ShowsLines ask) old was new status
-AddsWhere Asks false sheet ask copy old was new status =
-    AddsLook (Asks (HeldBy copy)) false (ShowsHolder copy) old was new status ⊎ AddsNobody Asks sheet ask copy old was new status
+abbrev pub AddsWhere : (Ask → Answer → Type 0) → (Moment → Moment → Type 0) → State → Bool → Text → Ask → ℕ → Text → ℕ → Text → ℕ → Type 0
+AddsWhere Asks OnWall s true sheet ask copy old was new status = AddsLook (Asks ask) true (ShowsLines ask) old was new status
+AddsWhere Asks OnWall s false sheet ask copy old was new status =
+    AddsLook (Asks (HeldBy copy)) false (ShowsHolder copy) old was new status ⊎ AddsNobody Asks OnWall s sheet ask copy old was new status
 
 -- ---- what is overdue
 
--- Some table, or that nothing is overdue. Of the table's rows nothing is said here.
-abbrev pub ShowsLate : Text → Text → Type 0
-ShowsLate body text = (table : Table) × (text ≡ table_or (codes "nothing is overdue") table)
+-- The body's rows, or a row for each of its rentals, with the numbers that are known. Or that nothing is overdue.
+abbrev pub ShowsLate : (Ask → Answer → Type 0) → State → Text → Text → Text → Type 0
+ShowsLate Asks s sheet body text =
+    ((table : Table) × (whole_table overdue_fields body ≡ Some table) × (text ≡ table_or (codes "nothing is overdue") table))
+    ⊎ ((lates : List (List Text)) × (lates_in body ≡ Some lates)
+    × ((table : Table) × TablesLate Asks s sheet lates table × (text ≡ table_or (codes "nothing is overdue") table)))
 
 -- ---- looks at a moment
 
-abbrev pub AddsLate : (Ask → Answer → Type 0) → (ℕ → Type 0) → Bool → Text → ℕ → Text → ℕ → Type 0
-AddsLate Asks shows json old was new status =
-    (at : Moment) × shows (seconds_of at) × AddsLook (Asks (Overdue at)) json ShowsLate old was new status
+abbrev pub AddsLate : (Ask → Answer → Type 0) → State → Text → (ℕ → Type 0) → Bool → Text → ℕ → Text → ℕ → Type 0
+AddsLate Asks s sheet shows json old was new status =
+    (at : Moment) × shows (seconds_of at) × AddsLook (Asks (Overdue at)) json (ShowsLate Asks s sheet) old was new status
 
 abbrev pub AddsOwed : (Ask → Answer → Type 0) → (ℕ → Type 0) → Option Moment → Bool → ℕ → Text → ℕ → Text → ℕ → Type 0
 AddsOwed Asks shows last json customer old was new status =
@@ -313,26 +325,31 @@ AddsRewards Asks shows json purchases cents old was new status =
 -- ---- all looks
 
 -- What a look adds to a text, and the status then. Each answer is one to that very question. A question's moment is the clock's, or the last entry's.
--- Nothing is said of a copy that left by the book, of the rows of what is overdue, and of a list that was kept.
-abbrev pub AddsView : (Ask → Answer → Type 0) → (ℕ → Type 0) → Option Moment → Bool → Text → TillLook → Text → ℕ → Text → ℕ → Type 0
-AddsView Asks shows last json sheet (look.Customer customer) old was new status = AddsCustomer Asks json customer old was new status
-AddsView Asks shows last json sheet (look.Customers part) old was new status =
+-- A copy left by an entry of the book, and an overdue rental's number is the register's or the sheet's. Nothing is said of a list that was kept.
+abbrev pub AddsView : (Ask → Answer → Type 0) → (Moment → Moment → Type 0) → State → (ℕ → Type 0) → Option Moment → Bool → Text → TillLook
+    → Text → ℕ → Text → ℕ → Type 0
+AddsView Asks OnWall s shows last json sheet (look.Customer customer) old was new status = AddsCustomer Asks json customer old was new status
+AddsView Asks OnWall s shows last json sheet (look.Customers part) old was new status =
     AddsLook (IsListOf Asks kept.Customers) json (ShowsFound kept.Customers part) old was new status
-AddsView Asks shows last json sheet (look.Film film) old was new status = AddsLook (Asks (OneFilm film)) json (ShowsLines (OneFilm film)) old was new status
-AddsView Asks shows last json sheet (look.Films part) old was new status =
+AddsView Asks OnWall s shows last json sheet (look.Film film) old was new status =
+    AddsLook (Asks (OneFilm film)) json (ShowsLines (OneFilm film)) old was new status
+AddsView Asks OnWall s shows last json sheet (look.Films part) old was new status =
     AddsLook (IsListOf Asks kept.Films) json (ShowsFound kept.Films part) old was new status
-AddsView Asks shows last json sheet (look.InStock copy) old was new status = AddsWhere Asks json sheet (InStock copy) copy old was new status
-AddsView Asks shows last json sheet (look.HeldBy copy) old was new status = AddsWhere Asks json sheet (HeldBy copy) copy old was new status
-AddsView Asks shows last json sheet (look.Copies film) old was new status = AddsCopies Asks json film old was new status
-AddsView Asks shows last json sheet (look.Balance customer) old was new status = AddsOwed Asks shows last json customer old was new status
-AddsView Asks shows last json sheet look.Overdue old was new status = AddsLate Asks shows json old was new status
-AddsView Asks shows last json sheet look.Arrivals old was new status =
+AddsView Asks OnWall s shows last json sheet (look.InStock copy) old was new status = AddsWhere Asks OnWall s json sheet (InStock copy) copy old was new status
+AddsView Asks OnWall s shows last json sheet (look.HeldBy copy) old was new status = AddsWhere Asks OnWall s json sheet (HeldBy copy) copy old was new status
+AddsView Asks OnWall s shows last json sheet (look.Copies film) old was new status = AddsCopies Asks json film old was new status
+AddsView Asks OnWall s shows last json sheet (look.Balance customer) old was new status = AddsOwed Asks shows last json customer old was new status
+AddsView Asks OnWall s shows last json sheet look.Overdue old was new status = AddsLate Asks s sheet shows json old was new status
+AddsView Asks OnWall s shows last json sheet look.Arrivals old was new status =
     AddsLook (Asks Arrivals) json (ShowsList Arrivals (codes "nothing was sent here")) old was new status
-AddsView Asks shows last json sheet look.Sent old was new status =
+AddsView Asks OnWall s shows last json sheet look.Sent old was new status =
     AddsLook (Asks SentOff) json (ShowsList SentOff (codes "nothing was sent")) old was new status
-AddsView Asks shows last json sheet (look.Rewards purchases cents) old was new status = AddsRewards Asks shows json purchases cents old was new status
-AddsView Asks shows last json sheet look.Sales old was new status = AddsSales Asks json old was new status
+AddsView Asks OnWall s shows last json sheet (look.Rewards purchases cents) old was new status =
+    AddsRewards Asks shows json purchases cents old was new status
+AddsView Asks OnWall s shows last json sheet look.Sales old was new status = AddsSales Asks json old was new status
 
 -- What a look prints, and its status. Each answer was asked for with that token.
-abbrev pub PrintsLook : (List ℕ → Answer → Type 0) → Text → (ℕ → Type 0) → Option Moment → Bool → Text → TillLook → Text → ℕ → Type 0
-PrintsLook Answers token shows last json sheet look text status = AddsView (IsLookedUp Answers token) shows last json sheet look [] 0 text status
+abbrev pub PrintsLook : (List ℕ → Answer → Type 0) → Text → (Moment → Moment → Type 0) → State → (ℕ → Type 0) → Option Moment → Bool → Text → TillLook
+    → Text → ℕ → Type 0
+PrintsLook Answers token OnWall s shows last json sheet look text status =
+    AddsView (IsLookedUp Answers token) OnWall s shows last json sheet look [] 0 text status

@@ -1,5 +1,5 @@
 -- What is printed of the words that show the book, and of what they entered or sent.
-use Rattle.std.specs.Prelude.{◌≡◌, ◌==◌, ◌<◌, ◌⊎◌, ⊤, ℕ, ℤ, if◌then◌else◌, Bool, false, List, [], ◌++◌, length, Option, codes}
+use Rattle.std.specs.Prelude.{◌≡◌, ◌==◌, ◌⊎◌, ⊤, ℕ, ℤ, if◌then◌else◌, Bool, false, List, [], ◌++◌, length, Option, codes}
 use Rattle.sqlite.specs.State.{State}
 use Rattle.jiff_tz.specs.declared.timezone.TimeZone.{TimeZone}
 use Rattle.shop_model.specs.Answers.{Answer}
@@ -15,11 +15,14 @@ use Rattle.till_words.specs.declared.words.TillAct.{TillAct}
 use Rattle.till_words.specs.declared.words.TillAct.TheVariants as typed
 use Rattle.till_cashier.specs.declared.word.Plan.{Plan}
 use Rattle.till_cashier.specs.declared.word.Plan.TheVariants as plan
+use Rattle.till_cashier.specs.Again.{AreLeftIn, GivesLeft}
+use Rattle.till_cashier.specs.Faults.{SaysFault}
 use Rattle.till_cashier.specs.Following.{AddsWaited}
 use Rattle.till_cashier.specs.Listing.{OfBook, OfEach, ShowsEntries, ShowsLast, ShowsSent, ShowsWaiting}
 use Rattle.till_cashier.specs.Office.{AnswersInTurn, HasAnswered}
 use Rattle.till_cashier.specs.Saying.{SaysOfficeAnswer, ended, status_of}
 use Rattle.till_cashier.specs.Today.{SaysToday}
+use Rattle.till_cashier.specs.Word.{IsPlaceOf}
 
 -- ---- head office's words that were entered
 
@@ -33,17 +36,21 @@ pub record SaysTurn (json : Bool) (answer : Answer) (text : Text) (status : ℕ)
   pub whole : text ≡ behind ++ more
   pub done : status ≡ status_of answer.status
 
--- The words were entered in turn, and the reply to the last of their entries is printed. Or the status isn't 0, as of a usage or a fault.
+-- The words were entered in turn, and the reply to the last of their entries is printed, also if it refuses. Or it says a fault, or with status 2 how the words
+-- are used.
 abbrev pub SaysInTurn : (List ℕ → Answer → Type 0) → Text → Text → Bool → List Text → Place → State → Place → State → Text → ℕ → Type 0
 SaysInTurn Exchanged mark token json words before old after new text status =
-    (0 < status) ⊎ ((answer : Answer) × AnswersInTurn Exchanged mark token words answer before old after new × SaysTurn json answer text status)
+    (status ≡ 2)
+    ⊎ (SaysFault text status
+    ⊎ ((answer : Answer) × AnswersInTurn Exchanged mark token words answer before old after new × SaysTurn json answer text status))
 
 -- so of a book
 abbrev pub SaysEntered : (List ℕ → Answer → Type 0) → Text → Text → Bool → List Text → State → State → Text → ℕ → Type 0
 SaysEntered Exchanged mark token json words old new text status =
-    (0 < status)
+    (status ≡ 2)
+    ⊎ (SaysFault text status
     ⊎ ((answer : Answer) × OfEach old (λ journal. (place : Place) × HasAnswered Exchanged mark token words answer place new journal)
-    × SaysTurn json answer text status)
+    × SaysTurn json answer text status))
 
 -- ---- acts that were given once more
 
@@ -67,19 +74,22 @@ pub record ShowsAgain (Exchanged : List ℕ → Answer → Type 0) (wall : TimeZ
   pub shows : ShowsEntries wall offset own [] (length old.replies) journal table
   pub more : AddsMore table text status
 
--- the book stays and there is nothing to enter, or what was sent and entered is shown
-abbrev pub SaysAgain : (List ℕ → Answer → Type 0) → TimeZone → ℤ → Option ℕ → Text → Place → State → Place → State → Text → ℕ → Type 0
-SaysAgain Exchanged wall offset own mark before old after new text status =
-    (Stays old new × SaysNothing text status)
-    ⊎ ((journal : Journal) (commands : List Command) → IsAt mark before old journal commands
-    → ShowsAgain Exchanged wall offset own mark after new journal text status)
+-- The book stays and there is nothing to enter, or what was sent and entered is shown. With status 0 nothing is left: all that was refused for its moment,
+-- and not repeated, was given.
+abbrev pub SaysAgain : (List ℕ → Answer → Type 0) → (ℕ → Type 0) → TimeZone → ℤ → Option ℕ → Text → Text → Place → State → Place → State → Text → ℕ → Type 0
+SaysAgain Exchanged shows wall offset own mark token before old after new text status =
+    (Stays old new × SaysNothing text status × (status ≡ 0 → AreLeftIn old []))
+    ⊎ ((status ≡ 0 → GivesLeft Exchanged shows mark token own before old after new)
+    × ((journal : Journal) (commands : List Command) → IsAt mark before old journal commands
+    → ShowsAgain Exchanged wall offset own mark after new journal text status))
 
 -- so of a book
-abbrev pub RepeatsSaying : (List ℕ → Answer → Type 0) → TimeZone → ℤ → Option ℕ → Text → State → State → Text → ℕ → Type 0
-RepeatsSaying Exchanged wall offset own mark old new text status =
-    (Stays old new × SaysNothing text status)
-    ⊎ ((journal : Journal) (commands : List Command) → Rests old journal → IsTillsBook mark journal commands
-    → (place : Place) × ShowsAgain Exchanged wall offset own mark place new journal text status)
+abbrev pub RepeatsSaying : (List ℕ → Answer → Type 0) → (ℕ → Type 0) → TimeZone → ℤ → Option ℕ → Text → Text → State → State → Text → ℕ → Type 0
+RepeatsSaying Exchanged shows wall offset own mark token old new text status =
+    (Stays old new × SaysNothing text status × (status ≡ 0 → AreLeftIn old []))
+    ⊎ ((status ≡ 0 → (before after : Place) × IsPlaceOf before old × GivesLeft Exchanged shows mark token own before old after new)
+    × ((journal : Journal) (commands : List Command) → Rests old journal → IsTillsBook mark journal commands
+    → (place : Place) × ShowsAgain Exchanged wall offset own mark place new journal text status))
 
 -- ---- slips
 
@@ -118,7 +128,7 @@ ShowsPlan Exchanged shows wall offset own mark token json (plan.Day asked) befor
 ShowsPlan Exchanged shows wall offset own mark token json (plan.Today date) before old after new text status =
     (status ≡ 0) × SaysToday shows wall offset text
 ShowsPlan Exchanged shows wall offset own mark token json (plan.Again late) before old after new text status =
-    SaysAgain Exchanged wall offset own mark before old after new text status
+    SaysAgain Exchanged shows wall offset own mark token before old after new text status
 ShowsPlan Exchanged shows wall offset own mark token json plan.Slip before old after new text status = SaysSlip text status
 ShowsPlan Exchanged shows wall offset own mark token json plan.Usage before old after new text status = ⊤
 
@@ -141,7 +151,7 @@ ShowsWord Exchanged shows wall offset own mark token json (typed.Last count) old
 ShowsWord Exchanged shows wall offset own mark token json (typed.Day asked) old new text status = ⊤
 ShowsWord Exchanged shows wall offset own mark token json (typed.Today date) old new text status = (status ≡ 0) × SaysToday shows wall offset text
 ShowsWord Exchanged shows wall offset own mark token json (typed.Again late) old new text status =
-    RepeatsSaying Exchanged wall offset own mark old new text status
+    RepeatsSaying Exchanged shows wall offset own mark token old new text status
 ShowsWord Exchanged shows wall offset own mark token json typed.Slip old new text status = SaysSlip text status
 ShowsWord Exchanged shows wall offset own mark token json typed.Help old new text status = ⊤
 ShowsWord Exchanged shows wall offset own mark token json (typed.Zone name) old new text status = ⊤

@@ -1,6 +1,6 @@
 //! What was refused because the branch had a later moment is given once more.
 
-ghost use Rattle.std.specs.Prelude.{◌≡◌, ◌<◌, ◌≤◌, ℕ, false, None, Some, Err, length, IfOk, OnOk, string_bytes};
+ghost use Rattle.std.specs.Prelude.{◌≡◌, ◌<◌, ◌≤◌, [], ℕ, false, None, Some, Err, length, IfOk, OnOk, string_bytes};
 ghost use Rattle.sqlite.specs.Held.{state};
 ghost use Rattle.sqlite.specs.State.{HasCleanDisk};
 ghost use Rattle.shop_types.specs.Seen.{seen_act};
@@ -149,7 +149,8 @@ fn stopped_said(alloc: Global, said: Said, fault: TillFault) -> Result<Said, Til
 
 /// Says what was left out, below the entries that were sent and entered.
 fn left_said(left: &str, table: Said) -> Result<Said, TillFault>
-    ensures { IfOk result (λ it. AddsMore (string_bytes table.text) (string_bytes it.text) it.status) }
+    ensures text { IfOk result (λ it. AddsMore (string_bytes table.text) (string_bytes it.text) it.status) }
+    ensures left { IfOk result (λ it. it.status ≡ 0 → left.now ≡ []) }
 {
     let mut said = table;
     if !left.is_empty() {
@@ -168,6 +169,7 @@ fn again_said(
 ) -> Result<Said, TillFault>
     ensures given { IfOk result (λ said. said.status < 3 → stopped ≡ None) }
     ensures text { IfOk result (λ it. AddsMore (string_bytes table.text) (string_bytes it.text) it.status) }
+    ensures left { IfOk result (λ it. it.status ≡ 0 → left.now ≡ []) }
 {
     let said = left_said(left, table)?;
     match stopped {
@@ -178,7 +180,8 @@ fn again_said(
 
 /// Says that nothing is to be given once more, or what was left out.
 fn nothing_said(alloc: Global, left: &str) -> Result<Said, TillFault>
-    ensures { IfOk result (λ said. SaysNothing (string_bytes said.text) said.status) }
+    ensures said { IfOk result (λ said. SaysNothing (string_bytes said.text) said.status) }
+    ensures left { IfOk result (λ said. said.status ≡ 0 → left.now ≡ []) }
 {
     let mut said = Said::done(alloc);
     if left.is_empty() {
@@ -216,8 +219,9 @@ pub(crate) fn again<S: Alter, K: WallClock, V: Server, L: Shelf, W: Watch>(
         (state S.Store conn.new) }
     ensures says { HasCleanDisk (state S.Store conn.new) → IfOk result (λ said. SaysAgain
         (IsExchanged (V.opens desk.now.server.now) V.Reader.remaining V.Writer.contents)
+        (local_clock (K.shows desk.now.clock.now) desk.now.settings.now.zone)
         desk.now.wall (offset_of desk.now.settings.now.zone) desk.now.settings.now.staff desk.now.settings.now.mark
-        book.old.place (state S.Store conn.old) book.new.place (state S.Store conn.new) (string_bytes said.text)
+        desk.now.settings.now.token book.old.place (state S.Store conn.old) book.new.place (state S.Store conn.new) (string_bytes said.text)
         said.status) }
     ensures crash { HasCleanDisk (state S.Store conn.new) → Leaves (HasPlace book.old.place (state S.Store conn.old))
         (IsTillsBook desk.now.settings.now.mark) (IsLater (IsExchanged (V.opens desk.now.server.now) V.Reader.remaining V.Writer.contents))

@@ -5,7 +5,7 @@ ghost use Rattle.sqlite.specs.Held.{state};
 ghost use Rattle.sqlite.specs.State.{HasCleanDisk};
 ghost use Rattle.till_book.specs.Steps.{Stays};
 ghost use Rattle.till_requests.specs.Zones.{offset_of};
-ghost use Rattle.till_cashier.specs.Asked.{IsSaidDay};
+ghost use Rattle.till_cashier.specs.Asked.{IsSaidDay, Grows};
 ghost use Rattle.till_cashier.specs.Clock.{local_clock};
 ghost use Rattle.till_cashier.specs.LastMoment.{TellsMoment};
 ghost use Rattle.till_cashier.specs.Today as spec;
@@ -16,6 +16,7 @@ use crate::clock::WallClock;
 use crate::desk::Desk;
 use crate::fault::TillFault;
 use crate::today::{dated, day_said, enters_acts};
+use http_messages::write_whole;
 use shop_types::Moment;
 use sqlite::{Alter, Connection};
 use std::io::Write;
@@ -58,11 +59,12 @@ fn ask_day<K: WallClock, V: Server, L: Shelf, W: Write>(
     desk: &Desk<'_, K, V, L>,
     out: &mut W,
 ) -> Result<i32, TillFault>
-    ensures { IfOk result (λ day. spec.IsDayOnWall
+    ensures day { IfOk result (λ day. spec.IsDayOnWall
         (local_clock (K.shows desk.now.clock.now) desk.now.settings.now.zone) desk.now.wall
         (offset_of desk.now.settings.now.zone) day) }
+    ensures grows { Grows (W.contents out.old) (W.contents out.new) }
 {
-    write!(out, "Today's date, as 2026-03-09: ")?;
+    write_whole(out, b"Today's date, as 2026-03-09: ")?;
     out.flush()?;
     match next_line(rt) {
         Some(line) => {
@@ -93,6 +95,7 @@ pub fn ask_before<S: Alter, K: WallClock, V: Server, L: Shelf, W: Write>(
         (local_clock (K.shows desk.now.clock.now) desk.now.settings.now.zone) desk.now.wall
         (offset_of desk.now.settings.now.zone) is_asked desk.now.settings.now.staff act.now desk.now.said_day
         asked.said_day) }
+    ensures grows { Grows (W.contents out.old) (W.contents out.new) }
 {
     let book = Book::read(desk.alloc, desk.routes, &desk.settings.mark, conn)?;
     let last = book.last;

@@ -187,7 +187,10 @@ impl<K: WallClock, V: Server, L: Shelf> Desk<'_, K, V, L> {
     }
 
     /// Asks once for something that changes nothing. While the line is down it fails at once.
-    pub(crate) fn ask_once(&self, request: &[u8]) -> Result<Answer, TillFault> {
+    pub(crate) fn ask_once(&self, request: &[u8]) -> Result<Answer, TillFault>
+        ensures { IfOk result (λ answer. IsAnswered (V.opens self.now.server.now) V.Reader.remaining V.Writer.contents
+            request.now (seen_answer answer)) }
+    {
         if self.line.is_down() {
             return Err(TillFault::Down);
         }

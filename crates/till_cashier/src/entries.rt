@@ -4,9 +4,11 @@ ghost use Rattle.std.specs.Prelude.{◌≡◌, ◌+◌, ℕ, List, true, false, 
 ghost use Rattle.sqlite.specs.Held.{state};
 ghost use Rattle.sqlite.specs.State.{HasCleanDisk};
 ghost use Rattle.shop_types.specs.Seen.{seen_command};
+ghost use Rattle.shop_model.specs.Refusals.{Decision, MomentBack};
 ghost use Rattle.shop_model.specs.Values.{Command as Said};
 ghost use Rattle.till_model.specs.Settled.{accepted_of, or_reply};
 ghost use Rattle.till_book.specs.Ends.{IsReadAfter};
+ghost use Rattle.till_book.specs.Marks.{is_reply_to};
 ghost use Rattle.till_book.specs.Saying.{Says};
 ghost use Rattle.till_book.specs.Seen.{seen_reply, seen_settlement};
 ghost use Rattle.till_book.specs.Steps.{Stays, FindsAtRest};
@@ -15,12 +17,11 @@ ghost use Rattle.till_cashier.specs.Giving.{IsBack};
 
 use crate::fault::TillFault;
 use counter_routes::Routes;
-use shop_types::{Command, Refusal};
+use shop_types::{Command, Refusal, Reply};
 use sqlite::{Alter, Connection};
 use std::alloc::Global;
 use till_book::{BookReply, BookRows, Settlement, read_after};
 use till_client::{NotSealed, command_of};
-use till_shows::refusal_in;
 
 /// The entries after a number, with their replies, as they were read. The first of them is at 0.
 #[derive(Drop)]
@@ -29,12 +30,20 @@ pub(crate) struct EntriesAfter {
     rows: BookRows,
 }
 
+/// Tests whether the reply is that another moment was later, byte for byte.
+fn is_moment_back(reply: &BookReply) -> bool
+    ensures { result ≡ is_reply_to (Decision MomentBack) (seen_reply reply.now) }
+{
+    let back = Reply::refused(Refusal::MomentBack);
+    reply.status == back.status && reply.body.as_slice() == back.body_bytes()
+}
+
 /// Tests whether the reply is that another moment was later.
 fn is_back(reply: &BookReply) -> bool
-    ensures { result ≡ true → IsBack (seen_reply reply.now) }
+    ensures back { result ≡ true → IsBack (seen_reply reply.now) }
+    ensures other { result ≡ false → ¬ IsBack (seen_reply reply.now) }
 {
-    let refusal = refusal_in(reply.status, reply.body.as_slice());
-    matches!(refusal, Some(Refusal::MomentBack))
+    is_moment_back(reply)
 }
 
 /// Returns the first settlement of that number that accepted its entry.
@@ -115,7 +124,8 @@ impl EntriesAfter {
 
     /// Tests whether the entry at that place was refused at first because the branch had a later moment.
     pub(crate) fn is_back_at(&self, at: usize) -> bool
-        ensures { result ≡ true → IsBackAt self.now.rows.replies at }
+        ensures back { result ≡ true → IsBackAt self.now.rows.replies at }
+        ensures other { result ≡ false → ¬ IsBackAt self.now.rows.replies at }
     {
         match self.rows.replies.as_slice().get(at) {
             Some(reply) => is_back(reply),

@@ -1,7 +1,7 @@
 //! What keeps the till from doing a word.
 
 ghost use Rattle.std.specs.Prelude.{◌≡◌, ◌<◌, ◌↔◌, IsTrue};
-ghost use Rattle.till_cashier.specs.Faults.{HasNoReply, told_fault};
+ghost use Rattle.till_cashier.specs.Faults.{HasNoReply, fault_status, fault_text, told_fault};
 
 use std::alloc::{AllocError, AllocFailed};
 use std::{fmt, io};
@@ -55,6 +55,8 @@ pub enum TillFault {
     Foreign,
     /// The till has no rental of that copy.
     NoRental,
+    /// The server says that no customer has that copy.
+    NotOut,
     /// A rent of that copy has no reply yet.
     RentWaits,
     /// The stock file can't be read.
@@ -95,10 +97,12 @@ impl TillFault {
     /// Returns the program's status for it: 1 if a word can't be done as it was said, 4 if it isn't answered yet, and 3
     /// for the till's own faults.
     pub fn status(self) -> u8
-        ensures { 0 < result }
+        ensures fails { 0 < result }
+        ensures status { result ≡ fault_status self }
     {
         match self {
             TillFault::NoRental
+            | TillFault::NotOut
             | TillFault::RentWaits
             | TillFault::NoFile
             | TillFault::TooLarge
@@ -148,7 +152,9 @@ impl TillFault {
     }
 
     /// Returns what it is, and what to do.
-    fn sentences(self) -> &'static str {
+    pub(crate) fn sentences(self) -> &'static str
+        ensures { result.now ≡ fault_text self }
+    {
         match self {
             TillFault::Book =>
                 "The book can't be read or written. See that its disk has room, and say the word again.",
@@ -190,6 +196,8 @@ impl TillFault {
                 "What came is no answer of the server's. See that the address is the server's.",
             TillFault::NoRental =>
                 "This till knows no rental of that copy. Say its number: return --rental NUMBER.",
+            TillFault::NotOut =>
+                "No customer has that copy, so nothing is returned. See its number.",
             TillFault::RentWaits =>
                 "The rent of that copy has no answer yet. Say send, and then this word again.",
             TillFault::NoFile => "The stock file can't be read. See that its name is right.",

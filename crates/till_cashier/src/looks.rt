@@ -6,6 +6,7 @@ ghost use Rattle.sqlite.specs.State.{HasCleanDisk};
 ghost use Rattle.shop_model.specs.Values.{OneView};
 ghost use Rattle.shop_types.specs.Seen.{seen_ask, seen_view};
 ghost use Rattle.till_book.specs.Steps.{Stays};
+ghost use Rattle.till_requests.specs.Zones.{offset_of};
 ghost use Rattle.till_client.specs.Replies.{seen_answer};
 ghost use Rattle.till_shows.specs.Sheets.{IsCustomerSheet};
 ghost use Rattle.till_cashier.specs.Asking.{IsAnswered, IsLookedUp};
@@ -13,6 +14,7 @@ ghost use Rattle.till_cashier.specs.Clock.{local_clock};
 ghost use Rattle.till_cashier.specs.Looking.{Adds, SaysLooked, status_with};
 ghost use Rattle.till_cashier.specs.Looking.{AddsCopies, AddsCustomer, AddsLook, AddsOwed, AddsRewards, AddsSales, AddsTitle, AddsView, age_text, none_text, table_or};
 ghost use Rattle.till_cashier.specs.Looking.{IsByPhone, IsListOf, IsNamed, PrintsLook, ShowsFound, ShowsLines, ShowsList, ShowsSales};
+ghost use Rattle.till_cashier.specs.Today.{IsOnWall};
 
 use crate::answers::{says_all, says_lines, says_list, says_sales, says_table};
 use crate::book::Book;
@@ -357,9 +359,10 @@ fn put_look<S: Alter, K: WallClock, V: Server, L: Shelf>(
     ensures ended { conn.new.in_transaction ≡ false }
     ensures clean { HasCleanDisk (state S.Store conn.new) → HasCleanDisk (state S.Store conn.old) }
     ensures stays { HasCleanDisk (state S.Store conn.new) → Stays (state S.Store conn.old) (state S.Store conn.new) }
-    ensures says { OnOk result (AddsView (IsLookedUp
+    ensures says { HasCleanDisk (state S.Store conn.new) → OnOk result (AddsView (IsLookedUp
         (IsAnswered (V.opens desk.now.server.now) V.Reader.remaining V.Writer.contents)
-        desk.now.settings.now.token)
+        desk.now.settings.now.token) (IsOnWall desk.now.wall (offset_of desk.now.settings.now.zone))
+        (state S.Store conn.old)
         (local_clock (K.shows desk.now.clock.now) desk.now.settings.now.zone) book.now.last desk.now.is_json desk.now.sheet.now look.now
         (string_bytes said.old.text)
         said.old.status (string_bytes said.new.text) said.new.status) }
@@ -392,9 +395,10 @@ pub(crate) fn look<S: Alter, K: WallClock, V: Server, L: Shelf>(
     ensures ended { conn.new.in_transaction ≡ false }
     ensures clean { HasCleanDisk (state S.Store conn.new) → HasCleanDisk (state S.Store conn.old) }
     ensures stays { HasCleanDisk (state S.Store conn.new) → Stays (state S.Store conn.old) (state S.Store conn.new) }
-    ensures says { IfOk result (λ said. PrintsLook
+    ensures says { HasCleanDisk (state S.Store conn.new) → IfOk result (λ said. PrintsLook
         (IsAnswered (V.opens desk.now.server.now) V.Reader.remaining V.Writer.contents)
-        desk.now.settings.now.token (local_clock (K.shows desk.now.clock.now) desk.now.settings.now.zone)
+        desk.now.settings.now.token (IsOnWall desk.now.wall (offset_of desk.now.settings.now.zone))
+        (state S.Store conn.old) (local_clock (K.shows desk.now.clock.now) desk.now.settings.now.zone)
         book.now.last desk.now.is_json desk.now.sheet.now look (string_bytes said.text) said.status) }
 {
     let mut said = Said::done(desk.alloc);

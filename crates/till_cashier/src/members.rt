@@ -1,5 +1,9 @@
 //! Members of the objects in the server's lists.
 
+ghost use Rattle.std.specs.Prelude.{◌≡◌, Some, IfSome, string_bytes};
+ghost use Rattle.serde_json.specs.View.{view};
+ghost use Rattle.till_shows.specs.Bodies.{text_at};
+
 use serde_json::Value;
 use std::alloc::Global;
 
@@ -9,8 +13,14 @@ pub(crate) fn number_at(row: &Value, name: &str) -> Option<u32> {
 }
 
 /// Returns a copy of the text of the object's member of that name, if it is a text.
-pub(crate) fn text_at(alloc: Global, row: &Value, name: &str) -> Option<String> {
-    String::from_str(alloc, row.get(name)?.as_str()?).ok()
+pub(crate) fn text_at(alloc: Global, row: &Value, name: &str) -> Option<String>
+    ensures { IfSome result (λ text. text_at name.now (view row.now) ≡ Some (string_bytes text)) }
+{
+    let text = row.get(name)?.as_str()?;
+    match String::from_str(alloc, text) {
+        Ok(text) => Some(text),
+        Err(_) => None,
+    }
 }
 
 /// Returns the first object of the list whose member of that name is the number.

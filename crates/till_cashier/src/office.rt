@@ -13,7 +13,7 @@ ghost use Rattle.till_work.specs.Exchanged.{IsExchanged};
 ghost use Rattle.till_work.specs.Desk.{Grows, HasPlace, Sends};
 ghost use Rattle.till_work.specs.Stops.{IsAny, IsLater, IsSettledAfter, Leaves};
 ghost use Rattle.till_cashier.specs.Asking.{IsAnswered};
-ghost use Rattle.till_cashier.specs.Faults.{IsBookKept};
+ghost use Rattle.till_cashier.specs.Faults.{IsBookKept, SaysFault};
 ghost use Rattle.till_cashier.specs.Office.{AddsInTurn, AnswersInTurn, GivesOne, GrowsInTurn, GrowsUsed, HasTurn, SaysUnder, open_key};
 ghost use Rattle.till_cashier.specs.Printing.{SaysReading};
 ghost use Rattle.till_cashier.specs.Showing.{SaysInTurn, SaysTurn};
@@ -298,13 +298,13 @@ fn fault_told<K: WallClock, V: Server, L: Shelf>(
     more: &Said,
 ) -> Result<Said, TillFault>
     ensures book { fault ≡ TillFault.Book → result ≡ Err TillFault.Book }
-    ensures status { IfOk result (λ said. 0 < said.status) }
+    ensures said { IfOk result (λ said. SaysFault (string_bytes said.text) said.status) }
 {
     if fault == TillFault::Book || more.text.as_str().is_empty() {
         return Err(fault);
     }
-    let alloc = desk.alloc;
-    let text = format!(in alloc; "{fault}\n{}", more.text)?;
+    let (alloc, line) = (desk.alloc, fault.sentences());
+    let text = format!(in alloc; "{line}\n{}", more.text)?;
     Ok(Said {
         text,
         status: fault.status(),

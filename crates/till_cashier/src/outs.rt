@@ -1,5 +1,12 @@
 //! The copies of films that are out, and who has them.
 
+ghost use Rattle.std.specs.Prelude.{◌≡◌, ◌++◌, ◌∷◌, [], IfNone, IfSome, Some};
+ghost use Rattle.std.specs.List.{All};
+ghost use Rattle.shop_types.specs.Seen.{seen_ask};
+ghost use Rattle.till_client.specs.Replies.{seen_answer};
+ghost use Rattle.till_cashier.specs.Asking.{IsAnswered, IsLookedUp};
+ghost use Rattle.till_cashier.specs.Late.{IsOutOf};
+
 use crate::caches::Shelf;
 use crate::clock::WallClock;
 use crate::desk::Desk;
@@ -51,7 +58,12 @@ fn read_lists<K: WallClock, V: Server, L: Shelf>(desk: &Desk<'_, K, V, L>) -> Op
 }
 
 /// Asks the server once, and returns its answer if that isn't a refusal.
-fn asked<K: WallClock, V: Server, L: Shelf>(desk: &Desk<'_, K, V, L>, ask: &Ask) -> Option<Answer> {
+fn asked<K: WallClock, V: Server, L: Shelf>(desk: &Desk<'_, K, V, L>, ask: &Ask) -> Option<Answer>
+    ensures asked { IfSome result (λ answer. IsLookedUp
+        (IsAnswered (V.opens desk.now.server.now) V.Reader.remaining V.Writer.contents)
+        desk.now.settings.now.token (seen_ask ask.now) (seen_answer answer)) }
+    ensures accepted { IfSome result (λ answer. answer.status ≡ 200) }
+{
     let request = look_request(desk.alloc, desk.routes, &desk.settings.token, ask).ok()?;
     let answer = desk.ask_once(request.as_slice()).ok()?;
     if answer.status == 200 {
@@ -67,7 +79,11 @@ fn out_of<K: WallClock, V: Server, L: Shelf>(
     lists: &Lists,
     title: &str,
     copy: CopyNo,
-) -> Option<Out> {
+) -> Option<Out>
+    ensures { IfSome result (IsOutOf (IsLookedUp
+        (IsAnswered (V.opens desk.now.server.now) V.Reader.remaining V.Writer.contents)
+        desk.now.settings.now.token)) }
+{
     let answer = asked(desk, &Ask::HeldBy(copy))?;
     let customer = holder(desk.alloc, answer.body.as_slice()).ok()??;
     let row = row_with(&lists.customers, "id", customer.get())?;
@@ -80,6 +96,29 @@ fn out_of<K: WallClock, V: Server, L: Shelf>(
     })
 }
 
+/// Adds a copy after the others. If there is no memory, the others stay.
+fn add_out(outs: &mut Vec<Out>, out: Out) -> Option<()>
+    ensures added { IfSome result (λ _. outs.new.items ≡ outs.old.items ++ out ∷ []) }
+    ensures same { IfNone result (outs.new.items ≡ outs.old.items) }
+{
+    match outs.push(out) {
+        Ok(()) => Some(()),
+        Err(_) => None,
+    }
+}
+
+/// Adds copies after the others. If there is no memory, the others stay.
+fn add_all(outs: &mut Vec<Out>, more: Vec<Out>) -> Option<()>
+    ensures added { IfSome result (λ _. outs.new.items ≡ outs.old.items ++ more.items) }
+    ensures same { IfNone result (outs.new.items ≡ outs.old.items) }
+{
+    let mut more = more;
+    match outs.append(&mut more) {
+        Ok(()) => Some(()),
+        Err(_) => None,
+    }
+}
+
 /// Adds the film's copies that are out.
 fn add_outs<K: WallClock, V: Server, L: Shelf>(
     desk: &Desk<'_, K, V, L>,
@@ -87,14 +126,44 @@ fn add_outs<K: WallClock, V: Server, L: Shelf>(
     title: &str,
     film: FilmNo,
     outs: &mut Vec<Out>,
-) -> Option<()> {
+) -> Option<()>
+    ensures { All (IsOutOf (IsLookedUp
+        (IsAnswered (V.opens desk.now.server.now) V.Reader.remaining V.Writer.contents)
+        desk.now.settings.now.token)) outs.old.items
+        → All (IsOutOf (IsLookedUp
+        (IsAnswered (V.opens desk.now.server.now) V.Reader.remaining V.Writer.contents)
+        desk.now.settings.now.token)) outs.new.items }
+{
     let answer = asked(desk, &Ask::FilmNotInStock(film))?;
     let body = Value::from_slice(desk.alloc, answer.body.as_slice()).ok()?;
     for number in body.get("copies")?.as_array()?.as_slice() {
         let copy = CopyNo::new(u32::try_from(number.as_u64()?).ok()?)?;
-        outs.push(out_of(desk, lists, title, copy)?).ok()?;
+        let out = out_of(desk, lists, title, copy)?;
+        add_out(outs, out)?;
     }
     Some(())
+}
+
+/// Adds the film's copies that are out, if the film has that title.
+fn add_film<K: WallClock, V: Server, L: Shelf>(
+    desk: &Desk<'_, K, V, L>,
+    lists: &Lists,
+    title: &str,
+    film: &Value,
+    outs: &mut Vec<Out>,
+) -> Option<()>
+    ensures { All (IsOutOf (IsLookedUp
+        (IsAnswered (V.opens desk.now.server.now) V.Reader.remaining V.Writer.contents)
+        desk.now.settings.now.token)) outs.old.items
+        → All (IsOutOf (IsLookedUp
+        (IsAnswered (V.opens desk.now.server.now) V.Reader.remaining V.Writer.contents)
+        desk.now.settings.now.token)) outs.new.items }
+{
+    if film.get("title")?.as_str()? != title {
+        return Some(());
+    }
+    let film = FilmNo::new(number_at(film, "film")?)?;
+    add_outs(desk, lists, title, film, outs)
 }
 
 /// Returns the copies that are out of all films with that title. Returns none if the server or a list doesn't say all.
@@ -102,15 +171,36 @@ fn outs_of_title<K: WallClock, V: Server, L: Shelf>(
     desk: &Desk<'_, K, V, L>,
     lists: &Lists,
     title: &str,
-) -> Option<Vec<Out>> {
+) -> Option<Vec<Out>>
+    ensures { IfSome result (λ outs. All (IsOutOf (IsLookedUp
+        (IsAnswered (V.opens desk.now.server.now) V.Reader.remaining V.Writer.contents)
+        desk.now.settings.now.token)) outs.items) }
+{
     let mut outs = Vec::new(desk.alloc);
     for film in lists.films.as_array()?.as_slice() {
-        if film.get("title")?.as_str()? == title {
-            let film = FilmNo::new(number_at(film, "film")?)?;
-            add_outs(desk, lists, title, film, &mut outs)?;
-        }
+        add_film(desk, lists, title, film, &mut outs)?;
     }
     Some(outs)
+}
+
+/// Adds the copies that are out of the films with that title, if the server and the lists say all.
+fn add_title<K: WallClock, V: Server, L: Shelf>(
+    desk: &Desk<'_, K, V, L>,
+    lists: &Lists,
+    title: &str,
+    outs: &mut Vec<Out>,
+) -> Option<()>
+    ensures { All (IsOutOf (IsLookedUp
+        (IsAnswered (V.opens desk.now.server.now) V.Reader.remaining V.Writer.contents)
+        desk.now.settings.now.token)) outs.old.items
+        → All (IsOutOf (IsLookedUp
+        (IsAnswered (V.opens desk.now.server.now) V.Reader.remaining V.Writer.contents)
+        desk.now.settings.now.token)) outs.new.items }
+{
+    match outs_of_title(desk, lists, title) {
+        Some(more) => add_all(outs, more),
+        None => Some(()),
+    }
 }
 
 /// Tests whether the server was asked for long enough.
@@ -126,16 +216,21 @@ fn add_titles<K: WallClock, V: Server, L: Shelf>(
     desk: &Desk<'_, K, V, L>,
     titles: &[&str],
     outs: &mut Vec<Out>,
-) -> Option<()> {
+) -> Option<()>
+    ensures { All (IsOutOf (IsLookedUp
+        (IsAnswered (V.opens desk.now.server.now) V.Reader.remaining V.Writer.contents)
+        desk.now.settings.now.token)) outs.old.items
+        → All (IsOutOf (IsLookedUp
+        (IsAnswered (V.opens desk.now.server.now) V.Reader.remaining V.Writer.contents)
+        desk.now.settings.now.token)) outs.new.items }
+{
     let begun = desk.seconds().ok()?;
     let lists = read_lists(desk)?;
     for title in titles {
         if is_over(desk, begun) {
             return Some(());
         }
-        if let Some(more) = outs_of_title(desk, &lists, *title) {
-            outs.extend(more).ok()?;
-        }
+        add_title(desk, &lists, *title, outs)?;
     }
     Some(())
 }
@@ -145,7 +240,11 @@ fn add_titles<K: WallClock, V: Server, L: Shelf>(
 pub(crate) fn outs_of<K: WallClock, V: Server, L: Shelf>(
     desk: &Desk<'_, K, V, L>,
     titles: &[&str],
-) -> Vec<Out> {
+) -> Vec<Out>
+    ensures { All (IsOutOf (IsLookedUp
+        (IsAnswered (V.opens desk.now.server.now) V.Reader.remaining V.Writer.contents)
+        desk.now.settings.now.token)) result.items }
+{
     let mut outs = Vec::new(desk.alloc);
     let _ = add_titles(desk, titles, &mut outs);
     outs

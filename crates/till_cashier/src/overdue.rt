@@ -1,12 +1,18 @@
 //! What is overdue, with the numbers of the copies, and of the rentals that the book or the sheet knows.
 
-ghost use Rattle.std.specs.Prelude.{◌≡◌, false, OnOk, string_bytes};
+ghost use Rattle.std.specs.Prelude.{◌≡◌, ◌⊎◌, ◌∷◌, ◌++◌, [], ℕ, List, Some, false, map, slice_get, IfOk, IfSome, OnOk, option_and_then, option_map, string_bytes};
+ghost use Rattle.std.specs.List.{All, Contains};
+ghost use Rattle.serde_json.specs.View.{view};
 ghost use Rattle.sqlite.specs.Held.{state};
 ghost use Rattle.sqlite.specs.State.{HasCleanDisk};
 ghost use Rattle.till_book.specs.Steps.{Stays};
+ghost use Rattle.till_shows.specs.Bodies.{each, rows_in};
 ghost use Rattle.till_cashier.specs.Asking.{IsAnswered, IsLookedUp};
 ghost use Rattle.till_cashier.specs.Clock.{local_clock};
+ghost use Rattle.till_cashier.specs.Late.{IsKnown, IsLateRow, IsOutOf, IsRentalOf, TablesLate, held_by, late_of, lates_in, number_text, seen_late};
+ghost use Rattle.till_cashier.specs.Listing.{with_row};
 ghost use Rattle.till_cashier.specs.Looking.{AddsLate};
+ghost use Rattle.till_cashier.specs.Returns.{IsOnSheet};
 
 use crate::answers::{says_all, says_list, says_table};
 use crate::caches::Shelf;
@@ -18,7 +24,7 @@ use crate::members::text_at;
 use crate::outs::{Out, outs_of};
 use crate::returns::held_at;
 use crate::said::Said;
-use crate::sheet::row_of;
+use crate::sheet::rental_of;
 use serde_json::Value;
 use shop_types::{Ask, CopyNo, CustomerNo, RentalNo};
 use sqlite::{Alter, Connection};
@@ -63,19 +69,48 @@ struct Late {
     title: String,
 }
 
-/// Returns the rentals in the body of `GET /overdue/{at}`.
-fn lates_in(alloc: Global, body: &[u8]) -> Option<Vec<Late>> {
-    let list = Value::from_slice(alloc, body).ok()?;
+/// Returns the rental that the object is.
+fn late_at(alloc: Global, row: &Value) -> Option<Late>
+    ensures { IfSome result (λ late. late_of (view row.now) ≡ Some (seen_late late)) }
+{
+    Some(Late {
+        customer: text_at(alloc, row, "customer")?,
+        phone: text_at(alloc, row, "phone")?,
+        title: text_at(alloc, row, "title")?,
+    })
+}
+
+/// Returns the rentals that the objects are.
+fn lates_of(alloc: Global, rows: &[Value]) -> Option<Vec<Late>>
+    ensures { IfSome result (λ lates. each late_of (map view rows.now) ≡ Some (map seen_late lates.items)) }
+{
     let mut lates = Vec::new(alloc);
-    for row in list.as_array()?.as_slice() {
-        let late = Late {
-            customer: text_at(alloc, row, "customer")?,
-            phone: text_at(alloc, row, "phone")?,
-            title: text_at(alloc, row, "title")?,
+    for row in rows {
+        let late = late_at(alloc, row)?;
+        let Ok(()) = lates.push(late) else {
+            return None;
         };
-        lates.push(late).ok()?;
     }
     Some(lates)
+}
+
+/// Returns the rentals of a list.
+fn lates_at(alloc: Global, value: &Value) -> Option<Vec<Late>>
+    ensures { IfSome result (λ lates. option_and_then (each late_of) (rows_in (view value.now))
+        ≡ Some (map seen_late lates.items)) }
+{
+    let list = value.as_array()?;
+    lates_of(alloc, list.as_slice())
+}
+
+/// Returns the rentals in the body of `GET /overdue/{at}`.
+fn lates_in(alloc: Global, body: &[u8]) -> Option<Vec<Late>>
+    ensures { IfSome result (λ lates. lates_in body.now ≡ Some (map seen_late lates.items)) }
+{
+    match Value::from_slice(alloc, body) {
+        Ok(value) => lates_at(alloc, &value),
+        Err(_) => None,
+    }
 }
 
 /// Returns the titles, each once.
@@ -136,7 +171,9 @@ fn count_outs(outs: &[Out], late: &Late) -> usize {
 }
 
 /// Returns the copy of that place, counted from 0, among those that may be the rental's.
-fn nth_out<'o>(outs: &'o [Out], late: &Late, place: usize) -> Option<&'o Out> {
+fn nth_out<'o>(outs: &'o [Out], late: &Late, place: usize) -> Option<&'o Out>
+    ensures { IfSome result (λ out. Contains outs.now out.now) }
+{
     let mut before = place;
     for out in outs {
         if may_be_of(out, late) {
@@ -151,12 +188,38 @@ fn nth_out<'o>(outs: &'o [Out], late: &Late, place: usize) -> Option<&'o Out> {
 
 /// Returns the copy of the rental at that place. It is known if as many copies may be the rental's as rentals are listed
 /// alike. Otherwise one of the copies isn't overdue, or one isn't known.
-fn out_at<'o>(lates: &[Late], outs: &'o [Out], at: usize) -> Option<&'o Out> {
+fn out_at<'o>(lates: &[Late], outs: &'o [Out], at: usize) -> Option<&'o Out>
+    ensures { IfSome result (λ out. Contains outs.now out.now) }
+{
     let late = lates.get(at)?;
     if count_alike(lates, late) != count_outs(outs, late) {
         return None;
     }
     nth_out(outs, late, count_alike(lates.get(..at)?, late))
+}
+
+/// Returns the rental that the register has, if it is the customer's.
+fn rental_held(held: Option<HeldRental>, customer: CustomerNo) -> Option<RentalNo>
+    ensures { IfSome result (λ rental. held ≡ Some (held_by rental customer)) }
+{
+    match held {
+        Some(held) if held.customer.get() == customer.get() => Some(held.rental),
+        Some(_) | None => None,
+    }
+}
+
+/// Returns the rental that the sheet has of the copy, if it is the customer's.
+fn rental_written<K: WallClock, V: Server, L: Shelf>(
+    desk: &Desk<'_, K, V, L>,
+    copy: CopyNo,
+    customer: CustomerNo,
+) -> Option<RentalNo>
+    ensures { IfSome result (λ rental. IsOnSheet desk.now.sheet.now copy (held_by rental customer)) }
+{
+    match rental_of(desk, copy, customer) {
+        Ok(held) => Some(held.rental),
+        Err(_) => None,
+    }
 }
 
 /// Returns the rental of a copy that the customer has: the register's, or else the sheet's, if it is that customer's.
@@ -165,40 +228,37 @@ fn rental_by<K: WallClock, V: Server, L: Shelf>(
     held: Option<HeldRental>,
     copy: CopyNo,
     customer: CustomerNo,
-) -> Option<RentalNo> {
-    if let Some(held) = held {
-        if held.customer.get() == customer.get() {
-            return Some(held.rental);
-        }
-    }
-    let row = row_of(desk, copy)?;
-    if row.customer?.get() == customer.get() {
-        row.rental
-    } else {
-        None
+) -> Option<RentalNo>
+    ensures { IfSome result (λ rental. (held ≡ Some (held_by rental customer))
+        ⊎ IsOnSheet desk.now.sheet.now copy (held_by rental customer)) }
+{
+    match rental_held(held, customer) {
+        Some(rental) => Some(rental),
+        None => rental_written(desk, copy, customer),
     }
 }
 
 /// Returns the rental of a copy that is out, if the register or the sheet knows it. The book stays.
-fn rental_of<S: Alter, K: WallClock, V: Server, L: Shelf>(
+fn rental_of_out<S: Alter, K: WallClock, V: Server, L: Shelf>(
     desk: &Desk<'_, K, V, L>,
     conn: &mut Connection<S>,
-    out: &Option<&Out>,
+    out: &Out,
 ) -> Result<Option<RentalNo>, TillFault>
     requires { conn.old.in_transaction ≡ false }
     ensures ended { conn.new.in_transaction ≡ false }
     ensures clean { HasCleanDisk (state S.Store conn.new) → HasCleanDisk (state S.Store conn.old) }
     ensures stays { HasCleanDisk (state S.Store conn.new) → Stays (state S.Store conn.old) (state S.Store conn.new) }
+    ensures known { HasCleanDisk (state S.Store conn.new) → IfOk result (λ rental. IfSome rental
+        (IsRentalOf (state S.Store conn.old) desk.now.sheet.now out.now.copy out.now.customer)) }
 {
-    let Some(out) = out else {
-        return Ok(None);
-    };
     let held = held_at(conn, out.copy)?;
     Ok(rental_by(desk, held, out.copy, out.customer))
 }
 
 /// Returns the number as a text, or an empty text.
-fn number_text(alloc: Global, number: Option<u32>) -> Result<String, AllocError> {
+fn number_text(alloc: Global, number: Option<u32>) -> Result<String, AllocError>
+    ensures { IfOk result (λ text. string_bytes text ≡ number_text number) }
+{
     match number {
         Some(number) => format!(in alloc; "{number}"),
         None => Ok(String::new(alloc)),
@@ -209,17 +269,11 @@ fn number_text(alloc: Global, number: Option<u32>) -> Result<String, AllocError>
 fn row_text(
     alloc: Global,
     late: &Late,
-    out: Option<&Out>,
-    rental: Option<RentalNo>,
-) -> Result<Row, AllocError> {
-    let copy = match out {
-        Some(out) => Some(out.copy.get()),
-        None => None,
-    };
-    let rental = match rental {
-        Some(rental) => Some(rental.get()),
-        None => None,
-    };
+    copy: Option<u32>,
+    rental: Option<u32>,
+) -> Result<Row, AllocError>
+    ensures { IfOk result (λ row. row ≡ seen_late late.now ++ number_text copy ∷ number_text rental ∷ []) }
+{
     let mut row = Row::new(alloc);
     row.push(late.customer.clone()?)?;
     row.push(late.phone.clone()?)?;
@@ -229,26 +283,67 @@ fn row_text(
     Ok(row)
 }
 
-/// Adds a row for the rental at that place. The book stays.
+/// The numbers of a rental that are known.
+#[derive(Clone, Copy)]
+struct Known {
+    copy: Option<u32>,
+    rental: Option<u32>,
+}
+
+/// Returns the numbers of the copy that is out, and of its rental, if they are known. The book stays.
+fn known_of<S: Alter, K: WallClock, V: Server, L: Shelf>(
+    desk: &Desk<'_, K, V, L>,
+    conn: &mut Connection<S>,
+    out: Option<&Out>,
+) -> Result<Known, TillFault>
+    requires { conn.old.in_transaction ≡ false }
+    ensures ended { conn.new.in_transaction ≡ false }
+    ensures clean { HasCleanDisk (state S.Store conn.new) → HasCleanDisk (state S.Store conn.old) }
+    ensures stays { HasCleanDisk (state S.Store conn.new) → Stays (state S.Store conn.old) (state S.Store conn.new) }
+    ensures known { HasCleanDisk (state S.Store conn.new) → IfSome out.entry (λ out. IsOutOf (IsLookedUp
+        (IsAnswered (V.opens desk.now.server.now) V.Reader.remaining V.Writer.contents)
+        desk.now.settings.now.token) out.now)
+        → IfOk result (λ it. IsKnown (IsLookedUp
+        (IsAnswered (V.opens desk.now.server.now) V.Reader.remaining V.Writer.contents)
+        desk.now.settings.now.token) (state S.Store conn.old) desk.now.sheet.now it.copy it.rental) }
+{
+    let Some(out) = out else {
+        return Ok(Known {
+            copy: None,
+            rental: None,
+        });
+    };
+    let rental = match rental_of_out(desk, conn, out)? {
+        Some(rental) => Some(rental.get()),
+        None => None,
+    };
+    let copy = Some(out.copy.get());
+    Ok(Known { copy, rental })
+}
+
+/// Adds a row for the rental. The book stays.
 fn add_late<S: Alter, K: WallClock, V: Server, L: Shelf>(
     desk: &Desk<'_, K, V, L>,
     conn: &mut Connection<S>,
-    lates: &[Late],
-    outs: &[Out],
-    at: usize,
+    late: &Late,
+    out: Option<&Out>,
     table: &mut Table,
 ) -> Result<(), TillFault>
     requires { conn.old.in_transaction ≡ false }
     ensures ended { conn.new.in_transaction ≡ false }
     ensures clean { HasCleanDisk (state S.Store conn.new) → HasCleanDisk (state S.Store conn.old) }
     ensures stays { HasCleanDisk (state S.Store conn.new) → Stays (state S.Store conn.old) (state S.Store conn.new) }
+    ensures added { HasCleanDisk (state S.Store conn.new) → IfSome out.entry (λ out. IsOutOf (IsLookedUp
+        (IsAnswered (V.opens desk.now.server.now) V.Reader.remaining V.Writer.contents)
+        desk.now.settings.now.token) out.now)
+        → OnOk result ((row : List (List ℕ)) × IsLateRow (IsLookedUp
+        (IsAnswered (V.opens desk.now.server.now) V.Reader.remaining V.Writer.contents)
+        desk.now.settings.now.token) (state S.Store conn.old) desk.now.sheet.now
+        (seen_late late.now) row × (table.new ≡ with_row row table.old)) }
 {
-    let Some(late) = lates.get(at) else {
-        return Ok(());
-    };
-    let out = out_at(lates, outs, at);
-    let rental = rental_of(desk, conn, &out)?;
-    table.add(row_text(desk.alloc, late, out, rental)?)?;
+    let Known { copy, rental } = known_of(desk, conn, out)?;
+    let row = row_text(desk.alloc, late, copy, rental)?;
+    table.add(row)?;
     Ok(())
 }
 
@@ -263,10 +358,17 @@ fn table_of<S: Alter, K: WallClock, V: Server, L: Shelf>(
     ensures ended { conn.new.in_transaction ≡ false }
     ensures clean { HasCleanDisk (state S.Store conn.new) → HasCleanDisk (state S.Store conn.old) }
     ensures stays { HasCleanDisk (state S.Store conn.new) → Stays (state S.Store conn.old) (state S.Store conn.new) }
+    ensures rows { HasCleanDisk (state S.Store conn.new) → All (IsOutOf (IsLookedUp
+        (IsAnswered (V.opens desk.now.server.now) V.Reader.remaining V.Writer.contents)
+        desk.now.settings.now.token)) outs.now
+        → IfOk result (TablesLate (IsLookedUp
+        (IsAnswered (V.opens desk.now.server.now) V.Reader.remaining V.Writer.contents)
+        desk.now.settings.now.token) (state S.Store conn.old) desk.now.sheet.now (map seen_late lates.now)) }
 {
     let mut table = Table::new(desk.alloc, &COLUMNS)?;
     'lates: for at in 0..lates.len() {
-        match add_late(desk, conn, lates, outs, at, &mut table) {
+        let out = out_at(lates, outs, at);
+        match add_late(desk, conn, &lates[at], out, &mut table) {
             Ok(()) => continue,
             Err(fault) => return Err(fault),
         }
@@ -285,9 +387,9 @@ pub(crate) fn overdue<S: Alter, K: WallClock, V: Server, L: Shelf>(
     ensures ended { conn.new.in_transaction ≡ false }
     ensures clean { HasCleanDisk (state S.Store conn.new) → HasCleanDisk (state S.Store conn.old) }
     ensures stays { HasCleanDisk (state S.Store conn.new) → Stays (state S.Store conn.old) (state S.Store conn.new) }
-    ensures says { OnOk result (AddsLate (IsLookedUp
+    ensures says { HasCleanDisk (state S.Store conn.new) → OnOk result (AddsLate (IsLookedUp
         (IsAnswered (V.opens desk.now.server.now) V.Reader.remaining V.Writer.contents)
-        desk.now.settings.now.token)
+        desk.now.settings.now.token) (state S.Store conn.old) desk.now.sheet.now
         (local_clock (K.shows desk.now.clock.now) desk.now.settings.now.zone) desk.now.is_json
         (string_bytes said.old.text)
         said.old.status (string_bytes said.new.text) said.new.status) }

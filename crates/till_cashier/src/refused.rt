@@ -1,8 +1,9 @@
 //! The entries that were refused because the branch had a later moment, and weren't repeated yet.
 
-ghost use Rattle.std.specs.Prelude.{◌≡◌, [], ◌∷◌, ◌++◌, IfOk, OnOk};
+ghost use Rattle.std.specs.Prelude.{◌≡◌, ◌≢◌, [], ◌∷◌, ◌++◌, true, length, IfOk, OnOk, string_bytes};
 ghost use Rattle.std.specs.List.{All};
-ghost use Rattle.till_cashier.specs.Again.{IsBackAt, IsRefused};
+ghost use Rattle.shop_types.specs.Seen.{seen_command};
+ghost use Rattle.till_cashier.specs.Again.{AddsLeft, AreLeft, IsBackAt, IsRefused, IsRepeated};
 
 use crate::caches::Shelf;
 use crate::clock::WallClock;
@@ -36,7 +37,9 @@ fn is_repeated<K: WallClock, V: Server, L: Shelf>(
     entries: &EntriesAfter,
     at: usize,
     command: &Command,
-) -> Result<bool, TillFault> {
+) -> Result<bool, TillFault>
+    ensures { IfOk result (λ is. is ≡ true → IsRepeated entries.now.rows.entries at (seen_command command.now)) }
+{
     for later in at.saturating_add(1)..entries.len() {
         let other = entries.command_at(desk.alloc, desk.routes, later)?;
         if other.staff == command.staff && is_same_act(&other.act, &command.act) {
@@ -61,7 +64,9 @@ fn leave_out<K: WallClock, V: Server, L: Shelf>(
     entries: &EntriesAfter,
     at: usize,
     left: &mut String,
-) -> Result<(), TillFault> {
+) -> Result<(), TillFault>
+    ensures { OnOk result (string_bytes left.new ≢ []) }
+{
     let (alloc, number) = (desk.alloc, entries.number_at(at));
     let what = asked_at(desk, entries, at)?;
     let line = format!(in alloc; "entry {number} ({what}) is of another day: again --late\n")?;
@@ -71,7 +76,8 @@ fn leave_out<K: WallClock, V: Server, L: Shelf>(
 
 /// Adds an act after the others.
 fn add_repeat(repeats: &mut Repeats, it: Repeat) -> Result<(), TillFault>
-    ensures { OnOk result (repeats.new.acts.items ≡ repeats.old.acts.items ++ it ∷ []) }
+    ensures acts { OnOk result (repeats.new.acts.items ≡ repeats.old.acts.items ++ it ∷ []) }
+    ensures left { repeats.new.left ≡ repeats.old.left }
 {
     repeats.acts.push(it)?;
     Ok(())
@@ -87,8 +93,10 @@ fn add_entry<K: WallClock, V: Server, L: Shelf>(
     repeats: &mut Repeats,
 ) -> Result<(), TillFault>
     requires { IsBackAt entries.now.rows.replies at }
-    ensures { All (IsRefused entries.now.rows.entries entries.now.rows.replies) repeats.old.acts.items
+    ensures refused { All (IsRefused entries.now.rows.entries entries.now.rows.replies) repeats.old.acts.items
         → OnOk result (All (IsRefused entries.now.rows.entries entries.now.rows.replies) repeats.new.acts.items) }
+    ensures left { OnOk result (AddsLeft entries.now.rows.entries entries.now.rows.replies at
+        (string_bytes repeats.old.left) repeats.old.acts.items (string_bytes repeats.new.left) repeats.new.acts.items) }
 {
     let command = entries.command_at(desk.alloc, desk.routes, at)?;
     if is_repeated(desk, entries, at, &command)? {
@@ -111,8 +119,10 @@ fn add_refused<K: WallClock, V: Server, L: Shelf>(
     today: i32,
     repeats: &mut Repeats,
 ) -> Result<(), TillFault>
-    ensures { All (IsRefused entries.now.rows.entries entries.now.rows.replies) repeats.old.acts.items
+    ensures refused { All (IsRefused entries.now.rows.entries entries.now.rows.replies) repeats.old.acts.items
         → OnOk result (All (IsRefused entries.now.rows.entries entries.now.rows.replies) repeats.new.acts.items) }
+    ensures left { OnOk result (AddsLeft entries.now.rows.entries entries.now.rows.replies at
+        (string_bytes repeats.old.left) repeats.old.acts.items (string_bytes repeats.new.left) repeats.new.acts.items) }
 {
     if entries.is_back_at(at) {
         add_entry(desk, entries, at, late, today, repeats)
@@ -127,7 +137,9 @@ pub(crate) fn repeats_in<K: WallClock, V: Server, L: Shelf>(
     entries: &EntriesAfter,
     late: bool,
 ) -> Result<Repeats, TillFault>
-    ensures { IfOk result (λ it. All (IsRefused entries.now.rows.entries entries.now.rows.replies) it.acts.items) }
+    ensures refused { IfOk result (λ it. All (IsRefused entries.now.rows.entries entries.now.rows.replies) it.acts.items) }
+    ensures left { IfOk result (λ it. string_bytes it.left ≡ [] → AreLeft entries.now.rows.entries
+        entries.now.rows.replies (length entries.now.rows.entries) it.acts.items) }
 {
     let today = wall_day(desk)?;
     let mut repeats = Repeats {

@@ -129,8 +129,9 @@ pub(crate) fn customer_of<S: Alter>(
 }
 
 /// Returns the rental that a copy's return is of, and its customer: the register's, and else the sheet's. Fails with
-/// `RentWaits` if a rent of the copy has no reply yet. If the register has no rental of the copy, fails with `NoRental`
-/// unless the server says that the sheet's customer has the copy. The book stays.
+/// `RentWaits` if a rent of the copy has no reply yet. If the register has no rental of the copy, the server is asked
+/// whose the copy is now. Fails with `NotOut` if it is nobody's, and with `NoRental` unless it is the sheet's customer's.
+/// The book stays.
 pub(crate) fn rental_at<S: Alter, K: WallClock, V: Server, L: Shelf>(
     desk: &Desk<'_, K, V, L>,
     conn: &mut Connection<S>,

@@ -12,12 +12,14 @@ use crate::clock::WallClock;
 use crate::desk::Desk;
 use crate::fault::TillFault;
 use serde_json::Value;
-use shop_types::{Act, Ask, BranchNo, CityNo, CopyNo, CustomerNo, FilmNo, Moment, StaffNo};
+use shop_types::{
+    Act, Ask, BranchNo, CityNo, CopyNo, CustomerNo, FilmNo, Moment, Refusal, StaffNo,
+};
 use std::alloc::Global;
 use till_book::HeldRental;
 use till_client::Answer;
 use till_requests::{SheetRow, find_number, find_row, look_request, moment_at};
-use till_shows::{day_words, holder};
+use till_shows::{day_words, holder, refusal_in};
 use till_work::Server;
 
 /// The name of the file on the shelf.
@@ -117,18 +119,31 @@ fn looked<K: WallClock, V: Server, L: Shelf>(
     desk.ask(request.as_slice()).ok()
 }
 
-/// Asks the server whether that customer has the copy.
-fn is_held_by<K: WallClock, V: Server, L: Shelf>(
-    desk: &Desk<'_, K, V, L>,
-    copy: CopyNo,
-    customer: CustomerNo,
-) -> bool {
+/// Who has a copy, as the server says.
+#[derive(Clone, Copy)]
+enum Holder {
+    /// The server didn't say.
+    Unknown,
+    Nobody,
+    Customer(CustomerNo),
+}
+
+/// Asks the server which customer has the copy.
+fn holder_of<K: WallClock, V: Server, L: Shelf>(desk: &Desk<'_, K, V, L>, copy: CopyNo) -> Holder {
     let Some(answer) = looked(desk, &Ask::HeldBy(copy)) else {
-        return false;
+        return Holder::Unknown;
     };
-    match holder(desk.alloc, answer.body.as_slice()) {
-        Ok(Some(it)) => answer.status == 200 && it.get() == customer.get(),
-        Ok(None) | Err(_) => false,
+    let body = answer.body.as_slice();
+    if answer.status == 200 {
+        return match holder(desk.alloc, body) {
+            Ok(Some(customer)) => Holder::Customer(customer),
+            Ok(None) => Holder::Nobody,
+            Err(_) => Holder::Unknown,
+        };
+    }
+    match refusal_in(answer.status, body) {
+        Some(Refusal::NoCopy) => Holder::Nobody,
+        Some(_) | None => Holder::Unknown,
     }
 }
 
@@ -143,24 +158,36 @@ fn rental_in(row: &SheetRow) -> Option<HeldRental>
     }
 }
 
+/// Returns the rental that the sheet's row of a copy has, if that customer is its own.
+pub(crate) fn rental_of<K: WallClock, V: Server, L: Shelf>(
+    desk: &Desk<'_, K, V, L>,
+    copy: CopyNo,
+    customer: CustomerNo,
+) -> Result<HeldRental, TillFault>
+    ensures sheet { IfOk result (IsOnSheet desk.now.sheet.now copy) }
+    ensures customer { IfOk result (λ held. held.customer ≡ customer) }
+{
+    let Some(row) = row_of(desk, copy) else {
+        return Err(TillFault::NoRental);
+    };
+    match rental_in(&row) {
+        Some(held) if held.customer.get() == customer.get() => Ok(held),
+        Some(_) | None => Err(TillFault::NoRental),
+    }
+}
+
 /// Returns the rental that the sheet has of a copy, if the server says that its customer still has the copy. Fails with
-/// `NoRental` otherwise.
+/// `NotOut` if the server says that nobody has the copy, and with `NoRental` otherwise.
 pub(crate) fn rental_on_sheet<K: WallClock, V: Server, L: Shelf>(
     desk: &Desk<'_, K, V, L>,
     copy: CopyNo,
 ) -> Result<HeldRental, TillFault>
     ensures { IfOk result (IsOnSheet desk.now.sheet.now copy) }
 {
-    let Some(row) = row_of(desk, copy) else {
-        return Err(TillFault::NoRental);
-    };
-    let Some(held) = rental_in(&row) else {
-        return Err(TillFault::NoRental);
-    };
-    if is_held_by(desk, copy, held.customer) {
-        Ok(held)
-    } else {
-        Err(TillFault::NoRental)
+    match holder_of(desk, copy) {
+        Holder::Customer(customer) => rental_of(desk, copy, customer),
+        Holder::Nobody => Err(TillFault::NotOut),
+        Holder::Unknown => Err(TillFault::NoRental),
     }
 }
 

@@ -1,16 +1,18 @@
 //! Where a copy is: with a customer, in the shop, or gone.
 
-ghost use Rattle.std.specs.Prelude.{◌≡◌, ◌==◌, Some, false, map, IfOk, IfSome, OnOk, string_bytes};
+ghost use Rattle.std.specs.Prelude.{◌≡◌, ◌==◌, Some, false, true, map, IfOk, IfSome, OnOk, string_bytes};
 ghost use Rattle.std.specs.List.{list_any};
 ghost use Rattle.sqlite.specs.Held.{state};
 ghost use Rattle.sqlite.specs.State.{HasCleanDisk};
 ghost use Rattle.shop_types.specs.Seen.{seen_act, seen_ask};
 ghost use Rattle.till_book.specs.Steps.{Stays};
+ghost use Rattle.till_requests.specs.Zones.{offset_of};
 ghost use Rattle.till_cashier.specs.Asking.{IsAnswered, IsLookedUp};
 ghost use Rattle.serde_json.specs.View.{view};
-ghost use Rattle.till_cashier.specs.Looking.{Adds, AddsPlace, AddsWhere, IsHolderLine, IsInStock, IsListedStock, IsPlace};
+ghost use Rattle.till_cashier.specs.Looking.{Adds, AddsWhere, IsHolderLine, IsInStock, IsListedStock, IsPlace, SaysPlace};
 ghost use Rattle.till_cashier.specs.Stocked.{HasLeft, gone_if, has_number, listed_at, stocked_in};
-ghost use Rattle.till_cashier.specs.Whereabouts.{departure, place_text, sent_if, whereabouts_text};
+ghost use Rattle.till_cashier.specs.Today.{IsOnWall};
+ghost use Rattle.till_cashier.specs.Whereabouts.{HasDeparted, IsAcceptedAt, IsDeparture, departure, place_text, sent_if, whereabouts_text};
 
 use crate::answers::{says_all, says_holder};
 use crate::book::Book;
@@ -108,6 +110,16 @@ fn departure(act: &Act, copy: CopyNo, at: Moment) -> Option<Whereabouts>
     }
 }
 
+/// Tests whether the last reply to the entry at that place accepted it.
+fn is_accepted(entries: &EntriesAfter, at: usize) -> bool
+    ensures { result ≡ true → IsAcceptedAt entries.now.number entries.now.rows.replies entries.now.rows.settled at }
+{
+    match entries.reply_at(at) {
+        Some(reply) => reply.status == 200,
+        None => false,
+    }
+}
+
 /// Returns where the entry at that place brought the copy, if its reply accepted it.
 fn departed_by<K: WallClock, V: Server, L: Shelf>(
     desk: &Desk<'_, K, V, L>,
@@ -115,13 +127,11 @@ fn departed_by<K: WallClock, V: Server, L: Shelf>(
     at: usize,
     copy: CopyNo,
 ) -> Result<Option<Whereabouts>, TillFault>
-    ensures { IfOk result (λ it. IfSome it HasLeft) }
+    ensures { IfOk result (λ it. IfSome it (λ place. IsDeparture
+        (IsOnWall desk.now.wall (offset_of desk.now.settings.now.zone)) copy place entries.now.number
+        entries.now.rows.replies entries.now.rows.settled entries.now.rows.entries)) }
 {
-    let is_accepted = match entries.reply_at(at) {
-        Some(reply) => reply.status == 200,
-        None => false,
-    };
-    if !is_accepted {
+    if !is_accepted(entries, at) {
         return Ok(None);
     }
     let command = entries.command_at(desk.alloc, desk.routes, at)?;
@@ -135,7 +145,9 @@ fn departed<K: WallClock, V: Server, L: Shelf>(
     entries: &EntriesAfter,
     copy: CopyNo,
 ) -> Result<Option<Whereabouts>, TillFault>
-    ensures { IfOk result (λ it. IfSome it HasLeft) }
+    ensures { IfOk result (λ it. IfSome it (λ place. IsDeparture
+        (IsOnWall desk.now.wall (offset_of desk.now.settings.now.zone)) copy place entries.now.number
+        entries.now.rows.replies entries.now.rows.settled entries.now.rows.entries)) }
 {
     for at in 0..entries.len() {
         if let Some(it) = departed_by(desk, entries, at, copy)? {
@@ -229,6 +241,8 @@ fn departed_in_book<S: Alter, K: WallClock, V: Server, L: Shelf>(
     ensures clean { HasCleanDisk (state S.Store conn.new) → HasCleanDisk (state S.Store conn.old) }
     ensures stays { HasCleanDisk (state S.Store conn.new) → Stays (state S.Store conn.old) (state S.Store conn.new) }
     ensures left { IfOk result (λ it. IfSome it HasLeft) }
+    ensures departed { HasCleanDisk (state S.Store conn.new) → IfOk result (λ it. IfSome it (HasDeparted
+        (IsOnWall desk.now.wall (offset_of desk.now.settings.now.zone)) (state S.Store conn.old) copy)) }
 {
     let first = book.place.entries.saturating_sub(SEARCHED);
     let entries = EntriesAfter::read(desk.alloc, conn, first)?;
@@ -246,9 +260,10 @@ fn find_whereabouts<S: Alter, K: WallClock, V: Server, L: Shelf>(
     ensures ended { conn.new.in_transaction ≡ false }
     ensures clean { HasCleanDisk (state S.Store conn.new) → HasCleanDisk (state S.Store conn.old) }
     ensures stays { HasCleanDisk (state S.Store conn.new) → Stays (state S.Store conn.old) (state S.Store conn.new) }
-    ensures known { IfOk result (λ it. IfSome it (IsPlace (IsLookedUp
+    ensures known { HasCleanDisk (state S.Store conn.new) → IfOk result (λ it. IfSome it (IsPlace (IsLookedUp
         (IsAnswered (V.opens desk.now.server.now) V.Reader.remaining V.Writer.contents)
-        desk.now.settings.now.token) desk.now.sheet.now copy)) }
+        desk.now.settings.now.token) (IsOnWall desk.now.wall (offset_of desk.now.settings.now.zone))
+        (state S.Store conn.old) desk.now.sheet.now copy)) }
 {
     let is_here = in_shop(desk, copy);
     if let Some(true) = is_here {
@@ -283,13 +298,9 @@ fn says_whereabouts<K: WallClock, V: Server, L: Shelf>(
     it: Option<Whereabouts>,
     said: &mut Said,
 ) -> Result<(), TillFault>
-    ensures { desk.now.is_json ≡ false → IfSome it (IsPlace (IsLookedUp
+    ensures { desk.now.is_json ≡ false → OnOk result (SaysPlace (IsLookedUp
         (IsAnswered (V.opens desk.now.server.now) V.Reader.remaining V.Writer.contents)
-        desk.now.settings.now.token) desk.now.sheet.now copy)
-        → OnOk result (AddsPlace (IsLookedUp
-        (IsAnswered (V.opens desk.now.server.now) V.Reader.remaining V.Writer.contents)
-        desk.now.settings.now.token) desk.now.sheet.now (seen_ask ask.now) copy
-        (string_bytes said.old.text)
+        desk.now.settings.now.token) (seen_ask ask.now) copy it (string_bytes said.old.text)
         said.old.status (string_bytes said.new.text) said.new.status) }
 {
     match it {
@@ -317,10 +328,10 @@ pub(crate) fn where_is<S: Alter, K: WallClock, V: Server, L: Shelf>(
     ensures ended { conn.new.in_transaction ≡ false }
     ensures clean { HasCleanDisk (state S.Store conn.new) → HasCleanDisk (state S.Store conn.old) }
     ensures stays { HasCleanDisk (state S.Store conn.new) → Stays (state S.Store conn.old) (state S.Store conn.new) }
-    ensures says { OnOk result (AddsWhere (IsLookedUp
+    ensures says { HasCleanDisk (state S.Store conn.new) → OnOk result (AddsWhere (IsLookedUp
         (IsAnswered (V.opens desk.now.server.now) V.Reader.remaining V.Writer.contents)
-        desk.now.settings.now.token) desk.now.is_json desk.now.sheet.now (seen_ask ask.now) copy
-        (string_bytes said.old.text)
+        desk.now.settings.now.token) (IsOnWall desk.now.wall (offset_of desk.now.settings.now.zone))
+        (state S.Store conn.old) desk.now.is_json desk.now.sheet.now (seen_ask ask.now) copy (string_bytes said.old.text)
         said.old.status (string_bytes said.new.text) said.new.status) }
 {
     if desk.is_json {

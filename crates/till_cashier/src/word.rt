@@ -538,7 +538,8 @@ fn carry_out<S: Alter, K: WallClock, V: Server, L: Shelf, W: Watch>(
     ensures says { HasCleanDisk (state S.Store conn.new) → IfOk result (λ said. SaysPlan
         (IsExchanged (V.opens desk.now.server.now) V.Reader.remaining V.Writer.contents)
         (IsAnswered (V.opens desk.now.server.now) V.Reader.remaining V.Writer.contents)
-        (local_clock (K.shows desk.now.clock.now) desk.now.settings.now.zone) desk.now.settings.now.mark desk.now.settings.now.token
+        (local_clock (K.shows desk.now.clock.now) desk.now.settings.now.zone)
+        (dates.IsOnWall desk.now.wall (offset_of desk.now.settings.now.zone)) desk.now.settings.now.mark desk.now.settings.now.token
         (giver_of desk.now.settings.now.staff desk.now.staff) desk.now.is_json desk.now.sheet.now book.old.last
         plan book.old.place (state S.Store conn.old) book.new.place (state S.Store conn.new)
         (string_bytes said.text) said.status) }
@@ -645,7 +646,8 @@ pub fn do_word<S: Alter, K: WallClock, V: Server, L: Shelf, W: Watch>(
     ensures says { HasCleanDisk (state S.Store conn.new) → IfOk result (λ said. SaysWord
         (IsExchanged (V.opens desk.now.server.now) V.Reader.remaining V.Writer.contents)
         (IsAnswered (V.opens desk.now.server.now) V.Reader.remaining V.Writer.contents)
-        (local_clock (K.shows desk.now.clock.now) desk.now.settings.now.zone) desk.now.settings.now.mark desk.now.settings.now.token
+        (local_clock (K.shows desk.now.clock.now) desk.now.settings.now.zone)
+        (dates.IsOnWall desk.now.wall (offset_of desk.now.settings.now.zone)) desk.now.settings.now.mark desk.now.settings.now.token
         (giver_of desk.now.settings.now.staff desk.now.staff) desk.now.is_json desk.now.sheet.now
         act (state S.Store conn.old) (state S.Store conn.new) (string_bytes said.text) said.status) }
     ensures shows { HasCleanDisk (state S.Store conn.new) → IfOk result (λ said. ShowsWord

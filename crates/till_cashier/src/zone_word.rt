@@ -1,10 +1,11 @@
 //! Another zone for an open book, and what is said of it.
 
-ghost use Rattle.std.specs.Prelude.{◌<◌, false, IfOk, IfErr, IfSome, OnOk, ◌≡◌};
+ghost use Rattle.std.specs.Prelude.{◌<◌, ◌⊎◌, false, IfOk, IfErr, IfSome, OnOk, ◌≡◌};
 ghost use Rattle.sqlite.specs.Held.{state};
 ghost use Rattle.sqlite.specs.State.{HasCleanDisk};
 ghost use Rattle.shop_model.specs.Calendar.{seconds_of};
 ghost use Rattle.till_book.specs.Steps.{Stays};
+ghost use Rattle.till_requests.specs.Zones.{offset_of};
 ghost use Rattle.till_cashier.specs.Clock.{local_clock};
 ghost use Rattle.till_cashier.specs.LastMoment.{PassesLast};
 
@@ -17,7 +18,7 @@ use crate::said::Said;
 use shop_types::Moment;
 use sqlite::{Alter, Connection};
 use std::alloc::Global;
-use till_requests::{Settings, zone_offset};
+use till_requests::{Settings, Zone, zone_offset};
 use till_work::Server;
 
 /// Tests that the moment is later than the last entry's.
@@ -31,11 +32,31 @@ fn passes(now: Moment, last: Option<Moment>) -> Result<(), TillFault>
     }
 }
 
-/// Accepts the zone of the desk's settings for the book, and returns the clock's moment in that zone. If that isn't later
-/// than the last entry's moment, fails with `ZoneBehind`. The book stays.
+/// Tests that entries can go on by another zone: it has the standard time of the one before, or the moment is later than
+/// the last entry's.
+fn goes_on(
+    before: &Option<Zone>,
+    zone: &Option<Zone>,
+    now: Moment,
+    last: Option<Moment>,
+) -> Result<(), TillFault>
+    ensures passed { OnOk result ((offset_of before.now ≡ offset_of zone.now)
+        ⊎ IfSome last (λ it. seconds_of it < seconds_of now)) }
+    ensures behind { IfErr result (λ fault. fault ≡ TillFault.ZoneBehind) }
+{
+    if zone_offset(before) == zone_offset(zone) {
+        return Ok(());
+    }
+    passes(now, last)
+}
+
+/// Accepts the zone of the desk's settings for the book, and returns the clock's moment in that zone. `before` is the zone
+/// that the book had. If the two have not the same standard time, and the moment isn't later than the last entry's, fails
+/// with `ZoneBehind`. The book stays.
 pub fn accept_zone<S: Alter, K: WallClock, V: Server, L: Shelf>(
     desk: &Desk<'_, K, V, L>,
     conn: &mut Connection<S>,
+    before: &Option<Zone>,
 ) -> Result<Moment, TillFault>
     requires { conn.old.in_transaction ≡ false }
     ensures ended { conn.new.in_transaction ≡ false }
@@ -44,11 +65,12 @@ pub fn accept_zone<S: Alter, K: WallClock, V: Server, L: Shelf>(
     ensures shown { IfOk result (λ now. local_clock (K.shows desk.now.clock.now) desk.now.settings.now.zone
         (seconds_of now)) }
     ensures later { HasCleanDisk (state S.Store conn.new)
-        → IfOk result (λ now. PassesLast (seconds_of now) (state S.Store conn.old)) }
+        → IfOk result (λ now. (offset_of before.now ≡ offset_of desk.now.settings.now.zone)
+        ⊎ PassesLast (seconds_of now) (state S.Store conn.old)) }
 {
     let book = Book::read(desk.alloc, desk.routes, &desk.settings.mark, conn)?;
     let now = desk.now()?;
-    passes(now, book.last)?;
+    goes_on(before, &desk.settings.zone, now, book.last)?;
     Ok(now)
 }
 

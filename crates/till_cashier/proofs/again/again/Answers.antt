@@ -1,7 +1,7 @@
-use Rattle.std.proofs.Common.{◌≡◌, List, length, rules, subst, sym}
+use Rattle.std.proofs.Common.{◌≡◌, ◌∙◌, List, arith, length, rules, subst, sym, vec_len}
 use Rattle.std.specs.List.{All}
 use Rattle.sqlite.specs.Held.{state}
-use Rattle.till_cashier.specs.Again.{IsRefused}
+use Rattle.till_cashier.specs.Again.{AreLeft, AreLeftIn, IsRefused}
 use Rattle.till_cashier.specs.declared.refused.Repeat.{Repeat}
 use Rattle.till_work.specs.Exchanged.{IsExchanged}
 use Rattle.till_work.proofs.GoingOn.{goes_then}
@@ -10,6 +10,8 @@ use Rattle.till_cashier.proofs.GoingOn.{kept_ok, kept_as, kept_goes, goes_stays}
 use Rattle.till_cashier.proofs.Repeating.{if_ok_then, each_in_book, book_later, book_before}
 use Rattle.till_cashier.proofs.Stops.{goes_leaves, goes_then_leaves}
 use Rattle.std.proofs.Common.{[], inl, refl, string_bytes}
+use Rattle.std.proofs.lemmas.Bool.{eqb-true}
+use Rattle.std.proofs.lemmas.List.{nil_from_length}
 use Rattle.std.proofs.lemmas.List.Elements.{All-nil}
 use Rattle.sqlite.specs.State.{State}
 use Rattle.till_book.specs.Ends.{IsReadAfter}
@@ -19,7 +21,8 @@ use Rattle.till_requests.specs.Zones.{offset_of}
 use Rattle.till_cashier.specs.Again.{IsRefusedIn}
 use Rattle.till_cashier.proofs.Adding.{no_repeats, repeats_before, repeats_later}
 use Rattle.till_cashier.proofs.Printing.{if_ok_so}
-use Rattle.till_cashier.proofs.Showing.{again_shown}
+use Rattle.till_cashier.proofs.Left.{left_in_book}
+use Rattle.till_cashier.proofs.Showing.{again_shown, both_ok, three_ok}
 use Rattle.till_cashier.proofs.again.again.Goals as goal
 
 pub returns-in-Err-clause-keeps : goal.returns-in-Err-clause-keeps
@@ -71,7 +74,7 @@ returns-clause-given g c clean =
       each_in_book acts c.in_ok-entries.entries.rows (state g.S.Store c.args.conn.now) (state g.S.Store c.read.new.conn)
           (c.in_ok-entries.ensures.found read)
           (subst (λ (its : List Repeat). All (IsRefused c.in_ok-entries.entries.rows.entries c.in_ok-entries.entries.rows.replies) its) (sym same)
-          c.in_ok-repeats.ensures),
+          c.in_ok-repeats.ensures.refused),
       book_before tells shows mark token own (length acts) acts c.args.book.now.place c.give_each.new.book.place
           (state g.S.Store c.args.conn.now) (state g.S.Store c.give_each.new.conn) (state g.S.Store c.entries_after.new.conn)
           (book_later tells shows mark token own (length acts) acts c.args.book.now.place c.give_each.new.book.place
@@ -139,7 +142,7 @@ returns-then-is_empty-clause-keeps g c clean kept =
 
 pub returns-then-is_empty-clause-given : goal.returns-then-is_empty-clause-given
 returns-then-is_empty-clause-given g c clean =
-    if_ok_so c.nothing_said.result _ _ c.nothing_said.ensures
+    if_ok_so c.nothing_said.result _ _ c.nothing_said.ensures.said
     (λ said says low. (
       [],
       All-nil _,
@@ -153,7 +156,19 @@ returns-then-is_empty-clause-given g c clean =
 
 pub returns-then-is_empty-clause-says : goal.returns-then-is_empty-clause-says
 returns-then-is_empty-clause-says g c clean =
-    if_ok_so c.nothing_said.result _ _ c.nothing_said.ensures (λ said says. inl (c.read.ensures.stays clean, says))
+    let old = state g.S.Store c.args.conn.now in
+    let acts : List Repeat = c.in_ok-repeats.repeats.acts.items in
+    let count : vec_len c.in_ok-repeats.repeats.acts ≡ 0 = eqb-true _ 0 (sym c.is_empty.ensures ∙ c.if-is_empty.true) in
+    let counted : length acts ≡ vec_len c.in_ok-repeats.repeats.acts = search rules in
+    let none : acts ≡ [] = nil_from_length acts (counted ∙ count) in
+    both_ok c.nothing_said.result _ _ _ c.nothing_said.ensures.said c.nothing_said.ensures.left
+    (λ said says left. inl (
+      c.read.ensures.stays clean,
+      says,
+      λ zero. subst (λ (its : List Repeat). AreLeftIn old its) none
+          (left_in_book acts c.in_ok-entries.entries.rows old (state g.S.Store c.read.new.conn) (c.in_ok-entries.ensures.found clean)
+          (c.in_ok-repeats.ensures.left (sym c.as_str.ensures.value ∙ left zero))),
+    ))
 
 pub returns-then-is_empty-clause-crash : goal.returns-then-is_empty-clause-crash
 returns-then-is_empty-clause-crash g c clean =
@@ -208,7 +223,7 @@ returns-in-Err-clause-adds g c clean kept =
       acts,
       refused acts c.in_ok-repeats.repeats.acts.items c.in_ok-entries.entries.rows
           (state g.S.Store c.args.conn.now) (state g.S.Store c.read.new.conn) (search rules)
-          (c.in_ok-entries.ensures.found read) c.in_ok-repeats.ensures,
+          (c.in_ok-entries.ensures.found read) c.in_ok-repeats.ensures.refused,
       adds.0,
       repeats_later (local_clock (g.K.WallClock.shows c.args.desk.now.clock.now) c.args.desk.now.settings.now.zone)
           c.args.desk.now.settings.now.mark c.args.desk.now.settings.now.token adds.0 acts c.args.book.now.place c.give_each.new.book.place
@@ -225,7 +240,7 @@ returns-in_err-table-clause-adds g c clean kept =
       acts,
       refused acts c.in_ok-repeats.repeats.acts.items c.in_ok-entries.entries.rows
           (state g.S.Store c.args.conn.now) (state g.S.Store c.read.new.conn) (search rules)
-          (c.in_ok-entries.ensures.found read) c.in_ok-repeats.ensures,
+          (c.in_ok-entries.ensures.found read) c.in_ok-repeats.ensures.refused,
       adds.0,
       repeats_before (local_clock (g.K.WallClock.shows c.args.desk.now.clock.now) c.args.desk.now.settings.now.zone)
           c.args.desk.now.settings.now.mark c.args.desk.now.settings.now.token adds.0 acts c.args.book.now.place c.give_each.new.book.place
@@ -247,7 +262,7 @@ returns-clause-adds g c clean kept =
       acts,
       refused acts c.in_ok-repeats.repeats.acts.items c.in_ok-entries.entries.rows
           (state g.S.Store c.args.conn.now) (state g.S.Store c.read.new.conn) (search rules)
-          (c.in_ok-entries.ensures.found read) c.in_ok-repeats.ensures,
+          (c.in_ok-entries.ensures.found read) c.in_ok-repeats.ensures.refused,
       adds.0,
       repeats_before (local_clock (g.K.WallClock.shows c.args.desk.now.clock.now) c.args.desk.now.settings.now.zone)
           c.args.desk.now.settings.now.mark c.args.desk.now.settings.now.token adds.0 acts c.args.book.now.place c.give_each.new.book.place
@@ -266,15 +281,33 @@ pub returns-clause-says : goal.returns-clause-says
 returns-clause-says g c clean =
     let given = c.entries_after.ensures.clean clean in
     let read = c.give_each.ensures.clean given in
+    let tells = IsExchanged (g.V.Server.opens c.args.desk.now.server.now) g.V.Reader.Read.remaining g.V.Writer.Write.contents in
+    let shows = local_clock (g.K.WallClock.shows c.args.desk.now.clock.now) c.args.desk.now.settings.now.zone in
     let mark = c.args.desk.now.settings.now.mark in
-    if_ok_so c.again_said.result _ _ c.again_said.ensures.text
-    (λ said more. again_shown
-    (IsExchanged (g.V.Server.opens c.args.desk.now.server.now) g.V.Reader.Read.remaining g.V.Writer.Write.contents)
-    c.args.desk.now.wall (offset_of c.args.desk.now.settings.now.zone) c.args.desk.now.settings.now.staff mark
-    c.args.book.now.place c.give_each.new.book.place (state g.S.Store c.args.conn.now) (state g.S.Store c.give_each.new.conn)
+    let token = c.args.desk.now.settings.now.token in
+    let own = c.args.desk.now.settings.now.staff in
+    let old = state g.S.Store c.args.conn.now in
+    let acts : List Repeat = c.as_slice.result.now in
+    let rows = c.in_ok-entries.entries.rows in
+    let same : acts ≡ c.in_ok-repeats.repeats.acts.items = search rules in
+    three_ok c.again_said.result _ _ _ _ c.again_said.ensures.text c.again_said.ensures.left c.again_said.ensures.given
+    (λ said more left whole. again_shown tells c.args.desk.now.wall (offset_of c.args.desk.now.settings.now.zone) own shows mark token
+    c.args.book.now.place c.give_each.new.book.place old (state g.S.Store c.give_each.new.conn)
     (state g.S.Store c.entries_after.new.conn) (string_bytes c.in_ok-table.table.text) (string_bytes said.text) said.status
-    (goes_then _ mark c.args.book.now.place c.args.book.now.place c.give_each.new.book.place (state g.S.Store c.args.conn.now) (state g.S.Store c.read.new.conn)
+    (λ zero. (
+      acts,
+      left_in_book acts rows old (state g.S.Store c.read.new.conn) (c.in_ok-entries.ensures.found read)
+          (subst (λ (its : List Repeat). AreLeft rows.entries rows.replies (length rows.entries) its) (sym same)
+          (c.in_ok-repeats.ensures.left (sym c.as_str-2.ensures.value ∙ left zero))),
+      book_before tells shows mark token own (length acts) acts c.args.book.now.place c.give_each.new.book.place
+          old (state g.S.Store c.give_each.new.conn) (state g.S.Store c.entries_after.new.conn)
+          (book_later tells shows mark token own (length acts) acts c.args.book.now.place c.give_each.new.book.place
+          old (state g.S.Store c.read.new.conn) (state g.S.Store c.give_each.new.conn)
+          (c.read.ensures.stays read) (c.in-Ok.ensures.given given (whole (omega (arith, zero)))))
+          (c.entries_after.ensures.stays clean),
+    ))
+    (goes_then _ mark c.args.book.now.place c.args.book.now.place c.give_each.new.book.place old (state g.S.Store c.read.new.conn)
     (state g.S.Store c.give_each.new.conn)
-    (kept_goes _ mark c.args.book.now.place (state g.S.Store c.args.conn.now) (state g.S.Store c.read.new.conn) (c.read.ensures.stays read))
+    (kept_goes _ mark c.args.book.now.place old (state g.S.Store c.read.new.conn) (c.read.ensures.stays read))
     (c.in-Ok.ensures.keeps given (kept_ok _)))
     (c.entries_after.ensures.stays clean) (c.in_ok-table.ensures.says clean) more)

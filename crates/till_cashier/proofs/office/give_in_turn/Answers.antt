@@ -93,14 +93,14 @@ returns-clause-crash g c clean =
 -- ---- what is printed
 
 pub returns-in-Err-give_words-clause-says : goal.returns-in-Err-give_words-clause-says
-returns-in-Err-give_words-clause-says g c clean = if_ok_so c.fault_told.result _ _ c.fault_told.ensures.status (λ said low. inl low)
+returns-in-Err-give_words-clause-says g c clean = if_ok_so c.fault_told.result _ _ c.fault_told.ensures.said (λ said says. inr (inl says))
 
 pub returns-clause-says : goal.returns-clause-says
 returns-clause-says g c clean =
     let read = c.give_words.ensures.clean clean in
     let answer = seen_answer c.in-Ok-give_words.answer in
     if_ok_so c.told.result _ _ c.told.ensures
-    (λ said says. inr (
+    (λ said says. inr (inr (
       answer,
       answered_after _ c.args.desk.now.settings.now.mark c.args.desk.now.settings.now.token (map string_bytes c.args.words.now) answer c.args.place.now
           c.answer_earlier.new.place c.give_words.new.place (state g.S.Store c.args.conn.now) (state g.S.Store c.waited.new.conn)
@@ -113,4 +113,4 @@ returns-clause-says g c clean =
           (state g.S.Store c.waited.new.conn) (c.waited.ensures.stays read)))
           (c.in-Ok-give_words.ensures.answered clean),
       says,
-    ))
+    )))

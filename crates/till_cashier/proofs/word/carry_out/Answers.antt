@@ -2,6 +2,7 @@ use Rattle.sqlite.specs.Held.{state}
 use Rattle.till_work.specs.Exchanged.{IsExchanged}
 use Rattle.till_cashier.specs.Clock.{local_clock}
 use Rattle.till_cashier.specs.Faults.{giver_of}
+use Rattle.till_cashier.specs.Today.{IsOnWall}
 use Rattle.till_cashier.specs.declared.word.Plan.TheVariants as plan
 use Rattle.till_cashier.specs.Asking.{IsAnswered}
 use Rattle.std.proofs.Common.{List, sym, subst}
@@ -160,6 +161,7 @@ returns-in-Give-clause-says g c clean =
     says_as (IsExchanged (g.V.Server.opens c.args.desk.now.server.now) g.V.Reader.Read.remaining g.V.Writer.Write.contents)
     (IsAnswered (g.V.Server.opens c.args.desk.now.server.now) g.V.Reader.Read.remaining g.V.Writer.Write.contents)
     (local_clock (g.K.WallClock.shows c.args.desk.now.clock.now) c.args.desk.now.settings.now.zone)
+    (IsOnWall c.args.desk.now.wall (offset_of c.args.desk.now.settings.now.zone))
     c.args.desk.now.settings.now.mark c.args.desk.now.settings.now.token
     (giver_of c.args.desk.now.settings.now.staff c.args.desk.now.staff) c.args.desk.now.is_json c.args.desk.now.sheet.now
     c.args.book.now.last c.give_and_say.result c.args.plan (plan.Give c.in-Give.act c.in-Give.customer) _ _ _ _ c.in-Give.is
@@ -170,15 +172,17 @@ returns-in-Look-clause-says g c clean =
     says_as (IsExchanged (g.V.Server.opens c.args.desk.now.server.now) g.V.Reader.Read.remaining g.V.Writer.Write.contents)
     (IsAnswered (g.V.Server.opens c.args.desk.now.server.now) g.V.Reader.Read.remaining g.V.Writer.Write.contents)
     (local_clock (g.K.WallClock.shows c.args.desk.now.clock.now) c.args.desk.now.settings.now.zone)
+    (IsOnWall c.args.desk.now.wall (offset_of c.args.desk.now.settings.now.zone))
     c.args.desk.now.settings.now.mark c.args.desk.now.settings.now.token
     (giver_of c.args.desk.now.settings.now.staff c.args.desk.now.staff) c.args.desk.now.is_json c.args.desk.now.sheet.now
-    c.args.book.now.last c.look.result c.args.plan (plan.Look c.in-Look.it) _ _ _ _ c.in-Look.is c.look.ensures.says
+    c.args.book.now.last c.look.result c.args.plan (plan.Look c.in-Look.it) _ _ _ _ c.in-Look.is (c.look.ensures.says clean)
 
 pub returns-in-ReadOffice-clause-says : goal.returns-in-ReadOffice-clause-says
 returns-in-ReadOffice-clause-says g c clean =
     says_as (IsExchanged (g.V.Server.opens c.args.desk.now.server.now) g.V.Reader.Read.remaining g.V.Writer.Write.contents)
     (IsAnswered (g.V.Server.opens c.args.desk.now.server.now) g.V.Reader.Read.remaining g.V.Writer.Write.contents)
     (local_clock (g.K.WallClock.shows c.args.desk.now.clock.now) c.args.desk.now.settings.now.zone)
+    (IsOnWall c.args.desk.now.wall (offset_of c.args.desk.now.settings.now.zone))
     c.args.desk.now.settings.now.mark c.args.desk.now.settings.now.token
     (giver_of c.args.desk.now.settings.now.staff c.args.desk.now.staff) c.args.desk.now.is_json c.args.desk.now.sheet.now
     c.args.book.now.last c.read_office.result c.args.plan (plan.ReadOffice c.in-ReadOffice.words) _ _ _ _ c.in-ReadOffice.is
@@ -189,6 +193,7 @@ returns-in-Day-clause-says g c clean =
     says_as (IsExchanged (g.V.Server.opens c.args.desk.now.server.now) g.V.Reader.Read.remaining g.V.Writer.Write.contents)
     (IsAnswered (g.V.Server.opens c.args.desk.now.server.now) g.V.Reader.Read.remaining g.V.Writer.Write.contents)
     (local_clock (g.K.WallClock.shows c.args.desk.now.clock.now) c.args.desk.now.settings.now.zone)
+    (IsOnWall c.args.desk.now.wall (offset_of c.args.desk.now.settings.now.zone))
     c.args.desk.now.settings.now.mark c.args.desk.now.settings.now.token
     (giver_of c.args.desk.now.settings.now.staff c.args.desk.now.staff) c.args.desk.now.is_json c.args.desk.now.sheet.now
     c.args.book.now.last c.day.result c.args.plan (plan.Day c.in-Day.asked) _ _ _ _ c.in-Day.is (c.day.ensures.says clean)
@@ -198,6 +203,7 @@ returns-in-Usage-clause-says g c clean =
     says_as (IsExchanged (g.V.Server.opens c.args.desk.now.server.now) g.V.Reader.Read.remaining g.V.Writer.Write.contents)
     (IsAnswered (g.V.Server.opens c.args.desk.now.server.now) g.V.Reader.Read.remaining g.V.Writer.Write.contents)
     (local_clock (g.K.WallClock.shows c.args.desk.now.clock.now) c.args.desk.now.settings.now.zone)
+    (IsOnWall c.args.desk.now.wall (offset_of c.args.desk.now.settings.now.zone))
     c.args.desk.now.settings.now.mark c.args.desk.now.settings.now.token
     (giver_of c.args.desk.now.settings.now.staff c.args.desk.now.staff) c.args.desk.now.is_json c.args.desk.now.sheet.now
     c.args.book.now.last c.usage.result c.args.plan plan.Usage _ _ _ _ c.in-Usage.is c.usage.ensures

@@ -7,6 +7,7 @@ use Rattle.till_cashier.proofs.GoingOn.{read_keeps, read_grows, stays_keeps, sta
 use Rattle.till_cashier.proofs.Doing.{on_ok, ok_then, word_done}
 use Rattle.till_cashier.specs.Clock.{local_clock}
 use Rattle.till_cashier.specs.Faults.{giver_of}
+use Rattle.till_cashier.specs.Today.{IsOnWall}
 use Rattle.till_cashier.proofs.Adding.{stays_word, word_enters}
 use Rattle.till_cashier.proofs.Marks.{own_book, other_book}
 use Rattle.till_work.specs.Exchanged.{IsExchanged}
@@ -342,6 +343,7 @@ returns-clause-says g c clean =
     (λ said. word_says (IsExchanged (g.V.Server.opens c.args.desk.now.server.now) g.V.Reader.Read.remaining g.V.Writer.Write.contents)
     (IsAnswered (g.V.Server.opens c.args.desk.now.server.now) g.V.Reader.Read.remaining g.V.Writer.Write.contents)
     (local_clock (g.K.WallClock.shows c.args.desk.now.clock.now) c.args.desk.now.settings.now.zone)
+    (IsOnWall c.args.desk.now.wall (offset_of c.args.desk.now.settings.now.zone))
     c.args.desk.now.settings.now.mark c.args.desk.now.settings.now.token (giver_of c.args.desk.now.settings.now.staff c.args.desk.now.staff)
     c.args.desk.now.is_json c.args.desk.now.sheet.now c.in_ok-book.book.last c.args.act c.in_ok-plan.plan c.in_ok-book.book.place
     c.carry_out.new.book.place (state g.S.Store c.args.conn.now) (state g.S.Store c.read.new.conn)
