@@ -1,3 +1,4 @@
+pub mod LookLaws
 pub mod FieldLaws
 pub mod WordLaws
 pub mod WordLoop
@@ -5,3 +6,10 @@ pub mod Differences
 pub mod FrameLaws
 pub mod WindowLaws
 pub mod StandardLemmas
+pub mod DoneLaws
+pub mod OutputLaws
+pub mod LineLaws
+pub mod FrameWords
+pub mod ServingLaws
+pub mod PromptLaws
+pub mod PeerLaws

@@ -1,5 +1,6 @@
 -- Windows share a book.
-use Rattle.std.proofs.Common.{◌≡◌, ℕ, List, [], ◌∷◌, ◌++◌, IsTrue, Result, Ok, sym, ap, subst, ◌∙◌, append_assoc, append-nil}
+use Rattle.std.proofs.Common.{◌≡◌, ℕ, List, [], ◌∷◌, ◌++◌, IsTrue, Result, Ok, refl, sym, ap, subst, ◌∙◌, append_assoc, append-nil}
+use Rattle.std.proofs.lemmas.Bool.{false≢true}
 use Rattle.sqlite_trees.specs.declared.store.Store.{Ghosts}
 use Rattle.sqlite.specs.Held.{Held, state}
 use Rattle.sqlite.specs.State.{State}
@@ -19,7 +20,8 @@ use Rattle.till_cashier.specs.declared.fault.TillFault.{TillFault}
 use Rattle.till_cashier.specs.Doing.{DoesWord, GivesWord}
 use Rattle.till_cashier.specs.Returns.{IsReturned}
 use Rattle.till_cashier.specs.Word.{KeepsATillsBook, IsBehind}
-use Rattle.till_program.specs.Windows.{Done, IsDone, AreDone, IsGivenIn, IsIn, ActsStay, CopiesComeBack, book_after}
+use Rattle.till_cashier.proofs.GoingOn.{same_keeps}
+use Rattle.till_program.specs.Windows.{Done, IsDone, AreDone, IsGivenIn, IsIn, ActsStay, CopiesComeBack, PerformedIsDone, book_after}
 
 module _ {S : Type 0} (g : Ghosts S) (Exchanged : List ℕ → Answer → Type 0) (shows : ℕ → Type 0) where
   -- a book that goes on, and goes on again
@@ -101,3 +103,10 @@ module _ {S : Type 0} (g : Ghosts S) (Exchanged : List ℕ → Answer → Type 0
       subst (λ (act : TillAct). DoesWord Exchanged shows mark token word.giver word.sheet act (state g (book_after s before)) (state g word.after))
       is (done.does told) in
       (does.0, does.1, given_stays mark token s journal commands before later word (seen_act (TakeBack does.0.rental)) rests book first last does.2)
+
+  -- a word, and what was made sure of after it
+  pub performed_is_done : (Answers : List ℕ → Answer → Type 0) → PerformedIsDone g Exchanged Answers shows
+  performed_is_done Answers mark token own giver json sheet act status window said wall offset output written before after branch zero it = (
+    record { keeps = it.keeps refl branch; does = λ told. it.does (zero told) },
+    (record { keeps = same_keeps Exchanged mark (state g it.between) (state g after) (it.sure refl); does = λ told. absurd (false≢true told) }, tt),
+  )

@@ -4,3 +4,7 @@ pub mod Reading
 pub mod Settings
 pub mod Windows
 pub mod StandardTime
+pub mod Performing
+pub mod Lines
+pub mod Serving
+pub mod Prompting

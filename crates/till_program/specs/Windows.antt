@@ -1,9 +1,10 @@
 -- Many windows at one book.
-use Rattle.std.specs.Prelude.{◌≡◌, ⊤, ℕ, Bool, List, [], ◌∷◌, ◌++◌, length, IsTrue, Result, Ok}
+use Rattle.std.specs.Prelude.{◌≡◌, ⊤, ℕ, ℤ, Bool, false, List, [], ◌∷◌, ◌++◌, length, IsTrue, Option, IsSome, Result, Ok}
 use Rattle.std.specs.List.{AllByRecursion}
 use Rattle.sqlite_trees.specs.declared.store.Store.{Ghosts}
 use Rattle.sqlite.specs.Held.{Held, state}
 use Rattle.sqlite.specs.State.{State}
+use Rattle.jiff_tz.specs.declared.timezone.TimeZone.{TimeZone}
 use Rattle.shop_model.specs.Values.{Text, Act, Command}
 use Rattle.shop_model.specs.Answers.{Answer}
 use Rattle.shop_types.specs.Seen.{seen_act}
@@ -19,7 +20,8 @@ use Rattle.till_cashier.specs.declared.fault.TillFault.{TillFault}
 use Rattle.till_cashier.specs.Doing.{DoesWord}
 use Rattle.till_cashier.specs.Giving.{AreTries, IsBack}
 use Rattle.till_cashier.specs.Returns.{IsReturned}
-use Rattle.till_cashier.specs.Word.{KeepsATillsBook}
+use Rattle.till_cashier.specs.Word.{KeepsATillsBook, EntersNothing}
+use Rattle.till_program.specs.Performing.{IsPerformed}
 
 -- a word: its window, its giver, the sheet beside the book, what it asked for, whether the desk replied that it was done, the book after it
 pub record Done (S : Type 0) : Type 0 where
@@ -102,3 +104,15 @@ CopiesComeBack {S} g Exchanged shows =
     → IsTrue word.is_said → word.act ≡ typed.ReturnCopy copy
     → (held : HeldRental) × IsReturned word.sheet copy held (state g (book_after s before))
     × IsIn shows mark token word.giver (seen_act (TakeBack held.rental)) commands (state g (book_after word.after later))
+
+-- A word that the program performed at a branch's book is two of the words above: the word, and what was made sure of after it.
+abbrev pub PerformedIsDone : {S : Type 0} → Ghosts S → (List ℕ → Answer → Type 0) → (List ℕ → Answer → Type 0) → (ℕ → Type 0) → Type 0
+PerformedIsDone {S} g Exchanged Answers shows =
+    (mark token : Text) (own : Option ℕ) (giver : Result ℕ TillFault) (json : Bool) (sheet : Text) (act : TillAct) (status window : ℕ) (said : Bool)
+    (wall : TimeZone) (offset : ℤ) (output written : Option (List ℕ)) (before after : Held S)
+    → IsSome own → (IsTrue said → status ≡ 0)
+    → (it : IsPerformed g Exchanged Answers (EntersNothing Exchanged) shows wall offset mark token own giver json sheet act false status output written
+    before after)
+    → AreDone g Exchanged shows mark token before
+    (record { window = window; giver = giver; sheet = sheet; act = act; is_said = said; after = it.between }
+    ∷ (record { window = window; giver = giver; sheet = sheet; act = act; is_said = false; after = after } ∷ []))

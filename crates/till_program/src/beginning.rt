@@ -17,6 +17,7 @@ use std::fs;
 use std::io::Write;
 use std::net::{SocketAddr, TcpListener, ToSocketAddrs};
 use till_cashier::{Line, TillFault};
+use till_words::DrawerNo;
 
 // ---- the desk
 
@@ -169,6 +170,7 @@ pub(crate) fn set_up<W: Write>(
     book: &str,
     address: String,
     staff: StaffNo,
+    drawer: Option<DrawerNo>,
     secret_file: Option<String>,
     out: &mut W,
 ) -> Result<u8, ShopFault> {
@@ -187,6 +189,7 @@ pub(crate) fn set_up<W: Write>(
         address,
         secret,
         staff,
+        drawer,
     };
     let text = window_text(alloc, &window)?;
     if read_window(alloc, text.as_slice()).is_err() {

@@ -2,6 +2,7 @@
 
 use shop_types::StaffNo;
 use std::alloc::{AllocError, Global};
+use till_words::DrawerNo;
 
 /// What the options before a word say.
 #[derive(Clone, Copy)]
@@ -10,6 +11,8 @@ pub(crate) struct Leading<'w> {
     pub(crate) book: Option<&'w str>,
     /// Whether somebody is named who gives the word.
     pub(crate) names_staff: bool,
+    /// Whether the drawer is named at which the word is given.
+    pub(crate) names_drawer: bool,
     /// The place of the word, or how many words there are if none follows.
     pub(crate) place: usize,
 }
@@ -24,6 +27,8 @@ pub(crate) const ONCE: &str = "once";
 #[derive(Clone, Copy)]
 pub(crate) struct Giver {
     pub(crate) staff: StaffNo,
+    /// The window's drawer, or 0 if it has none of its own.
+    pub(crate) drawer: u32,
     /// Whether the words come from a prompt, where a question can be asked.
     pub(crate) is_asked: bool,
     /// Whether the question on the words was answered by yes.
@@ -35,6 +40,7 @@ pub(crate) fn read_leading(words: &[String]) -> Leading<'_> {
     let mut leading = Leading {
         book: None,
         names_staff: false,
+        names_drawer: false,
         place: words.len(),
     };
     let mut takes = None;
@@ -48,6 +54,7 @@ pub(crate) fn read_leading(words: &[String]) -> Leading<'_> {
             Some(_) => takes = None,
             None if word == "--book" || word == "--staff" || word == "--drawer" => {
                 leading.names_staff = leading.names_staff || word == "--staff";
+                leading.names_drawer = leading.names_drawer || word == "--drawer";
                 takes = Some(word);
             }
             None if !word.starts_with("--") => {
@@ -56,6 +63,7 @@ pub(crate) fn read_leading(words: &[String]) -> Leading<'_> {
             }
             None => {
                 leading.names_staff = leading.names_staff || word.starts_with("--staff=");
+                leading.names_drawer = leading.names_drawer || word.starts_with("--drawer=");
                 leading.book = word.strip_prefix("--book=").or(leading.book);
             }
         }
@@ -63,29 +71,47 @@ pub(crate) fn read_leading(words: &[String]) -> Leading<'_> {
     leading
 }
 
-/// Returns the line of the words: what says who is asked, and the words without the name of a book. They have the member
-/// of staff if they name none, and `--yes` if a question was answered by it.
-pub(crate) fn words_to_send(
+/// Adds an option with its number. 0 stands for no number.
+fn push_option(
     alloc: Global,
-    words: &[String],
+    sent: &mut Vec<String>,
+    option: &str,
+    number: u32,
+) -> Result<(), AllocError> {
+    sent.push(String::from_str(alloc, option)?)?;
+    if number == 0 {
+        return Ok(());
+    }
+    sent.push(format!(in alloc; "{number}")?)?;
+    Ok(())
+}
+
+/// Adds the member of staff and the window's drawer, if the words name none, and `--yes` if a question was answered by it.
+fn push_giver(
+    alloc: Global,
+    sent: &mut Vec<String>,
     giver: Giver,
-) -> Result<Vec<String>, AllocError> {
-    let Giver {
-        staff,
-        is_asked,
-        is_sure,
-    } = giver;
-    let first = if is_asked { PROMPT } else { ONCE };
-    let leading = read_leading(words);
-    let mut sent = Vec::new(alloc);
-    sent.push(String::from_str(alloc, first)?)?;
-    if is_sure {
-        sent.push(String::from_str(alloc, "--yes")?)?;
+    leading: &Leading<'_>,
+) -> Result<(), AllocError> {
+    let has_drawer = giver.drawer != 0 && !leading.names_drawer;
+    for (is_added, option, number) in [
+        (giver.is_sure, "--yes", 0),
+        (!leading.names_staff, "--staff", giver.staff.get()),
+        (has_drawer, "--drawer", giver.drawer),
+    ] {
+        if is_added {
+            push_option(alloc, sent, option, number)?;
+        }
     }
-    if !leading.names_staff {
-        sent.push(String::from_str(alloc, "--staff")?)?;
-        sent.push(format!(in alloc; "{}", staff.get())?)?;
-    }
+    Ok(())
+}
+
+/// Adds the words, without the name of a book.
+fn push_words(
+    sent: &mut Vec<String>,
+    words: &[String],
+    leading: &Leading<'_>,
+) -> Result<(), AllocError> {
     let mut is_name = false;
     for (place, word) in words.iter().enumerate() {
         let is_option = place < leading.place;
@@ -95,6 +121,22 @@ pub(crate) fn words_to_send(
             sent.push(word.clone()?)?;
         }
     }
+    Ok(())
+}
+
+/// Returns the line of the words: what says who is asked, and the words without the name of a book. They have the member
+/// of staff and the window's drawer if they name none, and `--yes` if a question was answered by it.
+pub(crate) fn words_to_send(
+    alloc: Global,
+    words: &[String],
+    giver: Giver,
+) -> Result<Vec<String>, AllocError> {
+    let leading = read_leading(words);
+    let first = if giver.is_asked { PROMPT } else { ONCE };
+    let mut sent = Vec::new(alloc);
+    sent.push(String::from_str(alloc, first)?)?;
+    push_giver(alloc, &mut sent, giver, &leading)?;
+    push_words(&mut sent, words, &leading)?;
     Ok(sent)
 }
 
@@ -110,6 +152,7 @@ pub(crate) enum DeskWord {
     Window {
         address: String,
         staff: StaffNo,
+        drawer: Option<DrawerNo>,
         secret_file: Option<String>,
     },
 }
@@ -117,7 +160,7 @@ pub(crate) enum DeskWord {
 /// What is said if a word about desks isn't given as it should be.
 pub(crate) const USAGE: &str =
     "Hold the book for windows: desk --port PORT, at another address with --listen ADDRESS
-Set up a window of a desk: window ADDRESS --staff N, with its secret in a file by --secret-file FILE
+Set up a window of a desk: window ADDRESS --staff N, with a drawer of its own by --drawer N, and its secret in a file by --secret-file FILE
 ";
 
 /// Parts words into options with their values. A value without an option has the option `--address`. Returns none if an
@@ -204,11 +247,24 @@ pub(crate) fn window_word(alloc: Global, words: &[String]) -> Result<Option<Desk
         Some(file) => Some(String::from_str(alloc, file)?),
         None => None,
     };
-    let is_known = are_known(pairs, &["--address", "--staff", "--secret-file"]);
+    let drawer = match value_of(pairs, "--drawer") {
+        Some(number) => {
+            let Some(drawer) = DrawerNo::read(number.as_bytes()) else {
+                return Ok(None);
+            };
+            Some(drawer)
+        }
+        None => None,
+    };
+    let is_known = are_known(
+        pairs,
+        &["--address", "--staff", "--drawer", "--secret-file"],
+    );
     match (value_of(pairs, "--address"), staff) {
         (Some(address), Some(staff)) if is_known => Ok(Some(DeskWord::Window {
             address: String::from_str(alloc, address)?,
             staff,
+            drawer,
             secret_file,
         })),
         (Some(_) | None, Some(_) | None) => Ok(None),

@@ -1,18 +1,19 @@
 //! One frame at the book that a desk holds.
 
-ghost use Rattle.std.specs.Prelude.{◌≡◌, false, ℕ, List, IfSome};
+ghost use Rattle.std.specs.Prelude.{◌≡◌, ◌≢◌, ◌⊎◌, false, ℕ, List, map, string_bytes, None, IfOk, IfSome};
 ghost use Rattle.till_program.specs.Frames as spec;
+ghost use Rattle.till_program.specs.Serving.{desk_words, DoesFrame, IsReplyOf, Handles, RepliesTo};
 
 use crate::fault::{NoFrame, NoLine};
 use crate::frames::read_frame;
 use crate::given::{ONCE, PROMPT};
-use crate::lines::read_line;
+use crate::lines::{push_copies, read_line};
 use crate::opening::OpenBook;
 use crate::program::{Asks, Standing, Stock, Words, perform_words};
 use crate::replies::reply_text;
 use crate::secret::Secret;
 use crate::way::{Patience, Way};
-use std::alloc::Global;
+use std::alloc::{AllocError, Global};
 use till_cashier::Line;
 
 /// A desk's book by its name, and its secret.
@@ -31,7 +32,9 @@ pub struct Handled {
 }
 
 /// Returns the sentence and the status for bytes that are no frame.
-fn refusal(fault: NoFrame) -> (u8, &'static str) {
+fn refusal(fault: NoFrame) -> (u8, &'static str)
+    ensures { result.0 ≢ 0 }
+{
     match fault {
         NoFrame::Short => (3, "The word didn't come whole. Nothing was entered.\n"),
         NoFrame::Foreign => (
@@ -48,13 +51,17 @@ fn refusal(fault: NoFrame) -> (u8, &'static str) {
 }
 
 /// Returns the reply to bytes that are no frame.
-pub(crate) fn refused(alloc: Global, fault: NoFrame) -> Result<Vec<u8>, NoLine> {
+pub(crate) fn refused(alloc: Global, fault: NoFrame) -> Result<Vec<u8>, NoLine>
+    ensures { IfOk result (λ text. IsReplyOf text.items (λ status out. status ≢ 0)) }
+{
     let (status, sentence) = refusal(fault);
     reply_text(alloc, status, b"", sentence.as_bytes())
 }
 
 /// Returns the reply to a line that can't be read, or whose answer can't be sent.
-fn unread(alloc: Global, fault: NoLine) -> Result<Vec<u8>, NoLine> {
+fn unread(alloc: Global, fault: NoLine) -> Result<Vec<u8>, NoLine>
+    ensures { IfOk result (λ text. IsReplyOf text.items (λ status out. status ≢ 0)) }
+{
     match fault {
         NoLine::Memory => Err(NoLine::Memory),
         NoLine::NotText => reply_text(alloc, 2, b"", b"error: a word isn't UTF-8\n"),
@@ -72,11 +79,16 @@ fn asks_of(line: &[String]) -> Option<Asks> {
 }
 
 /// Returns the words of a line after its first, with the name of the book before them.
-fn words_at(alloc: Global, name: &str, line: Vec<String>) -> Result<Vec<String>, NoLine> {
+fn words_at(alloc: Global, name: &str, line: &[String]) -> Result<Vec<String>, AllocError>
+    ensures { IfOk result (λ words. map string_bytes words.items ≡ desk_words name.now (map string_bytes line.now)) }
+{
     let mut words = Vec::new(alloc);
     words.push(String::from_str(alloc, "--book")?)?;
     words.push(String::from_str(alloc, name)?)?;
-    words.extend(line.into_iter().skip(1))?;
+    match line {
+        [] => {}
+        [_, rest @ ..] => push_copies(alloc, &mut words, rest)?,
+    }
     Ok(words)
 }
 
@@ -90,14 +102,19 @@ fn performed(
     held: &mut Option<OpenBook>,
 ) -> Result<Vec<u8>, NoLine>
     requires { IfSome held.old (λ book. book.conn.in_transaction ≡ false) }
-    ensures { IfSome held.new (λ book. book.conn.in_transaction ≡ false) }
+    ensures ended { IfSome held.new (λ book. book.conn.in_transaction ≡ false) }
+    ensures done { (held.new ≡ held.old)
+        ⊎ ((status : ℕ) × (out : List ℕ) × DoesFrame (string_bytes desk.now.name) line.now file.now status out
+        held.old held.new) }
+    ensures replied { IfOk result (λ text. IsReplyOf text.items (λ status out. DoesFrame (string_bytes desk.now.name)
+        line.now file.now status out held.old held.new)) }
 {
     let alloc = rt.alloc();
     let line = read_line(alloc, line)?;
     let Some(asks) = asks_of(line.as_slice()) else {
         return Err(NoLine::Form(NoFrame::Foreign));
     };
-    let words = words_at(alloc, desk.name.as_str(), line)?;
+    let words = words_at(alloc, desk.name.as_str(), line.as_slice())?;
     let mut out: Vec<u8> = Vec::new(alloc);
     let mut err: Vec<u8> = Vec::new(alloc);
     let given = Words {
@@ -114,7 +131,7 @@ fn performed(
     reply_text(alloc, done.status, out.as_slice(), err.as_slice())
 }
 
-/// Does what a window's bytes ask for, and returns the reply. Bytes that aren't a whole frame with the desk's secret
+/// Does what a window's bytes ask for, once, and returns the reply. Bytes that aren't a whole frame with the desk's secret
 /// leave the book as it is. Returns no reply if more bytes may make them one, or if memory ran out.
 pub fn handle(
     rt: &HostRuntime,
@@ -127,6 +144,10 @@ pub fn handle(
     ensures idle { IfSome held.new (λ book. book.conn.in_transaction ≡ false) }
     ensures kept { ((line file : List ℕ) → ¬ (bytes.now ≡ spec.frame desk.now.secret line file))
         → held.new ≡ held.old }
+    ensures waits { IfOk result (λ it. it.reply ≡ None → held.new ≡ held.old) }
+    ensures handles { Handles (string_bytes desk.now.name) desk.now.secret bytes.now held.old held.new }
+    ensures replies { IfOk result (λ it. IfSome it.reply (λ text. IsReplyOf text.items (RepliesTo (string_bytes
+        desk.now.name) desk.now.secret bytes.now held.old held.new))) }
 {
     let mut line = server;
     let reply = match read_frame(bytes, &desk.secret) {

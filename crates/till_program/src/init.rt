@@ -1,11 +1,14 @@
 //! Makes a book and its settings.
 
+ghost use Rattle.std.specs.Prelude.{◌≡◌, IfOk};
+ghost use Rattle.till_requests.specs.Marks.{IsDrawnMark};
+
 use crate::files::{begin_at, is_there, may_be_book, write_own};
 use crate::zones::zone_named;
 use std::fs;
 use till_cashier::{Said, TillFault};
 use till_files::close_book;
-use till_requests::{NoSettings, Settings, Zone, new_mark, read_settings, settings_text};
+use till_requests::{Dice, NoSettings, Settings, Zone, new_mark, read_settings, settings_text};
 use till_words::{Beginning, ZoneText};
 
 /// Returns the path of a book's settings.
@@ -60,25 +63,45 @@ fn zone_typed(rt: &HostRuntime, zone: Option<ZoneText>) -> Result<Option<Zone>, 
     }
 }
 
-/// Makes a book, with a mark that no other book has, and its settings beside it. Fails with `Already` if settings, a
-/// book with entries, or a file that is no book is there. That file stays.
-pub(crate) fn begin(rt: &HostRuntime, book: &str, beginning: Beginning) -> Result<Said, TillFault> {
-    if !is_free(rt, book)? {
-        return Err(TillFault::Already);
-    }
+/// Returns the settings that were typed for a new book, with its zone and a mark that was drawn.
+fn settings_typed<D: Dice>(
+    rt: &HostRuntime,
+    dice: &D,
+    beginning: Beginning,
+) -> Result<Settings, TillFault>
+    ensures typed { IfOk result (λ it. it ≡ record {
+      address = beginning.address;
+      token = beginning.token;
+      staff = beginning.staff;
+      mark = it.mark;
+      zone = it.zone;
+    }) }
+    ensures drawn { IfOk result (λ it. IsDrawnMark (D.draws dice.now) it.mark) }
+{
     let Beginning {
         address,
         token,
         staff,
         zone,
     } = beginning;
-    let settings = Settings {
+    let zone = zone_typed(rt, zone)?;
+    let mark = new_mark(dice)?;
+    Ok(Settings {
         address,
         token,
         staff,
-        mark: new_mark(rt)?,
-        zone: zone_typed(rt, zone)?,
-    };
+        mark,
+        zone,
+    })
+}
+
+/// Makes a book, with a mark that no other book has, and its settings beside it. Fails with `Already` if settings, a
+/// book with entries, or a file that is no book is there. That file stays.
+pub(crate) fn begin(rt: &HostRuntime, book: &str, beginning: Beginning) -> Result<Said, TillFault> {
+    if !is_free(rt, book)? {
+        return Err(TillFault::Already);
+    }
+    let settings = settings_typed(rt, rt, beginning)?;
     let text = text_of(rt, &settings)?;
     let conn = begin_at(rt, book)?;
     drop(close_book(conn));

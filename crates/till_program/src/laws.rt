@@ -1,6 +1,7 @@
 //! A law, on a function with nothing to do.
 
 ghost use Rattle.till_work.specs.Exchanged.{IsExchanged};
+ghost use Rattle.till_cashier.specs.Asking.{IsAnswered};
 ghost use Rattle.till_program.specs.Windows as law;
 
 use sqlite::Alter;
@@ -16,6 +17,8 @@ pub fn windows_share_a_book<S: Alter, K: WallClock, V: Server>(clock: &K, server
         (K.shows clock.now) }
     ensures copies { law.CopiesComeBack S.Store (IsExchanged (V.opens server.now) V.Reader.remaining V.Writer.contents)
         (K.shows clock.now) }
+    ensures performed { law.PerformedIsDone S.Store (IsExchanged (V.opens server.now) V.Reader.remaining V.Writer.contents)
+        (IsAnswered (V.opens server.now) V.Reader.remaining V.Writer.contents) (K.shows clock.now) }
 {
     let _ = clock;
     let _ = server;

@@ -1,12 +1,12 @@
 //! A line of words as bytes: how many there are, and each as a field.
 
-ghost use Rattle.std.specs.Prelude.{◌≡◌, ◌≤◌, length, IfOk, IfErr, Ok, map, string_bytes};
+ghost use Rattle.std.specs.Prelude.{◌≡◌, ◌≤◌, ◌++◌, length, IfOk, IfErr, OnOk, Ok, map, string_bytes};
 ghost use Rattle.till_program.specs.Frames.{AreWords, line};
 ghost use Rattle.till_program.specs.Reading.{Gives, Fails, words_at, line_at};
 
 use crate::fault::{NoFrame, NoLine};
 use crate::fields::{field_of, number_of, put_field};
-use std::alloc::Global;
+use std::alloc::{AllocError, Global};
 
 /// How many bytes a line, a word of it, and a file each have at most.
 pub(crate) const MOST: u32 = 65_536;
@@ -59,6 +59,21 @@ pub fn read_line(alloc: Global, bytes: &[u8]) -> Result<Vec<String>, NoLine>
 {
     let parts = parts_of(alloc, bytes)?;
     texts_of(alloc, parts)
+}
+
+/// Adds copies of the words.
+pub(crate) fn push_copies(
+    alloc: Global,
+    words: &mut Vec<String>,
+    more: &[String],
+) -> Result<(), AllocError>
+    ensures { OnOk result (map string_bytes words.new.items
+        ≡ map string_bytes words.old.items ++ map string_bytes more.now) }
+{
+    for word in more {
+        words.push(String::from_str(alloc, word.as_str())?)?;
+    }
+    Ok(())
 }
 
 /// Returns the bytes of a line of words. Fails with `Form` if a word or the line is too long.

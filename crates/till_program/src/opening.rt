@@ -1,6 +1,11 @@
 //! A book that is open, with what a word needs beside it.
 
-ghost use Rattle.std.specs.Prelude.{◌≡◌, false, IfOk, IfSome};
+ghost use Rattle.std.specs.Prelude.{◌≡◌, ◌↔◌, false, string_bytes, None, IfOk, IfSome, IsTrue};
+ghost use Rattle.sqlite.specs.Files.{file_state};
+ghost use Rattle.sqlite.specs.State.{HasCleanDisk};
+ghost use Rattle.till_book.specs.Steps.{Stays};
+ghost use Rattle.till_program.specs.Lines.{IsNotBegun};
+ghost use Rattle.till_program.specs.Performing.{IsOpened, IsFound};
 
 use crate::files::{is_asked_for, is_there, open_at, unask};
 use crate::init::settings_of;
@@ -33,7 +38,9 @@ pub struct OpenBook {
 }
 
 /// Reads the settings of the book of that name, and makes what a word needs beside them.
-pub(crate) fn tools_of(rt: &HostRuntime, name: &str) -> Result<Tools, TillFault> {
+pub(crate) fn tools_of(rt: &HostRuntime, name: &str) -> Result<Tools, TillFault>
+    ensures { IfOk result (λ tools. string_bytes tools.name ≡ name.now) }
+{
     if !is_there(rt, name) {
         return Err(TillFault::NoBook);
     }
@@ -53,7 +60,7 @@ pub(crate) fn tools_of(rt: &HostRuntime, name: &str) -> Result<Tools, TillFault>
 impl OpenBook {
     /// Opens the book of that name with its own settings.
     fn open(rt: &HostRuntime, name: &str) -> Result<OpenBook, TillFault>
-        ensures { IfOk result (λ book. book.conn.in_transaction ≡ false) }
+        ensures { IfOk result (IsOpened name.now) }
     {
         let tools = tools_of(rt, name)?;
         let conn = open_at(rt, &tools.routes, name)?;
@@ -68,7 +75,10 @@ impl OpenBook {
     /// Tests whether an entry of the book waits for its reply. In a book that can't be read none does.
     pub(crate) fn has_waiting(&mut self) -> bool
         requires { self.old.conn.in_transaction ≡ false }
-        ensures { self.new.conn.in_transaction ≡ false }
+        ensures ended { self.new.conn.in_transaction ≡ false }
+        ensures tools { self.new.tools ≡ self.old.tools }
+        ensures stays { HasCleanDisk (file_state self.new.conn)
+            → Stays (file_state self.old.conn) (file_state self.new.conn) }
     {
         match read_end(&mut self.conn) {
             Ok(end) => end.replies < end.entries,
@@ -94,14 +104,16 @@ impl OpenBook {
     }
 
     /// Tests whether it is the book of that name.
-    fn is_named(&self, name: &str) -> bool {
+    fn is_named(&self, name: &str) -> bool
+        ensures { IsTrue result ↔ string_bytes self.now.tools.name ≡ name.now }
+    {
         self.tools.name.as_str() == name
     }
 }
 
 /// Closes the book that is held, if one is.
 pub fn close_held(held: &mut Option<OpenBook>)
-    ensures { IfSome held.new (λ book. book.conn.in_transaction ≡ false) }
+    ensures { held.new ≡ None }
 {
     if let Some(book) = held.take() {
         book.close();
@@ -111,7 +123,8 @@ pub fn close_held(held: &mut Option<OpenBook>)
 /// Closes the book that is held, if another window asks for it.
 pub fn close_if_asked(rt: &HostRuntime, held: &mut Option<OpenBook>)
     requires { IfSome held.old (λ book. book.conn.in_transaction ≡ false) }
-    ensures { IfSome held.new (λ book. book.conn.in_transaction ≡ false) }
+    ensures ended { IfSome held.new (λ book. book.conn.in_transaction ≡ false) }
+    ensures closed { IsNotBegun held.old held.new }
 {
     let is_asked = match held {
         Some(book) => book.is_asked_for(rt),
@@ -130,8 +143,9 @@ pub(crate) fn opened(
     held: &mut Option<OpenBook>,
 ) -> Result<OpenBook, TillFault>
     requires { IfSome held.old (λ book. book.conn.in_transaction ≡ false) }
-    ensures idle { IfOk result (λ book. book.conn.in_transaction ≡ false) }
-    ensures held { IfSome held.new (λ book. book.conn.in_transaction ≡ false) }
+    ensures ended { IfOk result (λ book. book.conn.in_transaction ≡ false) }
+    ensures found { IfOk result (IsFound name.now held.old) }
+    ensures taken { held.new ≡ None }
 {
     let Some(book) = held.take() else {
         return OpenBook::open(rt, name);

@@ -1,6 +1,7 @@
 //! A connection of a window: an inbox, then an outbox, then it is gone.
 
-ghost use Rattle.std.specs.Prelude.{◌≡◌, false, IfSome};
+ghost use Rattle.std.specs.Prelude.{◌≡◌, ◌≢◌, false, string_bytes, IfSome};
+ghost use Rattle.till_program.specs.Serving.{Handles};
 
 use crate::fault::NoFrame;
 use crate::handling::{DeskBook, Handled, handle, refused};
@@ -93,7 +94,9 @@ impl Peer {
     }
 
     /// Drops the connection if the window's time is up. A window that didn't send its word whole gets that as its reply.
-    pub(crate) fn expire(&mut self, alloc: Global, now: Duration) {
+    pub(crate) fn expire(&mut self, alloc: Global, now: Duration)
+        ensures { self.old.phase ≢ Phase.Asks → self.new.phase ≢ Phase.Asks }
+    {
         if self.is_ready || now < self.deadline() {
             return;
         }
@@ -105,14 +108,20 @@ impl Peer {
     }
 
     /// Begins to reply.
-    fn reply(&mut self, text: Vec<u8>, now: Duration) {
+    fn reply(&mut self, text: Vec<u8>, now: Duration)
+        ensures inbox { self.new.inbox ≡ self.old.inbox }
+        ensures asked { self.new.phase ≢ Phase.Asks }
+    {
         self.outbox = text;
         self.phase = Phase::Gets(0);
         self.since = now;
     }
 
     /// Begins to reply that the bytes are no word.
-    fn refuse(&mut self, alloc: Global, fault: NoFrame, now: Duration) {
+    fn refuse(&mut self, alloc: Global, fault: NoFrame, now: Duration)
+        ensures inbox { self.new.inbox ≡ self.old.inbox }
+        ensures asked { self.new.phase ≢ Phase.Asks }
+    {
         match refused(alloc, fault) {
             Ok(text) => self.reply(text, now),
             Err(_) => self.phase = Phase::Gone,
@@ -159,7 +168,10 @@ impl Peer {
         held: &mut Option<OpenBook>,
     )
         requires { IfSome held.old (λ book. book.conn.in_transaction ≡ false) }
-        ensures { IfSome held.new (λ book. book.conn.in_transaction ≡ false) }
+        ensures ended { IfSome held.new (λ book. book.conn.in_transaction ≡ false) }
+        ensures inbox { self.new.inbox ≡ self.old.inbox }
+        ensures handled { Handles (string_bytes desk.now.name) desk.now.secret self.old.inbox.items held.old held.new }
+        ensures asks { self.new.phase ≡ Phase.Asks → held.new ≡ held.old }
     {
         match handle(rt, desk, self.inbox.as_slice(), *line, held) {
             Ok(Handled { reply, line: after }) => {
@@ -173,7 +185,10 @@ impl Peer {
     }
 
     /// Writes what goes of the reply.
-    fn write(&mut self, now: Duration) {
+    fn write(&mut self, now: Duration)
+        ensures inbox { self.new.inbox ≡ self.old.inbox }
+        ensures asked { self.old.phase ≢ Phase.Asks → self.new.phase ≢ Phase.Asks }
+    {
         let Phase::Gets(sent) = self.phase else {
             return;
         };
@@ -196,7 +211,10 @@ impl Peer {
     }
 
     /// Reads and drops what the window still sends.
-    fn leave(&mut self) {
+    fn leave(&mut self)
+        ensures inbox { self.new.inbox ≡ self.old.inbox }
+        ensures asked { self.old.phase ≢ Phase.Asks → self.new.phase ≢ Phase.Asks }
+    {
         let mut reader = &self.stream;
         let mut rest = [0u8; 4096];
         match reader.read(&mut rest) {
@@ -208,7 +226,8 @@ impl Peer {
         }
     }
 
-    /// Takes one turn: goes on as far as the window's bytes reach.
+    /// Takes one turn: goes on as far as the window's bytes reach. At most one word is done, and none if the window had a
+    /// reply before.
     pub(crate) fn turn(
         &mut self,
         rt: &HostRuntime,
@@ -218,7 +237,11 @@ impl Peer {
         held: &mut Option<OpenBook>,
     )
         requires { IfSome held.old (λ book. book.conn.in_transaction ≡ false) }
-        ensures { IfSome held.new (λ book. book.conn.in_transaction ≡ false) }
+        ensures ended { IfSome held.new (λ book. book.conn.in_transaction ≡ false) }
+        ensures handled { Handles (string_bytes desk.now.name) desk.now.secret self.new.inbox.items held.old held.new }
+        ensures asks { self.new.phase ≡ Phase.Asks → held.new ≡ held.old }
+        ensures once { self.old.phase ≢ Phase.Asks → held.new ≡ held.old }
+        ensures asked { self.old.phase ≢ Phase.Asks → self.new.phase ≢ Phase.Asks }
     {
         'pieces: for _ in 0..MOST_PIECES {
             if !self.is_ready {

@@ -1,11 +1,20 @@
 //! The program for one list of words.
 
-ghost use Rattle.std.specs.Prelude.{◌≡◌, false, IfErr, IfSome};
+ghost use Rattle.std.specs.Prelude.{◌≡◌, ◌≢◌, ◌⊎◌, true, false, map, string_bytes, None, IfErr, IfOk, IfSome};
+ghost use Rattle.std.specs.Io.KnownBytes.{Appends};
+ghost use Rattle.sqlite.specs.Files.{file_state};
 ghost use Rattle.sqlite.specs.Held.{state};
 ghost use Rattle.sqlite.specs.State.{HasCleanDisk};
+ghost use Rattle.till_requests.specs.Zones.{offset_of};
 ghost use Rattle.till_work.specs.Exchanged.{IsExchanged};
-ghost use Rattle.till_cashier.specs.Faults.{IsBookKept};
+ghost use Rattle.till_cashier.specs.Asked.{Grows};
+ghost use Rattle.till_cashier.specs.Asking.{IsAnswered};
+ghost use Rattle.till_cashier.specs.Clock.{local_clock};
+ghost use Rattle.till_cashier.specs.Faults.{IsBookKept, giver_of};
 ghost use Rattle.till_cashier.specs.Word.{EntersNothing};
+ghost use Rattle.till_program.specs.Lines.{IsCompleted, JoinsIn, sent_file, book_name, DoesLine, DoesWords, IsNotBegun, SetsZoneIn, HasZone};
+ghost use Rattle.till_program.specs.Prompting.{AsksForPrompt, PerformsOnce, RunsTill};
+ghost use Rattle.till_program.specs.Performing.{IsPerformed, MakesSure, IsAttempted, IsAttemptedAt, AtBook};
 
 use crate::files::FileShelf;
 use crate::greeting::greeting;
@@ -16,9 +25,11 @@ use crate::tcp::Tcp;
 use crate::way::{Patience, Way};
 use crate::zone_setting::set_zone;
 use crate::zones::wall_zone;
+use http_messages::write_whole;
 use shop_types::{Act, Moment, NewCustomer, Person, StaffNo, StockFile, Usage};
 use sqlite::{Alter, Connection, FileStore};
 use sqlite_std_file::File;
+use std::alloc::Global;
 use std::fs;
 use std::io::Write;
 use std::time::{Clock, Duration};
@@ -27,7 +38,8 @@ use till_cashier::{
     make_sure, make_sure_soon, question, read_sheet, said_day,
 };
 use till_words::{
-    FileName, PersonIn, TillAct, TillLine, asks_for_help, help_text, read_till_words,
+    DrawerNo, FileName, PersonIn, TillAct, TillLine, ZoneText, asks_for_help, help_text,
+    read_till_words,
 };
 use till_work::{Server, Watch};
 
@@ -61,7 +73,9 @@ pub enum Stock<'w> {
 }
 
 /// Returns the bytes of the stock file of that name.
-fn stock_file(rt: &HostRuntime, stock: Stock<'_>, file: &FileName) -> Result<Vec<u8>, TillFault> {
+fn stock_file(rt: &HostRuntime, stock: Stock<'_>, file: &FileName) -> Result<Vec<u8>, TillFault>
+    ensures { IfOk result (λ bytes. IfSome (sent_file stock.entry) (λ came. bytes.items ≡ came)) }
+{
     match stock {
         Stock::Named => match fs::read(rt, file.as_str()) {
             Ok(bytes) => Ok(bytes),
@@ -72,7 +86,9 @@ fn stock_file(rt: &HostRuntime, stock: Stock<'_>, file: &FileName) -> Result<Vec
 }
 
 /// Returns the act of who joins in a city that the sheet beside the book names.
-fn join_in(rt: &HostRuntime, book: &str, who: PersonIn) -> Result<TillAct, TillFault> {
+fn join_in(rt: &HostRuntime, book: &str, who: PersonIn) -> Result<TillAct, TillFault>
+    ensures { IfOk result (JoinsIn who) }
+{
     let sheet = read_sheet(rt.alloc(), &FileShelf { rt, book });
     let city = city_on_sheet(rt.alloc(), sheet.as_slice(), who.city.as_str())?;
     let person = Person {
@@ -92,9 +108,10 @@ fn completed(
     stock: Stock<'_>,
     book: &str,
     act: TillAct,
-) -> Result<TillAct, TillFault> {
+) -> Result<TillAct, TillFault>
+    ensures { IfOk result (IsCompleted (sent_file stock.entry) act) }
+{
     match act {
-        TillAct::JoinIn(who) => join_in(rt, book, who),
         TillAct::Import { file, lot } => {
             let bytes = stock_file(rt, stock, &file)?;
             match StockFile::new(bytes) {
@@ -102,17 +119,34 @@ fn completed(
                 None => Err(TillFault::TooLarge),
             }
         }
+        TillAct::JoinIn(who) => join_in(rt, book, who),
         other => Ok(other),
     }
 }
 
-/// Prints what a word resulted in, and returns its status. That is 0 only if the word was done.
+/// Writes the text. Returns false if the output failed: then a front of the text may be written.
+fn write_text<W: Write>(text: &str, out: &mut W) -> bool
+    ensures written { result ≡ true → Appends (W.contents out.old) (W.contents out.new) text.now }
+    ensures grows { Grows (W.contents out.old) (W.contents out.new) }
+{
+    match write_whole(out, text.as_bytes()) {
+        Ok(()) => out.flush().is_ok(),
+        Err(_) => false,
+    }
+}
+
+/// Prints what a word resulted in, and returns its status. That is 0 only if the word was done and says so itself, and
+/// its text is printed.
 fn print<W: Write, E: Write>(said: Result<Said, TillFault>, out: &mut W, err: &mut E) -> u8
-    ensures { result ≡ 0 → IfErr said (λ _. ⊥) }
+    ensures done { result ≡ 0 → IfErr said (λ _. ⊥) }
+    ensures accepted { result ≡ 0 → IfOk said (λ it. it.status ≡ 0) }
+    ensures printed { result ≡ 0 → IfOk said (λ it. Appends (W.contents out.old) (W.contents out.new)
+        (string_bytes it.text)) }
+    ensures grows { Grows (W.contents out.old) (W.contents out.new) }
 {
     match said {
         Ok(Said { text, status: 0 }) => {
-            let is_out = write!(out, "{text}").is_ok() && out.flush().is_ok();
+            let is_out = write_text(text.as_str(), out);
             if is_out { 0 } else { 3 }
         }
         Ok(Said { text, status }) => {
@@ -146,10 +180,10 @@ fn line_after(before: Line, is_send: bool, said: &Result<Said, TillFault>) -> Li
 }
 
 /// Reports whether the book failed.
-fn has_failed(sure: &Result<(), TillFault>) -> bool
-    ensures { result ≡ false → IsBookKept sure.now }
+fn has_failed<T>(outcome: &Result<T, TillFault>) -> bool
+    ensures { result ≡ false → IsBookKept outcome.now }
 {
-    matches!(sure, Err(TillFault::Book))
+    matches!(outcome, Err(TillFault::Book))
 }
 
 /// Makes sure of refused entries after a word: after `send` as long as it takes, and else for a short time.
@@ -187,11 +221,37 @@ fn sure_at<S: Alter, K: WallClock, V: Server, L: Shelf, W: Write, E: Write>(
     ensures same { HasCleanDisk (state S.Store conn.new) → result ≡ false
         → EntersNothing (IsExchanged (V.opens desk.now.server.now) V.Reader.remaining V.Writer.contents) (state S.Store
         conn.old) (state S.Store conn.new) }
+    ensures grows { Grows (W.contents out.old) (W.contents out.new) }
 {
     let mut more = Said::done(desk.alloc);
     let sure = made_sure(desk, conn, is_send, &mut more);
     print(Ok(more), out, err);
     has_failed(&sure)
+}
+
+/// Makes sure of refused entries after a word, over the desk's own server after `send` and else over that one. Returns
+/// whether the book failed.
+fn sure_after<S: Alter, K: WallClock, V: Server, L: Shelf, W: Write, E: Write>(
+    desk: &Desk<'_, K, V, L>,
+    least: &V,
+    conn: &mut Connection<S>,
+    is_send: bool,
+    out: &mut W,
+    err: &mut E,
+) -> bool
+    requires { conn.old.in_transaction ≡ false }
+    ensures ended { conn.new.in_transaction ≡ false }
+    ensures clean { HasCleanDisk (state S.Store conn.new) → HasCleanDisk (state S.Store conn.old) }
+    ensures same { HasCleanDisk (state S.Store conn.new) → result ≡ false
+        → MakesSure (IsExchanged (V.opens desk.now.server.now) V.Reader.remaining V.Writer.contents)
+        (IsExchanged (V.opens least.now) V.Reader.remaining V.Writer.contents) (state S.Store conn.old) (state S.Store
+        conn.new) }
+    ensures grows { Grows (W.contents out.old) (W.contents out.new) }
+{
+    if is_send {
+        return sure_at(desk, conn, true, out, err);
+    }
+    sure_at(&desk.over(least), conn, false, out, err)
 }
 
 /// Does a word at an open book, and prints what it resulted in. If it was done, refused entries are made sure of after
@@ -208,11 +268,23 @@ fn word_at<S: Alter, K: WallClock, V: Server, L: Shelf, W: Write, E: Write>(
 ) -> Outcome
     requires { conn.old.in_transaction ≡ false }
     ensures ended { conn.new.in_transaction ≡ false }
+    ensures clean { HasCleanDisk (state S.Store conn.new) → HasCleanDisk (state S.Store conn.old) }
+    ensures performed { HasCleanDisk (state S.Store conn.new)
+        → IsPerformed S.Store (IsExchanged (V.opens desk.now.server.now) V.Reader.remaining V.Writer.contents)
+        (IsAnswered (V.opens desk.now.server.now) V.Reader.remaining V.Writer.contents)
+        (MakesSure (IsExchanged (V.opens desk.now.server.now) V.Reader.remaining V.Writer.contents)
+        (IsExchanged (V.opens least.now) V.Reader.remaining V.Writer.contents))
+        (local_clock (K.shows desk.now.clock.now) desk.now.settings.now.zone) desk.now.wall
+        (offset_of desk.now.settings.now.zone) desk.now.settings.now.mark desk.now.settings.now.token
+        desk.now.settings.now.staff
+        (giver_of desk.now.settings.now.staff desk.now.staff) desk.now.is_json desk.now.sheet.now act result.is_failed result.status
+        (W.contents out.old) (W.contents out.new) conn.old conn.new }
+    ensures grows { Grows (W.contents out.old) (W.contents out.new) }
 {
     let is_send = matches!(act, TillAct::Send);
     let said = do_word(desk, conn, act, watch);
     let line = line_after(desk.line, is_send, &said);
-    let is_failed = matches!(said, Err(TillFault::Book));
+    let is_failed = has_failed(&said);
     let status = print(said, out, err);
     if status != 0 {
         return Outcome {
@@ -221,10 +293,9 @@ fn word_at<S: Alter, K: WallClock, V: Server, L: Shelf, W: Write, E: Write>(
             line,
         };
     }
-    let server = if is_send { desk.server } else { least };
     Outcome {
         status,
-        is_failed: sure_at(&desk.over(server), conn, is_send, out, err),
+        is_failed: sure_after(desk, least, conn, is_send, out, err),
         line,
     }
 }
@@ -252,22 +323,24 @@ pub struct Standing {
 }
 
 /// A word, how its answer is printed, and whether it is done without a question. And who gives it, if it isn't the
-/// member of staff whose till it is, and how it may use the line to the server.
+/// member of staff whose till it is. And its drawer, and how it may use the line to the server.
 #[derive(Drop)]
 struct Word {
     is_json: bool,
     is_sure: bool,
     asks: Asks,
     staff: Option<StaffNo>,
-    /// The drawer, or 0 for the book's own.
+    /// 0 for the book's own.
     drawer: u32,
     act: TillAct,
     way: Way,
 }
 
 /// Asks the question on `out`, and reads a line. Returns whether it is `y` or `yes`.
-pub fn says_yes<W: Write>(rt: &HostRuntime, question: &str, out: &mut W) -> bool {
-    if write!(out, "{question}").is_err() || out.flush().is_err() {
+pub fn says_yes<W: Write>(rt: &HostRuntime, question: &str, out: &mut W) -> bool
+    ensures grows { Grows (W.contents out.old) (W.contents out.new) }
+{
+    if !write_text(question, out) {
         return false;
     }
     'lines: for line in rt.lines(rt.alloc()) {
@@ -290,7 +363,7 @@ enum Consent {
     Asked(String),
 }
 
-/// Returns what came of the question before a word.
+/// Returns what came of the question before a word. If the word is sure, nothing is asked.
 fn ask_consent<K: WallClock, V: Server, L: Shelf, W: Write>(
     rt: &HostRuntime,
     desk: &Desk<'_, K, V, L>,
@@ -298,7 +371,9 @@ fn ask_consent<K: WallClock, V: Server, L: Shelf, W: Write>(
     asks: Asks,
     last: Option<Moment>,
     out: &mut W,
-) -> Consent {
+) -> Consent
+    ensures grows { Grows (W.contents out.old) (W.contents out.new) }
+{
     match question(desk, act, last) {
         Ok(None) => Consent::Given,
         Ok(Some(Inquiry { text, fault })) => match asks {
@@ -311,8 +386,11 @@ fn ask_consent<K: WallClock, V: Server, L: Shelf, W: Write>(
 }
 
 /// Returns what a window's word resulted in that wasn't done yet: its question is printed.
-fn question_outcome<W: Write>(question: &str, line: Line, out: &mut W) -> Outcome {
-    let _ = write!(out, "{question}");
+fn question_outcome<W: Write>(question: &str, line: Line, out: &mut W) -> Outcome
+    ensures asked { result.status ≢ 0 }
+    ensures grows { Grows (W.contents out.old) (W.contents out.new) }
+{
+    write_text(question, out);
     Outcome {
         status: ASKED,
         is_failed: false,
@@ -321,7 +399,10 @@ fn question_outcome<W: Write>(question: &str, line: Line, out: &mut W) -> Outcom
 }
 
 /// Prints the fault of a word that wasn't begun.
-fn not_done<W: Write, E: Write>(fault: TillFault, line: Line, out: &mut W, err: &mut E) -> Outcome {
+fn not_done<W: Write, E: Write>(fault: TillFault, line: Line, out: &mut W, err: &mut E) -> Outcome
+    ensures status { result.status ≢ 0 }
+    ensures grows { Grows (W.contents out.old) (W.contents out.new) }
+{
     Outcome {
         status: print(Err(fault), out, err),
         is_failed: matches!(fault, TillFault::Book),
@@ -339,7 +420,12 @@ fn with_tools<'x, W: Write, E: Write>(
     err: &mut E,
 ) -> Outcome
     requires { conn.old.in_transaction ≡ false }
-    ensures { conn.new.in_transaction ≡ false }
+    ensures ended { conn.new.in_transaction ≡ false }
+    ensures clean { HasCleanDisk (file_state conn.new) → HasCleanDisk (file_state conn.old) }
+    ensures attempted { HasCleanDisk (file_state conn.new)
+        → IsAttempted tools.now.settings word.is_json word.staff word.act result.is_failed result.status (W.contents out.old)
+        (W.contents out.new) conn.old conn.new }
+    ensures grows { Grows (W.contents out.old) (W.contents out.new) }
 {
     let Word {
         is_json,
@@ -381,16 +467,19 @@ fn with_tools<'x, W: Write, E: Write>(
         Err(fault) => return not_done(fault, way.line, out, err),
     };
     desk.said_day = asked.said_day;
-    if !is_sure {
-        match ask_consent(rt, &desk, &act, asks, asked.last, out) {
-            Consent::Given => desk.is_sure = true,
-            Consent::Missing(TillFault::Joined(number)) => {
-                return not_done(TillFault::Joined(number), way.line, out, err);
-            }
-            Consent::Missing(_) => {}
-            Consent::Asked(question) => return question_outcome(question.as_str(), way.line, out),
+    let consent = if is_sure {
+        Consent::Given
+    } else {
+        ask_consent(rt, &desk, &act, asks, asked.last, out)
+    };
+    desk.is_sure = match consent {
+        Consent::Given => true,
+        Consent::Missing(TillFault::Joined(number)) => {
+            return not_done(TillFault::Joined(number), way.line, out, err);
         }
-    }
+        Consent::Missing(_) => false,
+        Consent::Asked(question) => return question_outcome(question.as_str(), way.line, out),
+    };
     let begun = rt.monotonic().unwrap_or(Duration::ZERO);
     let mut watch = Progress {
         rt,
@@ -414,28 +503,62 @@ fn at_book<W: Write, E: Write>(
     err: &mut E,
 ) -> Result<Performed, TillFault>
     requires { IfSome held.old (λ book. book.conn.in_transaction ≡ false) }
-    ensures { IfSome held.new (λ book. book.conn.in_transaction ≡ false) }
+    ensures ended { IfSome held.new (λ book. book.conn.in_transaction ≡ false) }
+    ensures attempted { IfOk result (λ it. AtBook (IsAttemptedAt word.is_json word.staff word.act it.status (W.contents out.old)
+        (W.contents out.new)) name.now held.old held.new) }
+    ensures closed { IfErr result (λ _. held.new ≡ None) }
+    ensures grows { Grows (W.contents out.old) (W.contents out.new) }
 {
     let mut book = opened(rt, name, held)?;
     let outcome = with_tools(rt, &book.tools, &mut book.conn, word, out, err);
-    if outcome.is_failed {
-        book.close();
-    } else {
-        *held = Some(book);
-    }
-    Ok(Performed {
+    let performed = Performed {
         status: outcome.status,
         line: outcome.line,
-    })
+    };
+    if outcome.is_failed {
+        book.close();
+        return Ok(performed);
+    }
+    *held = Some(book);
+    Ok(performed)
 }
 
 /// Returns the name of the book's file: the one that is given, or `till.book`.
-pub fn book_of(rt: &HostRuntime, named: &Option<FileName>) -> Result<String, TillFault> {
+pub fn book_of(rt: &HostRuntime, named: &Option<FileName>) -> Result<String, TillFault>
+    ensures { IfOk result (λ name. string_bytes name ≡ book_name named.now) }
+{
     let name = match named {
         Some(name) => name.as_str(),
         None => BOOK,
     };
     Ok(String::from_str(rt.alloc(), name)?)
+}
+
+/// Sets the zone of the book of that name, and prints what that resulted in. Returns the status.
+fn perform_zone<W: Write, E: Write>(
+    rt: &HostRuntime,
+    book: &str,
+    zone: &ZoneText,
+    held: &mut Option<OpenBook>,
+    out: &mut W,
+    err: &mut E,
+) -> u8
+    requires { IfSome held.old (λ book. book.conn.in_transaction ≡ false) }
+    ensures ended { IfSome held.new (λ book. book.conn.in_transaction ≡ false) }
+    ensures done { ((result ≢ 0) × IsNotBegun held.old held.new)
+        ⊎ (SetsZoneIn book.now held.old held.new × (result ≡ 0 → HasZone zone.now held.new)) }
+    ensures grows { Grows (W.contents out.old) (W.contents out.new) }
+{
+    let said = set_zone(rt, book, held, zone.as_str());
+    print(said, out, err)
+}
+
+/// Returns the number of a drawer, or 0 for the book's own.
+pub(crate) fn drawer_number(drawer: Option<DrawerNo>) -> u32 {
+    match drawer {
+        Some(drawer) => drawer.get(),
+        None => 0,
+    }
 }
 
 /// Does what a line of words asks for, and prints what it resulted in. Returns its status and what it showed of the line to
@@ -449,7 +572,11 @@ fn perform_line<W: Write, E: Write>(
     err: &mut E,
 ) -> Result<Performed, TillFault>
     requires { IfSome held.old (λ book. book.conn.in_transaction ≡ false) }
-    ensures { IfSome held.new (λ book. book.conn.in_transaction ≡ false) }
+    ensures ended { IfSome held.new (λ book. book.conn.in_transaction ≡ false) }
+    ensures done { IfOk result (λ it. DoesLine given.now.standing.staff (sent_file given.now.stock) line it.status
+        (W.contents out.old) (W.contents out.new) held.old held.new) }
+    ensures stopped { IfErr result (λ _. IsNotBegun held.old held.new) }
+    ensures grows { Grows (W.contents out.old) (W.contents out.new) }
 {
     let TillLine {
         book,
@@ -460,10 +587,6 @@ fn perform_line<W: Write, E: Write>(
         act,
     } = line;
     let book = book_of(rt, &book)?;
-    let drawer = match drawer {
-        Some(drawer) => drawer.get(),
-        None => 0,
-    };
     let (standing, way) = (given.standing, given.way);
     match act {
         TillAct::Init(beginning) => {
@@ -477,8 +600,8 @@ fn perform_line<W: Write, E: Write>(
         }
         TillAct::Help | TillAct::Prompt => Ok(Performed::at(print(help(rt), out, err), way)),
         TillAct::Zone(zone) => {
-            let said = set_zone(rt, book.as_str(), held, zone.as_str());
-            Ok(Performed::at(print(said, out, err), way))
+            let status = perform_zone(rt, book.as_str(), &zone, held, out, err);
+            Ok(Performed::at(status, way))
         }
         act => {
             let act = completed(rt, given.stock, book.as_str(), act)?;
@@ -487,7 +610,7 @@ fn perform_line<W: Write, E: Write>(
                 is_sure,
                 asks: if is_json { Asks::Nobody } else { standing.asks },
                 staff: staff.or(standing.staff),
-                drawer,
+                drawer: drawer_number(drawer),
                 act,
                 way,
             };
@@ -513,7 +636,7 @@ fn greeted(
 fn help(rt: &HostRuntime) -> Result<Said, TillFault> {
     let mut text = help_text(rt.alloc())?;
     text.push_str(
-        "\nAt the prompt, staff N changes who stands there, and exit or quit ends it.\nMany windows at one book: desk --help.\n",
+        "\nAt the prompt, staff N or staff NAME changes who stands there, and exit or quit ends it.\nMany windows at one book: desk --help.\n",
     )?;
     Ok(Said { text, status: 0 })
 }
@@ -547,7 +670,9 @@ pub struct Performed {
 
 impl Performed {
     /// Words with that status, which showed nothing of the line.
-    fn at(status: u8, way: Way) -> Performed {
+    fn at(status: u8, way: Way) -> Performed
+        ensures { result.status ≡ status }
+    {
         Performed {
             status,
             line: way.line,
@@ -565,7 +690,10 @@ pub fn perform_words<W: Write, E: Write>(
     err: &mut E,
 ) -> Performed
     requires { IfSome held.old (λ book. book.conn.in_transaction ≡ false) }
-    ensures { IfSome held.new (λ book. book.conn.in_transaction ≡ false) }
+    ensures ended { IfSome held.new (λ book. book.conn.in_transaction ≡ false) }
+    ensures done { DoesWords (map string_bytes given.now.words.now) given.now.standing.staff (sent_file given.now.stock)
+        result.status (W.contents out.old) (W.contents out.new) held.old held.new }
+    ensures grows { Grows (W.contents out.old) (W.contents out.new) }
 {
     let way = given.way;
     let performed = match read_till_words(rt.alloc(), given.words) {
@@ -588,7 +716,9 @@ fn perform_once<W: Write, E: Write>(
     words: &[String],
     out: &mut W,
     err: &mut E,
-) -> u8 {
+) -> u8
+    ensures { PerformsOnce (map string_bytes words.now) result (W.contents out.old) (W.contents out.new) }
+{
     let mut held = None;
     let given = Words {
         words,
@@ -604,6 +734,16 @@ fn perform_once<W: Write, E: Write>(
     performed.status
 }
 
+/// Tests whether the words ask for a prompt.
+pub(crate) fn asks_for_prompt(alloc: Global, words: &[String]) -> bool
+    ensures { result ≡ true → AsksForPrompt (map string_bytes words.now) }
+{
+    match read_till_words(alloc, words) {
+        Ok(line) => matches!(line.act, TillAct::Prompt),
+        Err(_) => false,
+    }
+}
+
 /// Does words at a till with a book of its own. It prints on `out` what a word resulted in, and on
 /// `err` why it was refused or not done. Returns the status: 0 done, 1 refused, 2 usage, 3 a fault of the till's own, 4
 /// not answered yet, but in the book. Without a word it reads lines of words from standard input.
@@ -612,15 +752,10 @@ pub(crate) fn run_till<W: Write, E: Write>(
     words: &[String],
     out: &mut W,
     err: &mut E,
-) -> u8 {
-    let is_prompt = matches!(
-        read_till_words(rt.alloc(), words),
-        Ok(TillLine {
-            act: TillAct::Prompt,
-            ..
-        })
-    );
-    if !is_prompt {
+) -> u8
+    ensures { RunsTill (map string_bytes words.now) result (W.contents out.old) (W.contents out.new) }
+{
+    if !asks_for_prompt(rt.alloc(), words) {
         return perform_once(rt, words, out, err);
     }
     match prompt(rt, words, out, err) {

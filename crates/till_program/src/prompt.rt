@@ -1,17 +1,25 @@
 //! The prompt, which reads lines of words.
 
-ghost use Rattle.std.specs.Prelude.{◌≡◌, true, false, is_some, IfOk, IfSome};
+ghost use Rattle.std.specs.Prelude.{◌≡◌, ◌++◌, true, false, ℕ, List, None, map, option_map, string_bytes, is_ok, is_some, IfErr, IfOk, IfSome};
+ghost use Rattle.std.specs.Iterator.{IsFinite};
 ghost use Rattle.shop_types.specs.Numbers.{row_number_of};
+ghost use Rattle.till_cashier.specs.Asked.{Grows};
+ghost use Rattle.till_program.specs.Lines.{DoesWords, IsNotBegun};
+ghost use Rattle.till_program.specs.Prompting as spec;
 
+use crate::files::FileShelf;
 use crate::greeting::greeting;
 use crate::input::has_input;
+use crate::lines::push_copies;
 use crate::opening::{OpenBook, close_held, close_if_asked};
 use crate::program::{Asks, Standing, Stock, Words, book_of, perform_words};
 use crate::way::{LineNotes, Patience, Way};
-use shop_types::StaffNo;
-use std::io::{ErrorKind, Write};
+use http_messages::write_whole;
+use shop_types::{StaffNo, Usage};
+use std::alloc::{AllocError, Global};
+use std::io::{self, ErrorKind, Write};
 use std::time::{Clock, Duration};
-use till_cashier::TillFault;
+use till_cashier::{TillFault, read_sheet, staff_on_sheet};
 use till_words::{TillLine, read_till_words, split_line};
 
 /// For how many milliseconds a line is waited for before another look at whether another window asks for the book.
@@ -26,7 +34,9 @@ struct Known {
 
 impl Known {
     /// Returns what a prompt knows first: nothing of the line, and nobody is named.
-    fn new() -> Known {
+    fn new() -> Known
+        ensures { result.standing.staff ≡ None }
+    {
         Known {
             standing: Standing {
                 staff: None,
@@ -38,7 +48,9 @@ impl Known {
 }
 
 /// Tests whether the words end the prompt.
-fn is_end(words: &[String]) -> bool {
+fn is_end(words: &[String]) -> bool
+    ensures { result ≡ spec.is_end (map string_bytes words.now) }
+{
     match words {
         [word] => word.as_str() == "exit" || word.as_str() == "quit",
         _ => false,
@@ -59,12 +71,45 @@ pub fn change_staff<E: Write>(
     let Some(staff) = StaffNo::read(number.as_bytes()) else {
         writeln!(
             err,
-            "staff N\nThe staff is a number from 1 on: {number} isn't one."
+            "staff N\nThe staff is a number from 1 on, or at the book's own prompt a name on the branch's sheet: {number} is neither."
         )?;
         return Ok(false);
     };
     standing.staff = Some(staff);
     Ok(true)
+}
+
+/// Tests whether nothing is done for the words: there are none, or they end the prompt.
+fn is_idle(words: &[String]) -> bool
+    ensures { result ≡ spec.is_idle (map string_bytes words.now) }
+{
+    words.is_empty() || is_end(words)
+}
+
+/// Returns the number or the name in `staff N` or `staff FIRST LAST`.
+fn staff_number(alloc: Global, words: &[String]) -> Result<Option<String>, AllocError>
+    ensures { IfOk result (λ number. option_map string_bytes number ≡ spec.staff_number (map string_bytes words.now)) }
+{
+    match words {
+        [word, number] if word.as_str() == "staff" => {
+            Ok(Some(String::from_str(alloc, number.as_str())?))
+        }
+        [word, first, last] if word.as_str() == "staff" => {
+            Ok(Some(format!(in alloc; "{first} {last}")?))
+        }
+        _ => Ok(None),
+    }
+}
+
+/// Returns the words, with those before the prompt's own in front of them.
+fn joined(alloc: Global, before: &[String], said: &[String]) -> Result<Vec<String>, AllocError>
+    ensures { IfOk result (λ words. map string_bytes words.items
+        ≡ map string_bytes before.now ++ map string_bytes said.now) }
+{
+    let mut words = Vec::new(alloc);
+    push_copies(alloc, &mut words, before)?;
+    push_copies(alloc, &mut words, said)?;
+    Ok(words)
 }
 
 /// Does what words ask for. For a minute after a word that got no reply, the line to the server is taken for down.
@@ -77,7 +122,11 @@ fn perform_noted<W: Write, E: Write>(
     err: &mut E,
 )
     requires { IfSome held.old (λ book. book.conn.in_transaction ≡ false) }
-    ensures { IfSome held.new (λ book. book.conn.in_transaction ≡ false) }
+    ensures ended { IfSome held.new (λ book. book.conn.in_transaction ≡ false) }
+    ensures stands { known.new.standing ≡ known.old.standing }
+    ensures done { (status : ℕ) × DoesWords (map string_bytes words.now) known.old.standing.staff None status
+        (W.contents out.old) (W.contents out.new) held.old held.new }
+    ensures grows { Grows (W.contents out.old) (W.contents out.new) }
 {
     let line = known.notes.at(rt.monotonic().unwrap_or(Duration::ZERO));
     let given = Words {
@@ -104,19 +153,39 @@ fn greet<W: Write>(
     before: &[String],
     known: &Known,
     out: &mut W,
-) -> Result<(), TillFault> {
+) -> Result<(), TillFault>
+    ensures grows { Grows (W.contents out.old) (W.contents out.new) }
+{
     let Ok(TillLine { book, staff, .. }) = read_till_words(rt.alloc(), before) else {
         return Ok(());
     };
     let book = book_of(rt, &book)?;
     let line = known.notes.at(rt.monotonic().unwrap_or(Duration::ZERO));
     if let Ok(text) = greeting(rt, book.as_str(), known.standing.staff.or(staff), line) {
-        writeln!(out, "{text}")?;
+        write_whole(out, text.as_bytes())?;
+        write_whole(out, b"\n")?;
     }
     Ok(())
 }
 
-/// Lets the member of staff of that number stand at the till, and prints who that is.
+/// Returns the number that the sheet beside the book has for a member of staff of that name, if it has one. The words
+/// before the prompt's own say which book it is.
+fn staff_named(rt: &HostRuntime, before: &[String], name: &str) -> Option<StaffNo>
+    ensures { IfSome result (spec.IsNamedStaff name.now) }
+{
+    let Ok(TillLine { book, .. }) = read_till_words(rt.alloc(), before) else {
+        return None;
+    };
+    let book = book_of(rt, &book).ok()?;
+    let shelf = FileShelf {
+        rt,
+        book: book.as_str(),
+    };
+    let sheet = read_sheet(rt.alloc(), &shelf);
+    staff_on_sheet(rt.alloc(), sheet.as_slice(), name).ok()
+}
+
+/// Lets the member of staff of that number or name stand at the till, and prints who that is.
 fn stand<W: Write, E: Write>(
     rt: &HostRuntime,
     before: &[String],
@@ -124,14 +193,23 @@ fn stand<W: Write, E: Write>(
     known: &mut Known,
     out: &mut W,
     err: &mut E,
-) -> Result<(), TillFault> {
+) -> Result<(), TillFault>
+    ensures stands { IfOk result (λ _. spec.StandsBy number.now known.old.standing.staff known.new.standing.staff) }
+    ensures grows { Grows (W.contents out.old) (W.contents out.new) }
+{
+    if StaffNo::read(number.as_bytes()).is_none() {
+        if let Some(staff) = staff_named(rt, before, number) {
+            known.standing.staff = Some(staff);
+            return greet(rt, before, known, out);
+        }
+    }
     if change_staff(number, &mut known.standing, err)? {
         greet(rt, before, known, out)?;
     }
     Ok(())
 }
 
-/// Does what the words of a line ask for. `staff N` changes who stands at the till.
+/// Does what the words of a line ask for. `staff` and a number or a name changes who stands at the till.
 fn perform_said<W: Write, E: Write>(
     rt: &HostRuntime,
     before: &[String],
@@ -142,18 +220,16 @@ fn perform_said<W: Write, E: Write>(
     err: &mut E,
 ) -> Result<(), TillFault>
     requires { IfSome held.old (λ book. book.conn.in_transaction ≡ false) }
-    ensures { IfSome held.new (λ book. book.conn.in_transaction ≡ false) }
+    ensures ended { IfSome held.new (λ book. book.conn.in_transaction ≡ false) }
+    ensures done { IfOk result (λ _. spec.StandsOrDoes (map string_bytes before.now) (map string_bytes said.items)
+        known.old.standing.staff known.new.standing.staff (W.contents out.old) (W.contents out.new) held.old held.new) }
+    ensures stopped { IfErr result (λ _. held.new ≡ held.old) }
+    ensures grows { Grows (W.contents out.old) (W.contents out.new) }
 {
-    if let [word, number] = said.as_slice() {
-        if word.as_str() == "staff" {
-            return stand(rt, before, number.as_str(), known, out, err);
-        }
+    if let Some(number) = staff_number(rt.alloc(), said.as_slice())? {
+        return stand(rt, before, number.as_str(), known, out, err);
     }
-    let mut words = Vec::new(rt.alloc());
-    for word in before {
-        words.push(word.clone()?)?;
-    }
-    words.extend(said)?;
+    let words = joined(rt.alloc(), before, said.as_slice())?;
     perform_noted(rt, words.as_slice(), known, held, out, err);
     Ok(())
 }
@@ -169,22 +245,28 @@ fn perform_line<W: Write, E: Write>(
     err: &mut E,
 ) -> Result<bool, TillFault>
     requires { IfSome held.old (λ book. book.conn.in_transaction ≡ false) }
-    ensures { IfSome held.new (λ book. book.conn.in_transaction ≡ false) }
+    ensures ended { IfSome held.new (λ book. book.conn.in_transaction ≡ false) }
+    ensures done { IfOk result (λ _. spec.DoesTyped (map string_bytes before.now) line.now known.old.standing.staff
+        known.new.standing.staff (W.contents out.old) (W.contents out.new) held.old held.new) }
+    ensures last { IfOk result (λ goes_on. goes_on ≡ false → spec.EndsPrompt line.now) }
+    ensures stopped { IfErr result (λ _. held.new ≡ held.old) }
+    ensures grows { Grows (W.contents out.old) (W.contents out.new) }
 {
-    let alloc = rt.alloc();
-    let Ok(more) = split_line(alloc, line) else {
-        writeln!(
-            err,
-            "A quotation mark is open. Close it, and say the line again."
-        )?;
-        return Ok(true);
+    let more = match split_line(rt.alloc(), line) {
+        Ok(more) => more,
+        Err(Usage::Memory) => return Err(TillFault::Memory),
+        Err(Usage::Words(_)) => {
+            writeln!(
+                err,
+                "A quotation mark is open. Close it, and say the line again."
+            )?;
+            return Ok(true);
+        }
     };
-    if is_end(more.as_slice()) {
-        return Ok(false);
+    if is_idle(more.as_slice()) {
+        return Ok(!is_end(more.as_slice()));
     }
-    if !more.is_empty() {
-        perform_said(rt, before, more, known, held, out, err)?;
-    }
+    perform_said(rt, before, more, known, held, out, err)?;
     Ok(true)
 }
 
@@ -193,7 +275,8 @@ fn perform_line<W: Write, E: Write>(
 /// Standard input is read byte by byte from a terminal or a pipe, so nothing is read ahead, and a file always has input.
 fn wait(rt: &HostRuntime, held: &mut Option<OpenBook>)
     requires { IfSome held.old (λ book. book.conn.in_transaction ≡ false) }
-    ensures { IfSome held.new (λ book. book.conn.in_transaction ≡ false) }
+    ensures ended { IfSome held.new (λ book. book.conn.in_transaction ≡ false) }
+    ensures waited { IsNotBegun held.old held.new }
 {
     'looks: for _ in 0..u64::MAX {
         if held.is_none() || has_input(LOOKS) {
@@ -210,48 +293,75 @@ fn invite<W: Write>(
     out: &mut W,
 ) -> Result<(), TillFault>
     requires { IfSome held.old (λ book. book.conn.in_transaction ≡ false) }
-    ensures { IfSome held.new (λ book. book.conn.in_transaction ≡ false) }
+    ensures ended { IfSome held.new (λ book. book.conn.in_transaction ≡ false) }
+    ensures waited { IsNotBegun held.old held.new }
+    ensures grows { Grows (W.contents out.old) (W.contents out.new) }
 {
-    write!(out, "till> ")?;
+    write_whole(out, b"till> ")?;
     out.flush()?;
     wait(rt, held);
     Ok(())
 }
 
-/// Reads lines of words to the end of the input, or to `exit` or `quit`, and does what each asks for. First it says who is
-/// at the till, where, and when.
-fn perform_lines<W: Write, E: Write>(
+/// Does what a line asks for that was read, and returns whether the prompt goes on. If it isn't text, says so.
+fn perform_read<W: Write, E: Write>(
     rt: &HostRuntime,
     before: &[String],
+    read: io::Result<String>,
+    known: &mut Known,
+    held: &mut Option<OpenBook>,
+    out: &mut W,
+    err: &mut E,
+) -> Result<bool, TillFault>
+    requires { IfSome held.old (λ book. book.conn.in_transaction ≡ false) }
+    ensures ended { IfSome held.new (λ book. book.conn.in_transaction ≡ false) }
+    ensures done { IfOk result (λ _. spec.DoesRead (map string_bytes before.now) (spec.text_read string_bytes read)
+        known.old.standing.staff known.new.standing.staff (W.contents out.old) (W.contents out.new) held.old held.new) }
+    ensures last { IfOk result (λ goes_on. goes_on ≡ false → spec.IsLastLine (spec.text_read string_bytes read)) }
+    ensures stopped { IfErr result (λ _. held.new ≡ held.old) }
+    ensures grows { Grows (W.contents out.old) (W.contents out.new) }
+{
+    match read {
+        Ok(line) => perform_line(rt, before, line.as_str(), known, held, out, err),
+        Err(error) if error.kind() == ErrorKind::InvalidData => {
+            writeln!(err, "That line isn't UTF-8. Say it again in other letters.")?;
+            Ok(true)
+        }
+        Err(error) => Err(TillFault::from(error)),
+    }
+}
+
+/// Does what each line asks for, one after another, to the end of the lines, or to `exit` or `quit`. First it says who is
+/// at the till, where, and when.
+fn perform_lines<I: Iterator<Item = io::Result<String>>, W: Write, E: Write>(
+    rt: &HostRuntime,
+    before: &[String],
+    lines: &mut I,
     held: &mut Option<OpenBook>,
     out: &mut W,
     err: &mut E,
 ) -> Result<(), TillFault>
-    requires { IfSome held.old (λ book. book.conn.in_transaction ≡ false) }
-    ensures { IfSome held.new (λ book. book.conn.in_transaction ≡ false) }
+    requires idle { IfSome held.old (λ book. book.conn.in_transaction ≡ false) }
+    requires first { I.can_next lines.old }
+    requires ends { IsFinite (I.remaining lines.old) }
+    ensures ended { IfSome held.new (λ book. book.conn.in_transaction ≡ false) }
+    ensures performed { spec.PerformsLines I.next_gives string_bytes (map string_bytes before.now) (is_ok result)
+        lines.old lines.new (W.contents out.old) (W.contents out.new) held.old held.new }
 {
     let mut known = Known::new();
     greet(rt, before, &known, out)?;
     invite(rt, held, out)?;
-    'lines: for line in rt.lines(rt.alloc()) {
-        let goes_on = match line {
-            Ok(line) => perform_line(rt, before, line.as_str(), &mut known, held, out, err)?,
-            Err(error) if error.kind() == ErrorKind::InvalidData => {
-                writeln!(err, "That line isn't UTF-8. Say it again in other letters.")?;
-                true
-            }
-            Err(error) => return Err(TillFault::from(error)),
-        };
-        if !goes_on {
+    'lines: while let Some(line) = lines.next() {
+        if !perform_read(rt, before, line, &mut known, held, out, err)? {
             return Ok(());
         }
         invite(rt, held, out)?;
     }
-    writeln!(out)?;
+    write_whole(out, b"\n")?;
     Ok(())
 }
 
-/// Reads lines of words to the end of the input, or to `exit` or `quit`, and does what each asks for. The words
+/// Reads lines of words to the end of the input, or to `exit` or `quit`, and does what each asks for, once. The words
 /// before the prompt's own, which name the book, are put before each line. The book is held open from word to word,
 /// until another window asks for it.
 pub(crate) fn prompt<W: Write, E: Write>(
@@ -259,9 +369,11 @@ pub(crate) fn prompt<W: Write, E: Write>(
     before: &[String],
     out: &mut W,
     err: &mut E,
-) -> Result<u8, TillFault> {
+) -> Result<u8, TillFault>
+    ensures { spec.PerformsSome (map string_bytes before.now) (W.contents out.old) (W.contents out.new) }
+{
     let mut held = None;
-    let ended = perform_lines(rt, before, &mut held, out, err);
+    let ended = perform_lines(rt, before, &mut rt.lines(rt.alloc()), &mut held, out, err);
     close_held(&mut held);
     ended?;
     Ok(0)

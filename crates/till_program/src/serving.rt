@@ -1,6 +1,7 @@
 //! A desk serves its windows side by side, and does their words one after another.
 
-ghost use Rattle.std.specs.Prelude.{◌≡◌, false, IfSome};
+ghost use Rattle.std.specs.Prelude.{◌≡◌, false, map, string_bytes, IfOk, IfSome};
+ghost use Rattle.till_program.specs.Serving.{ActsAlone, IsLooked, IsServed, own_words};
 
 use crate::faults::ShopFault;
 use crate::handling::DeskBook;
@@ -11,6 +12,7 @@ use crate::program::{Asks, Standing, Stock, Words, perform_words};
 use crate::way::{Patience, Way};
 use mio::unix::SourceFd;
 use mio::{Events, Interest, Poll, Token};
+use std::alloc::{AllocError, Global};
 use std::io::{self, ErrorKind};
 use std::net::{SocketAddr, TcpListener, TcpStream};
 use std::os::fd::AsRawFd;
@@ -183,7 +185,8 @@ impl Desk {
         held: &mut Option<OpenBook>,
     )
         requires { IfSome held.old (λ book. book.conn.in_transaction ≡ false) }
-        ensures { IfSome held.new (λ book. book.conn.in_transaction ≡ false) }
+        ensures ended { IfSome held.new (λ book. book.conn.in_transaction ≡ false) }
+        ensures served { IsServed (string_bytes desk.now.name) desk.now.secret held.old held.new }
     {
         'peers: for peer in &mut self.peers {
             if peer.is_ready {
@@ -204,7 +207,8 @@ impl Desk {
         held: &mut Option<OpenBook>,
     )
         requires { IfSome held.old (λ book. book.conn.in_transaction ≡ false) }
-        ensures { IfSome held.new (λ book. book.conn.in_transaction ≡ false) }
+        ensures ended { IfSome held.new (λ book. book.conn.in_transaction ≡ false) }
+        ensures alone { ActsAlone (string_bytes desk.now.name) held.old held.new }
     {
         if !line.is_down() {
             return;
@@ -232,7 +236,8 @@ impl Desk {
         held: &mut Option<OpenBook>,
     )
         requires { IfSome held.old (λ book. book.conn.in_transaction ≡ false) }
-        ensures { IfSome held.new (λ book. book.conn.in_transaction ≡ false) }
+        ensures ended { IfSome held.new (λ book. book.conn.in_transaction ≡ false) }
+        ensures served { IsServed (string_bytes desk.now.name) desk.now.secret held.old held.new }
     {
         let mut line = first_line(held);
         'rounds: for _ in 0..u64::MAX {
@@ -250,7 +255,8 @@ impl Desk {
 /// the desk tries the server, and sends what waits.
 fn first_line(held: &mut Option<OpenBook>) -> Line
     requires { IfSome held.old (λ book. book.conn.in_transaction ≡ false) }
-    ensures { IfSome held.new (λ book. book.conn.in_transaction ≡ false) }
+    ensures ended { IfSome held.new (λ book. book.conn.in_transaction ≡ false) }
+    ensures looked { IsLooked held.old held.new }
 {
     let Some(mut book) = held.take() else {
         return Line::Open;
@@ -260,22 +266,27 @@ fn first_line(held: &mut Option<OpenBook>) -> Line
     if has_waiting { Line::Down } else { Line::Open }
 }
 
+/// Returns the words by which a desk sends what waits in the book of that name.
+fn send_words(alloc: Global, name: &str) -> Result<Vec<String>, AllocError>
+    ensures { IfOk result (λ words. map string_bytes words.items ≡ own_words name.now) }
+{
+    let mut words = Vec::new(alloc);
+    words.push(String::from_str(alloc, "--book")?)?;
+    words.push(String::from_str(alloc, name)?)?;
+    words.push(String::from_str(alloc, "send")?)?;
+    Ok(words)
+}
+
 /// Sends what waits. Returns what is known of the line after that.
 fn send_waiting(rt: &HostRuntime, desk: &DeskBook, line: Line, held: &mut Option<OpenBook>) -> Line
     requires { IfSome held.old (λ book. book.conn.in_transaction ≡ false) }
-    ensures { IfSome held.new (λ book. book.conn.in_transaction ≡ false) }
+    ensures ended { IfSome held.new (λ book. book.conn.in_transaction ≡ false) }
+    ensures alone { ActsAlone (string_bytes desk.now.name) held.old held.new }
 {
     let alloc = rt.alloc();
-    let mut words = Vec::new(alloc);
-    for word in ["--book", desk.name.as_str(), "send"] {
-        let is_added = match String::from_str(alloc, word) {
-            Ok(word) => words.push(word).is_ok(),
-            Err(_) => false,
-        };
-        if !is_added {
-            return line;
-        }
-    }
+    let Ok(words) = send_words(alloc, desk.name.as_str()) else {
+        return line;
+    };
     let given = Words {
         words: words.as_slice(),
         standing: Standing {
@@ -308,7 +319,8 @@ pub(crate) fn serve_windows(
     held: &mut Option<OpenBook>,
 ) -> Result<(), ShopFault>
     requires { IfSome held.old (λ book. book.conn.in_transaction ≡ false) }
-    ensures { IfSome held.new (λ book. book.conn.in_transaction ≡ false) }
+    ensures ended { IfSome held.new (λ book. book.conn.in_transaction ≡ false) }
+    ensures served { IsServed (string_bytes desk.now.name) desk.now.secret held.old held.new }
 {
     let mut serving = Desk::new(rt, listener, server)?;
     serving.serve(rt, listener, desk, held);

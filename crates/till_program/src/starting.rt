@@ -4,13 +4,12 @@ use crate::beginning::{serve_desk, set_up};
 use crate::faults::ShopFault;
 use crate::given::{DeskWord, USAGE, desk_word, read_leading, window_word};
 use crate::init::settings_path;
-use crate::program::{Asks, Standing, run_till};
+use crate::program::{Asks, Standing, asks_for_prompt, run_till};
 use crate::settings::{is_window, read_window};
 use crate::window::perform;
 use crate::window_prompt::prompt;
 use std::fs;
 use std::io::Write;
-use till_words::{TillAct, TillLine, read_till_words};
 
 /// The book's file, if none is named.
 const BOOK: &str = "till.book";
@@ -28,8 +27,9 @@ fn perform_desk_word<W: Write, E: Write>(
         DeskWord::Window {
             address,
             staff,
+            drawer,
             secret_file,
-        } => set_up(rt, book, address, staff, secret_file, out),
+        } => set_up(rt, book, address, staff, drawer, secret_file, out),
     }
 }
 
@@ -51,14 +51,7 @@ fn perform_at_window<W: Write, E: Write>(
     err: &mut E,
 ) -> Result<u8, ShopFault> {
     let window = read_window(rt.alloc(), settings)?;
-    let is_prompt = matches!(
-        read_till_words(rt.alloc(), words),
-        Ok(TillLine {
-            act: TillAct::Prompt,
-            ..
-        })
-    );
-    if is_prompt {
+    if asks_for_prompt(rt.alloc(), words) {
         prompt(rt, &window, words, out, err)
     } else {
         let standing = Standing {

@@ -4,7 +4,7 @@ use crate::fault::NoLine;
 use crate::faults::ShopFault;
 use crate::frames::frame;
 use crate::given::{Giver, words_to_send};
-use crate::program::{ASKED, Asks, Standing, run_till, says_yes};
+use crate::program::{ASKED, Asks, Standing, drawer_number, run_till, says_yes};
 use crate::replies::{Reply, read_reply};
 use crate::settings::WindowSettings;
 use std::fs;
@@ -135,8 +135,10 @@ fn send<W: Write, E: Write>(
     err: &mut E,
 ) -> Result<u8, ShopFault> {
     let staff = standing.staff.unwrap_or(window.staff);
+    let drawer = drawer_number(window.drawer);
     let giver = Giver {
         staff,
+        drawer,
         is_asked: standing.asks == Asks::Prompt,
         is_sure: false,
     };
@@ -144,10 +146,12 @@ fn send<W: Write, E: Write>(
     let Some(question) = question_in(text.as_slice())? else {
         return print(text.as_slice(), out, err);
     };
+    let is_sure = says_yes(rt, question, out);
     let answered = Giver {
         staff,
+        drawer,
         is_asked: false,
-        is_sure: says_yes(rt, question, out),
+        is_sure,
     };
     let text = reply_to(rt, window, words, answered, file)?;
     print(text.as_slice(), out, err)

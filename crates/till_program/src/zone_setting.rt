@@ -1,6 +1,10 @@
 //! The word that sets a book's zone.
 
-ghost use Rattle.std.specs.Prelude.{◌≡◌, false, IfSome};
+ghost use Rattle.std.specs.Prelude.{◌≡◌, ◌⊎◌, false, IfErr, IfOk, IfSome, OnOk, Some};
+ghost use Rattle.sqlite.specs.Files.{file_state};
+ghost use Rattle.sqlite.specs.State.{HasCleanDisk};
+ghost use Rattle.till_book.specs.Steps.{Stays};
+ghost use Rattle.till_program.specs.Lines.{SetsZone, SetsZoneIn, HasZone, IsNotBegun};
 
 use crate::files::{FileShelf, replace_own};
 use crate::init::{settings_path, text_of};
@@ -14,14 +18,17 @@ use std::mem;
 use till_cashier::{Desk, Said, TillFault, accept_zone, zone_said};
 use till_requests::Zone;
 
-/// Accepts the book's new settings, and writes them in the place of those that are there.
+/// Accepts the book's new settings, and writes them in the place of those that are there. `before` is the zone of those.
 fn accepted(
     rt: &HostRuntime,
     tools: &Tools,
     conn: &mut Connection<FileStore<File>>,
+    before: &Option<Zone>,
 ) -> Result<(), TillFault>
     requires { conn.old.in_transaction ≡ false }
-    ensures { conn.new.in_transaction ≡ false }
+    ensures ended { conn.new.in_transaction ≡ false }
+    ensures clean { HasCleanDisk (file_state conn.new) → HasCleanDisk (file_state conn.old) }
+    ensures stays { HasCleanDisk (file_state conn.new) → Stays (file_state conn.old) (file_state conn.new) }
 {
     let name = tools.name.as_str();
     let way = Way::open();
@@ -47,7 +54,7 @@ fn accepted(
         is_sure: false,
         said_day: None,
     };
-    accept_zone(&desk, conn)?;
+    accept_zone(&desk, conn, before)?;
     let path = settings_path(rt, name)?;
     let text = text_of(rt, &tools.settings)?;
     replace_own(rt, path.as_str(), text.as_slice())
@@ -56,11 +63,13 @@ fn accepted(
 /// Sets the zone of an open book. If that fails, the settings stay.
 fn changed(rt: &HostRuntime, book: &mut OpenBook, zone: Zone) -> Result<(), TillFault>
     requires { book.old.conn.in_transaction ≡ false }
-    ensures { book.new.conn.in_transaction ≡ false }
+    ensures ended { book.new.conn.in_transaction ≡ false }
+    ensures sets { SetsZone book.old book.new }
+    ensures set { OnOk result (book.new.tools.settings.zone ≡ Some zone) }
 {
     let rules = rules_of(rt, zone.name.as_str())?;
     let before = mem::replace(&mut book.tools.settings.zone, Some(zone));
-    match accepted(rt, &book.tools, &mut book.conn) {
+    match accepted(rt, &book.tools, &mut book.conn, &before) {
         Ok(()) => {
             book.tools.rules = rules;
             Ok(())
@@ -72,8 +81,9 @@ fn changed(rt: &HostRuntime, book: &mut OpenBook, zone: Zone) -> Result<(), Till
     }
 }
 
-/// Sets the zone of the book of that file to the zone of that name, if the new clock has passed the book's last entry.
-/// Else the settings stay. The book stays open, and is held, unless it failed.
+/// Sets the zone of the book of that file to the zone of that name. Its clock has to be past the book's last entry, unless
+/// its standard time is that of the zone before. Else the settings stay. The book stays open, and is held, unless it
+/// failed.
 pub(crate) fn set_zone(
     rt: &HostRuntime,
     book: &str,
@@ -81,7 +91,10 @@ pub(crate) fn set_zone(
     name: &str,
 ) -> Result<Said, TillFault>
     requires { IfSome held.old (λ book. book.conn.in_transaction ≡ false) }
-    ensures { IfSome held.new (λ book. book.conn.in_transaction ≡ false) }
+    ensures ended { IfSome held.new (λ book. book.conn.in_transaction ≡ false) }
+    ensures sets { IfOk result (λ _. SetsZoneIn book.now held.old held.new) }
+    ensures set { IfOk result (λ _. HasZone name.now held.new) }
+    ensures fails { IfErr result (λ _. IsNotBegun held.old held.new ⊎ SetsZoneIn book.now held.old held.new) }
 {
     let zone = zone_named(rt, name)?;
     let mut book = opened(rt, book, held)?;

@@ -1,6 +1,6 @@
 //! The zones that the system knows, and the standard time of a zone.
 
-ghost use Rattle.std.specs.Prelude.{pos, ◌≤◌, ◌≤ℤ◌, IfSome};
+ghost use Rattle.std.specs.Prelude.{IfOk, ◌≡◌, pos, ◌≤◌, ◌≤ℤ◌, IfSome};
 
 use crate::standard::standard_offset;
 use jiff_core::{Error, Offset, Timestamp};
@@ -111,7 +111,9 @@ fn offset_named(rt: &HostRuntime, name: &str) -> Result<i32, TillFault> {
 }
 
 /// Returns the zone of that name, with its standard time. Fails with `NoZone` if the system has none.
-pub(crate) fn zone_named(rt: &HostRuntime, name: &str) -> Result<Zone, TillFault> {
+pub(crate) fn zone_named(rt: &HostRuntime, name: &str) -> Result<Zone, TillFault>
+    ensures { IfOk result (λ zone. zone.name ≡ name.now) }
+{
     let Some(name) = ZoneName::read(String::from_str(rt.alloc(), name)?) else {
         return Err(TillFault::NoZone);
     };

@@ -1,0 +1,22 @@
+-- A book that was found: it was looked at, got a zone, or failed.
+use Rattle.std.proofs.Common.{◌≡◌, Bool, true, Option, Some, None, subst, sym}
+use Rattle.shop_model.specs.Values.{Text}
+use Rattle.sqlite.specs.Files.{file_state}
+use Rattle.sqlite.specs.State.{HasCleanDisk}
+use Rattle.till_book.specs.Steps.{Stays}
+use Rattle.till_program.specs.declared.opening.OpenBook.{OpenBook}
+use Rattle.till_program.specs.Lines.{SetsZone, SetsZoneIn}
+use Rattle.till_program.specs.Performing.{IsFound, IsLeft}
+use Rattle.till_program.specs.Serving.{IsLooked}
+
+pub looked_at : (held : Option OpenBook) (before after : OpenBook) → held ≡ Some before → after.tools ≡ before.tools
+    → (HasCleanDisk (file_state after.conn) → Stays (file_state before.conn) (file_state after.conn)) → IsLooked held (Some after)
+looked_at held before after is tools stays = subst (λ (it : Option OpenBook). IsLooked it (Some after)) (sym is) (tools, stays)
+
+pub zone_set : (name : Text) (held : Option OpenBook) (found after : OpenBook) → IsFound name held found → SetsZone found after
+    → SetsZoneIn name held (Some after)
+zone_set name held found after is sets = (found, is, sets)
+
+pub left_failed : (Does : Bool → OpenBook → OpenBook → Type 0) (found last : OpenBook) (now : Option OpenBook) → now ≡ None → Does true found last
+    → IsLeft Does found now
+left_failed Does found last now none does = subst (λ (it : Option OpenBook). IsLeft Does found it) (sym none) (last, does)
