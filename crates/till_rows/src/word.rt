@@ -15,6 +15,7 @@ use till_cashier::{
     Desk, Quiet, Said, TillFault, accept_zone, city_on_sheet, do_word, make_sure, read_sheet,
     said_day, zone_said,
 };
+use till_requests::Zone;
 use till_words::{PersonIn, TillAct, TillLine, read_till_words, split_line};
 
 /// Returns the import of the stock file as a lot of that name.
@@ -155,27 +156,30 @@ fn read_input<C: Counter>(
     })
 }
 
-/// Sets the zone of the desk's settings for the book.
+/// Sets the zone of the desk's settings for the book, which had that zone before.
 fn set_zone<S: Alter, C: Counter>(
     desk: &Desk<'_, Hands, Line<'_, C>, Board>,
     conn: &mut Connection<S>,
+    before: &Option<Zone>,
 ) -> Result<Said, TillFault>
     requires { conn.old.in_transaction ≡ false }
 {
-    accept_zone(desk, conn)?;
+    accept_zone(desk, conn, before)?;
     zone_said(desk.alloc, desk.settings)
 }
 
-/// Does a word at an open book, and then settles refused entries with `make_sure`, as the program does.
+/// Does a word at an open book that had that zone before, and then settles refused entries with `make_sure`, as the
+/// program does.
 fn done<S: Alter, C: Counter>(
     desk: &Desk<'_, Hands, Line<'_, C>, Board>,
     conn: &mut Connection<S>,
     act: TillAct,
+    before: &Option<Zone>,
 ) -> Result<Said, TillFault>
     requires { conn.old.in_transaction ≡ false }
 {
     if matches!(act, TillAct::Zone(_)) {
-        return set_zone(desk, conn);
+        return set_zone(desk, conn, before);
     }
     let mut said = do_word(desk, conn, act, &mut Quiet)?;
     if said.status == 0 {
@@ -254,7 +258,8 @@ fn at_desk<'d, 'x, S: Alter, C: Counter>(
         said_day: said_day(alloc, kit.shelf()),
     };
     let is_send = matches!(act, TillAct::Send);
-    let said = done(&desk, conn, act);
+    let before = world.zones().at(kit.zone())?;
+    let said = done(&desk, conn, act, &before.settings().zone);
     note(kit, is_send, &said);
     if said.is_ok() {
         kit.sets_zone(zone);
