@@ -273,7 +273,7 @@ class Prompt:
 
 
 class DeskTill(RealTill):
-    """A desk that holds a book, and two windows, which give its lines by turns."""
+    """A desk that holds a book, and two windows, the second with a drawer of its own, which give its lines by turns."""
 
     def opens(self):
         self.windows = [f"{self.path}.window{n}" for n in (1, 2)]
@@ -287,7 +287,8 @@ class DeskTill(RealTill):
         for it in self.windows:
             if os.path.exists(it + ".conf"):
                 os.unlink(it + ".conf")
-            subprocess.run([TILL, "--book", it, "window", f"127.0.0.1:{port}", "--staff", "1", "--secret-file", self.path + ".desk"], check=True, stdout=subprocess.DEVNULL, cwd=self.folder)
+            drawer = ["--drawer", "1"] if it == self.windows[1] else []
+            subprocess.run([TILL, "--book", it, "window", f"127.0.0.1:{port}", "--staff", "1", *drawer, "--secret-file", self.path + ".desk"], check=True, stdout=subprocess.DEVNULL, cwd=self.folder)
         self.prompts = [Prompt(it, self.folder) for it in self.windows]
 
     def says(self, line):

@@ -1,4 +1,5 @@
-"""Branches with a desk and four windows each, for `bench/till --desks`: the windows type words, while they, the desks and the server are killed, and both lines are cut, late and doubled."""
+"""Branches with a desk and four windows each, one of them with a drawer of its own, for `bench/till --desks`: the windows type words, while they, the desks and the server are killed, and both lines
+are cut, late and doubled."""
 import collections
 import json
 import os
@@ -17,6 +18,8 @@ import shop
 from till_books import TILL, Book, Proxy, Server, at_once, compare, free_port, kept, make, office, said, same, token, wrong
 
 WINDOWS = 4
+# The second window's own drawer. The others, and the book itself, have one in common.
+DRAWER = 1
 # A book's moments rise by a second an entry: with more entries than that for long they get two minutes ahead of the clock.
 EVERY = 4.5
 KILLED = 0.12
@@ -61,7 +64,8 @@ def word_in(frame):
         end = at + 4 + struct.unpack(">I", frame[at : at + 4])[0]
         words.append(frame[at + 4 : end].decode())
         at = end
-    return next(it for it in words[3:] if not it.startswith("--"))
+    names_drawer = words[3] == "--drawer"
+    return next(it for it in words[5 if names_drawer else 3 :] if not it.startswith("--"))
 
 
 class Frames:
@@ -184,7 +188,7 @@ class Branch:
         self.lock, self.inside, self.out, self.pairs, self.rows = threading.Lock(), [], {}, set(), {}
         self.numbers = NOBODY
         self.start()
-        self.windows = [Window(self, it, at < WINDOWS - 1, random.Random(rng.getrandbits(64))) for at, it in enumerate(staff)]
+        self.windows = [Window(self, it, at < WINDOWS - 1, DRAWER * (at == 1), random.Random(rng.getrandbits(64))) for at, it in enumerate(staff)]
         self.killer = threading.Thread(target=self.lives, daemon=True)
 
     def start(self):
@@ -245,15 +249,16 @@ class Branch:
 class Window:
     """A window of a desk, and who types at it."""
 
-    def __init__(self, branch, staff, is_passed, rng):
-        self.branch, self.staff, self.rng = branch, staff, rng
+    def __init__(self, branch, staff, is_passed, drawer, rng):
+        self.branch, self.staff, self.drawer, self.rng = branch, staff, drawer, rng
         self.folder = os.path.join(branch.folder, f"window{staff}")
         os.mkdir(self.folder)
         self.line = Frames(branch.port, random.Random(rng.getrandbits(64)))
         self.typed, self.waiting, self.customers, self.took = [], {}, [], []
         self.words = self.kills = self.unanswered = self.found = self.away = self.waited = self.elsewhere = 0
         port = self.line.port if is_passed else branch.port
-        status, out, err = self.whole(["window", f"127.0.0.1:{port}", "--staff", str(staff), "--secret-file", branch.path + ".desk"])
+        own = ["--drawer", str(drawer)] if drawer else []
+        status, out, err = self.whole(["window", f"127.0.0.1:{port}", "--staff", str(staff), "--secret-file", branch.path + ".desk", *own])
         wrong(f"a window is set up: {out}{err}", status, 0)
 
     def starts(self, words):
@@ -478,6 +483,32 @@ def holds(branch):
     return {"missing": dict(wanted - have), "unlike": unlike, "more": dict(more - twice), "changed": changed, "waiting": len(book.entries) - len(book.replies)}
 
 
+def in_drawer(text):
+    """What `day` says of a drawer that was never closed: which one it is, how many rents and returns, what waits, and what each of the staff took."""
+    drawer, counts = re.match(r"drawer (\d+)\n", text), re.search(r"^since this book was made: (\d+) rents?, (\d+) returns?, \d+ refused, (\d+) waiting$", text, re.M)
+    took = {int(staff): int(dollars) * 100 + int(cents) for staff, dollars, cents in re.findall(r"^staff (\d+) took \$(\d+)\.(\d\d)$", text, re.M)}
+    return int(drawer[1]) if drawer else 0, counts and [int(it) for it in counts.groups()], took
+
+
+def entered_at(branch, drawer):
+    """The same by the branch's book: what was accepted of the staff of the drawer's windows."""
+    staff, paths, took = {it.staff for it in branch.windows if it.drawer == drawer}, collections.Counter(), collections.Counter()
+    for at in branch.book.accepted():
+        path, _, who, _, asked = said(branch.book.entries[at - 1])
+        if who in staff:
+            paths[path] += 1
+            took[who] += asked["amount"] if path == "/pay" else 0
+    return drawer, [paths["/rent"], paths["/return"], 0], {who: cents for who, cents in took.items() if cents}
+
+
+def unlike_drawers(branch):
+    """The drawers of a branch, as `day` shows them at a window of each, that aren't what was entered at their windows. The branch's desk runs for that."""
+    branch.start()
+    shown_at = [(it.drawer, in_drawer(it.whole(["day"])[1])) for it in branch.windows[:2]]
+    branch.kill()
+    return [(found, wanted) for drawer, found in shown_at if found != (wanted := entered_at(branch, drawer))]
+
+
 def with_desks(count, words, seed):
     print(f"    seed {seed}, {count} desks, {WINDOWS} windows each, {words} words a window", flush=True)
     rng = random.Random(seed)
@@ -502,6 +533,7 @@ def with_desks(count, words, seed):
             at_once(branches, Branch.lets_live)
             until = time.monotonic() + MOST_AT_LAST
             at_once(branches, lambda it: it.makes_sure(until))
+            drawers = [(it.branch, found) for it in branches if (found := unlike_drawers(it))]
         finally:
             for it in (server, *branches):
                 it.lets_live()
@@ -511,6 +543,7 @@ def with_desks(count, words, seed):
         accepted = compare(branches, rows, counts)
         wanted = {"missing": {}, "unlike": [], "more": {}, "changed": [], "waiting": 0}
         same("each word that a window was answered, or found by last, is in its book once, as it was told", [(it.branch, found) for it in branches if (found := holds(it)) != wanted], [])
+        same("each branch's drawers have what was entered at their windows, and nothing else", drawers, [])
         same("the tables beside each book's journal have the rows that it means", [(it.path, them) for it in branches if (them := it.book.unmeant())], [])
         same("the audit says that the books are sound", json.loads(office(file, "audit"))["sound"], True)
         refused = collections.Counter(json.loads(reply.body)["refused"] for it in branches for reply in it.book.replies if reply.status != 200)

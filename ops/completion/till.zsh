@@ -33,7 +33,7 @@ _till() {
         [today]="--date"
         [zone]="--name"
         [desk]="--port --listen"
-        [window]="--address --staff --secret-file"
+        [window]="--address --staff --drawer --secret-file"
         [help]=""
         [init]="--address --token --staff --zone --office"
         [office]=""
