@@ -1,6 +1,6 @@
 -- The counts of books are the counts of their rows in order.
 use Rattle.std.proofs.Common.{is_none}
-use Rattle.shop_schema.proofs.Common.{◌≡◌, ◌+◌, ◌==◌, ℕ, List, [], ◌∷◌, ◌++◌, map, filter, length, Bool, refl, sym, ap, subst, ◌∙◌, arith, IsPermutation}
+use Rattle.shop_schema.proofs.Common.{◌≡◌, ◌+◌, ◌==◌, ℕ, List, [], ◌∷◌, ◌++◌, map, filter, length, refl, sym, ap, subst, ◌∙◌, arith, IsPermutation}
 use Rattle.shop_schema.proofs.Common.{flat_map, fold, map-map, Row, Owned, of, numbered_from, Branch, Kept, OfficeKept, Books, Customers, CopyRows, Rentals}
 use Rattle.shop_schema.proofs.Common.{Payments, rows_of, Consignment, Pair, count_pair, pairs_of, branch_counts, counts_of, is_open, out_of}
 use Rattle.shop_model.specs.Books.{Table, RowOf}

@@ -1,6 +1,6 @@
 -- Lists of what was kept of a table's rows. In any order of the rows, each element is kept of a value, and the values' columns are the table's rows.
 use Rattle.shop_schema.proofs.Common.{◌≡◌, ◌≤◌, ◌+◌, ℕ, List, [], ◌∷◌, map, length, refl, sym, ap, subst, ◌∙◌, arith, IsPermutation, AllByRecursion, all_map}
-use Rattle.shop_schema.proofs.Common.{all_weaker, IsPermutation-map, IsPermutation-refl, IsPermutation-trans, IsPermutation-sym, map-map, IsCounted}
+use Rattle.shop_schema.proofs.Common.{all_weaker, IsPermutation-map, IsPermutation-refl, IsPermutation-trans, IsPermutation-sym, IsCounted}
 use Rattle.shop_schema.proofs.Common.{numbered_from, numbered, IsShared, AreShared}
 use Rattle.sqlite_value.specs.Order as sql
 use Rattle.audit_rows.proofs.JoinLemmas.{unmapped_bag}

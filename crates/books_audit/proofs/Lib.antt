@@ -15,6 +15,7 @@ pub mod CanonCounts
 pub mod OneAudit
 pub mod Places
 pub mod Told
+pub mod ReadFaults
 pub mod CustodyAudits
 pub mod Splits
 pub mod StandKeyed

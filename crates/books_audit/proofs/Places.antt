@@ -13,47 +13,47 @@ use Rattle.books_audit.specs.declared.tables.TheConstants.{COPIES, RENTALS, PAYM
 use Rattle.books_audit.specs.declared.tables.TheConstants.{CHAIN_TEXT, COPIES_TEXT, LINES_TEXT, OTHER_TEXTS}
 use Rattle.books_audit.specs.declared.tables.TableRows.{TableRows}
 use Rattle.books_audit.specs.Audits.{HaveRowsOf, HaveCountsOf}
-use Rattle.books_audit.specs.Tables.{rows_in, HaveEach, SelectsWhole, SelectEach}
+use Rattle.books_audit.specs.Tables.{rows_in, HaveEach, ReadsWhole, ReadEach}
 
 -- ---- their texts
 
-pub chain : SelectsWhole chain_table CHAIN_TEXT.now
+pub chain : ReadsWhole chain_table CHAIN_TEXT.now
 unfolding understood everything
-chain = record { names = _; is = refl; plain = (refl, refl); unlisted = refl }
+chain = record { means = record { names = _; is = refl; plain = (refl, refl); unlisted = refl }; one = (refl, refl, refl); typed = refl }
 
-pub copies : SelectsWhole copy_table COPIES_TEXT.now
+pub copies : ReadsWhole copy_table COPIES_TEXT.now
 unfolding understood everything
-copies = record { names = _; is = refl; plain = (refl, refl); unlisted = refl }
+copies = record { means = record { names = _; is = refl; plain = (refl, refl); unlisted = refl }; one = (refl, refl, refl); typed = refl }
 
-pub lines : SelectsWhole consignment_line_table LINES_TEXT.now
+pub lines : ReadsWhole consignment_line_table LINES_TEXT.now
 unfolding understood everything
-lines = record { names = _; is = refl; plain = (refl, refl); unlisted = refl }
+lines = record { means = record { names = _; is = refl; plain = (refl, refl); unlisted = refl }; one = (refl, refl, refl); typed = refl }
 
-pub others : SelectEach (drop 1 shop_schema.tables) (map (λ t. t.now) OTHER_TEXTS)
+pub others : ReadEach (drop 1 shop_schema.tables) (map (λ t. t.now) OTHER_TEXTS)
 unfolding understood everything
 others =
-    record { names = _; is = refl; plain = (refl, refl); unlisted = refl }
-    also record { names = _; is = refl; plain = (refl, refl); unlisted = refl }
-    also record { names = _; is = refl; plain = (refl, refl); unlisted = refl }
-    also record { names = _; is = refl; plain = (refl, refl); unlisted = refl }
-    also record { names = _; is = refl; plain = (refl, refl); unlisted = refl }
-    also record { names = _; is = refl; plain = (refl, refl); unlisted = refl }
-    also record { names = _; is = refl; plain = (refl, refl); unlisted = refl }
-    also record { names = _; is = refl; plain = (refl, refl); unlisted = refl }
-    also record { names = _; is = refl; plain = (refl, refl); unlisted = refl }
-    also record { names = _; is = refl; plain = (refl, refl); unlisted = refl }
+    record { means = record { names = _; is = refl; plain = (refl, refl); unlisted = refl }; one = (refl, refl, refl); typed = refl }
+    also record { means = record { names = _; is = refl; plain = (refl, refl); unlisted = refl }; one = (refl, refl, refl); typed = refl }
+    also record { means = record { names = _; is = refl; plain = (refl, refl); unlisted = refl }; one = (refl, refl, refl); typed = refl }
+    also record { means = record { names = _; is = refl; plain = (refl, refl); unlisted = refl }; one = (refl, refl, refl); typed = refl }
+    also record { means = record { names = _; is = refl; plain = (refl, refl); unlisted = refl }; one = (refl, refl, refl); typed = refl }
+    also record { means = record { names = _; is = refl; plain = (refl, refl); unlisted = refl }; one = (refl, refl, refl); typed = refl }
+    also record { means = record { names = _; is = refl; plain = (refl, refl); unlisted = refl }; one = (refl, refl, refl); typed = refl }
+    also record { means = record { names = _; is = refl; plain = (refl, refl); unlisted = refl }; one = (refl, refl, refl); typed = refl }
+    also record { means = record { names = _; is = refl; plain = (refl, refl); unlisted = refl }; one = (refl, refl, refl); typed = refl }
+    also record { means = record { names = _; is = refl; plain = (refl, refl); unlisted = refl }; one = (refl, refl, refl); typed = refl }
     also copies
-    also record { names = _; is = refl; plain = (refl, refl); unlisted = refl }
-    also record { names = _; is = refl; plain = (refl, refl); unlisted = refl }
-    also record { names = _; is = refl; plain = (refl, refl); unlisted = refl }
-    also record { names = _; is = refl; plain = (refl, refl); unlisted = refl }
+    also record { means = record { names = _; is = refl; plain = (refl, refl); unlisted = refl }; one = (refl, refl, refl); typed = refl }
+    also record { means = record { names = _; is = refl; plain = (refl, refl); unlisted = refl }; one = (refl, refl, refl); typed = refl }
+    also record { means = record { names = _; is = refl; plain = (refl, refl); unlisted = refl }; one = (refl, refl, refl); typed = refl }
+    also record { means = record { names = _; is = refl; plain = (refl, refl); unlisted = refl }; one = (refl, refl, refl); typed = refl }
     also lines
-    also record { names = _; is = refl; plain = (refl, refl); unlisted = refl }
-    also record { names = _; is = refl; plain = (refl, refl); unlisted = refl }
-    also record { names = _; is = refl; plain = (refl, refl); unlisted = refl }
-    also record { names = _; is = refl; plain = (refl, refl); unlisted = refl }
-    also record { names = _; is = refl; plain = (refl, refl); unlisted = refl }
-    also record { names = _; is = refl; plain = (refl, refl); unlisted = refl }
+    also record { means = record { names = _; is = refl; plain = (refl, refl); unlisted = refl }; one = (refl, refl, refl); typed = refl }
+    also record { means = record { names = _; is = refl; plain = (refl, refl); unlisted = refl }; one = (refl, refl, refl); typed = refl }
+    also record { means = record { names = _; is = refl; plain = (refl, refl); unlisted = refl }; one = (refl, refl, refl); typed = refl }
+    also record { means = record { names = _; is = refl; plain = (refl, refl); unlisted = refl }; one = (refl, refl, refl); typed = refl }
+    also record { means = record { names = _; is = refl; plain = (refl, refl); unlisted = refl }; one = (refl, refl, refl); typed = refl }
+    also record { means = record { names = _; is = refl; plain = (refl, refl); unlisted = refl }; one = (refl, refl, refl); typed = refl }
     also tt
 
 -- ---- their rows

@@ -1,5 +1,5 @@
 -- Two books for which the same tables stand have the same consignments.
-use Rattle.shop_schema.proofs.Common.{◌≡◌, ◌≤◌, ◌+◌, ℕ, List, [], ◌∷◌, ◌++◌, map, length, true, Some, sym, subst, ◌∙◌, arith, IsPermutation, AllByRecursion}
+use Rattle.shop_schema.proofs.Common.{◌≡◌, ◌≤◌, ◌+◌, ℕ, List, [], ◌∷◌, map, length, true, Some, sym, subst, ◌∙◌, arith, IsPermutation, AllByRecursion}
 use Rattle.shop_schema.proofs.Common.{all-append, all_map, all_weaker, flat_map, IsPermutation-sym, IsPermutation-trans, IsPermutation-map, map-map}
 use Rattle.shop_schema.proofs.Common.{map-flat_map, flat_map_same_on, IsPermutation-flat_map, numbered, numbered_from, Books, Line, Consignment}
 use Rattle.shop_schema.proofs.Common.{consignment_columns, line_rows, IsNumber, IsLine, IsConsignment}

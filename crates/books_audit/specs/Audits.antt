@@ -17,7 +17,7 @@ use Rattle.shop_model.specs.Sound.{IsSound, widest, all_lines}
 use Rattle.shop_schema.specs.Forms.{kept_rows}
 use Rattle.shop_schema.specs.Counts.{counts_of}
 use Rattle.shop_schema.specs.RowValues.{chain_columns, named_columns, city_columns, actor_columns, film_columns, cast_columns, branch_columns, staff_columns}
-use Rattle.shop_schema.specs.RowValues.{customer_columns, copy_columns, rental_columns, terms_columns, payment_columns, lot_columns, consignment_columns}
+use Rattle.shop_schema.specs.RowValues.{lot_columns, consignment_columns}
 use Rattle.shop_schema.specs.RowValues.{line_rows, counter_columns, out_columns, pair_columns, rule_columns}
 use Rattle.shop_schema.specs.Held.{AreValues}
 use Rattle.shop_schema.specs.Shop.{AreTermed}

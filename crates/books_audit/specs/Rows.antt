@@ -3,8 +3,8 @@ use Rattle.std.specs.Prelude.{ℕ, Bool, true, false, Option}
 use Rattle.shop_model.specs.Calendar.{Moment}
 use Rattle.shop_model.specs.Values.{Text, Branch, Rule, ByCode, ByComment}
 use Rattle.shop_schema.specs.RowValues.{IsName, IsToken, IsShared, IsCity, IsActor, IsFilm, IsCast, IsStaff, IsLot, chain_columns, rule_columns, named_columns}
-use Rattle.shop_schema.specs.RowValues.{city_columns, actor_columns, film_columns, cast_columns, staff_columns, customer_columns, copy_columns, rental_columns}
-use Rattle.shop_schema.specs.RowValues.{terms_columns, payment_columns, lot_columns}
+use Rattle.shop_schema.specs.RowValues.{city_columns, actor_columns, film_columns, cast_columns, staff_columns}
+use Rattle.shop_schema.specs.RowValues.{lot_columns}
 use Rattle.audit_rows.specs.Joins.{Header, Placed}
 use Rattle.audit_rows.specs.Ordered.{city_row, film_row, cast_row, branch_row, staff_row, lot_row}
 use Rattle.audit_rows.specs.States.{kept_line_state}

@@ -1,9 +1,12 @@
 -- The rows of the tables, each table by its place, and what a statement returns that reads a whole table.
-use Rattle.std.specs.Prelude.{ℕ, List, [], ◌∷◌, length, map, IsPermutation, ◌+◌, get_or}
+use Rattle.std.specs.Prelude.{◌≡◌, true, ℕ, List, [], ◌∷◌, length, map, IsPermutation, ◌+◌, get_or}
 use Rattle.sqlite_trees.specs.Tree.{Trees}
+use Rattle.sqlite_typing.specs.Types.{accepts_program}
+use Rattle.sqlite.specs.Listing.{understood}
 use Rattle.sqlite.specs.Table.{Table}
 use Rattle.sql_rows.specs.Rows.{columns_of}
 use Rattle.sql_rows.proofs.Queries.{Selects, plain_query}
+use Rattle.sql_rows.proofs.QueryFaults.{IsOne}
 use Rattle.shop_schema.specs.Shop.{shop_schema}
 use Rattle.sql_rows.specs.Terms.{cols}
 use Rattle.books_audit.specs.declared.tables.TableRows.{TableRows}
@@ -32,3 +35,16 @@ SelectEach [] [] = Unit {0}
 SelectEach [] (text ∷ texts) = ⊥
 SelectEach (t ∷ ts) [] = ⊥
 SelectEach (t ∷ ts) (text ∷ texts) = SelectsWhole t text × SelectEach ts texts
+
+-- the text is one statement without parameters, which selects all columns of the table and is well typed
+pub record ReadsWhole (t : Table) (text : List ℕ) : Type 0 where
+  pub means : SelectsWhole t text
+  pub one : IsOne (length text) 0 (understood shop_schema text)
+  pub typed : accepts_program shop_schema [] (plain_query t.tree [] (cols 1 1 (length t.columns)) []) [] ≡ true
+
+-- such a text for each table
+abbrev pub ReadEach : List Table → List (List ℕ) → Type 0
+ReadEach [] [] = Unit {0}
+ReadEach [] (text ∷ texts) = ⊥
+ReadEach (t ∷ ts) [] = ⊥
+ReadEach (t ∷ ts) (text ∷ texts) = ReadsWhole t text × ReadEach ts texts

@@ -2,6 +2,7 @@
 
 ghost use Rattle.std.specs.Prelude.{◌≡◌, IfOk};
 ghost use Rattle.sql_rows.specs.Calls.{DoesInside};
+ghost use Rattle.sql_rows.specs.Causes.{FailsByFaults};
 ghost use Rattle.shop_schema.specs.Shop.{IsShop};
 ghost use Rattle.books_audit.specs.Audits.{IsAuditOf};
 ghost use Rattle.books_audit.specs.Shops.{AuditsTables};
@@ -39,13 +40,14 @@ pub fn check_books(alloc: Global, tables: &TableRows) -> Result<Audit, NoMemory>
 }
 
 /// Audits a shop's tables, whatever they hold. It reads each table once and changes none, even if the transaction has
-/// written.
+/// written. It returns `Failed` only if the disk met a fault.
 pub fn audit_books<S: Alter>(
     alloc: Global,
     tx: &mut Transaction<'_, S>,
 ) -> Result<Audit, StoreFault>
-    ensures { DoesInside S.Store tx.old.conn tx.new.conn result
+    ensures does { DoesInside S.Store tx.old.conn tx.new.conn result
         (λ audit old new. IsShop old → AuditsTables old.now.trees audit × (new.now ≡ old.now)) }
+    ensures fails { FailsByFaults S.Store tx.old.conn tx.new.conn result IsShop }
 {
     let tables = read_tables(alloc, tx)?;
     match check_books(alloc, &tables) {

@@ -2,6 +2,7 @@
 
 ghost use Rattle.std.specs.Prelude.{◌≡◌, IfOk, map};
 ghost use Rattle.sql_rows.specs.Calls.{DoesInside};
+ghost use Rattle.sql_rows.specs.Causes.{FailsByFaults};
 ghost use Rattle.sql_rows.specs.Rows.{columns_of};
 ghost use Rattle.shop_schema.specs.Shop.{IsShop};
 ghost use Rattle.audit_rows.specs.Seen.{seen_copy, seen_line};
@@ -69,15 +70,17 @@ pub fn check_custody(alloc: Global, copies: &[Row], lines: &[Row]) -> Result<Aud
 }
 
 /// Audits custody, whatever the two tables hold: whether each mark of a copy or a line is made, has one place and
-/// belongs to one film, and how many marks there are. All tables stay as they are.
+/// belongs to one film, and how many marks there are. All tables stay as they are. It returns
+/// `Failed` only if the disk met a fault.
 pub fn audit_custody<S: Alter>(
     alloc: Global,
     tx: &mut Transaction<'_, S>,
 ) -> Result<Audit, StoreFault>
-    ensures { DoesInside S.Store tx.old.conn tx.new.conn result
+    ensures does { DoesInside S.Store tx.old.conn tx.new.conn result
         (λ audit old new. IsShop old
         → IsCustodyAudit (map (columns_of 6) (old.now.trees 25)) (map (columns_of 8) (old.now.trees 37)) audit
         × (new.now ≡ old.now)) }
+    ensures fails { FailsByFaults S.Store tx.old.conn tx.new.conn result IsShop }
 {
     let copies = read_whole(tx, COPIES_TEXT)?;
     let lines = read_whole(tx, LINES_TEXT)?;

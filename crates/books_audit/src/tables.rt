@@ -3,8 +3,9 @@
 ghost use Rattle.std.specs.Prelude.{◌≡◌, List, ◌∷◌, drop, map};
 ghost use Rattle.sqlite.specs.Table.{Table};
 ghost use Rattle.sql_rows.specs.Calls.{DoesInside, DoesWithin};
+ghost use Rattle.sql_rows.specs.Causes.{FailsByFaults};
 ghost use Rattle.shop_schema.specs.Shop.{IsShop, HaveRows};
-ghost use Rattle.books_audit.specs.Tables.{rows_in, SelectsWhole, AreRowsOf, SelectEach};
+ghost use Rattle.books_audit.specs.Tables.{rows_in, SelectsWhole, AreRowsOf, SelectEach, ReadsWhole, ReadEach};
 ghost use Rattle.books_audit.specs.Shops.{HaveTables};
 
 use sql_rows::{StoreFault, query};
@@ -119,9 +120,11 @@ pub(crate) fn read_whole<S: Alter>(
     tx: &mut Transaction<'_, S>,
     text: &str,
 ) -> Result<Vec<Row>, StoreFault>
-    ensures { DoesInside S.Store tx.old.conn tx.new.conn result
+    ensures does { DoesInside S.Store tx.old.conn tx.new.conn result
         (λ rows old new. IsShop old → (t : Table) → SelectsWhole t text.now
         → AreRowsOf t old.now.trees rows.items × (new.now ≡ old.now)) }
+    ensures fails { (t : Table) → ReadsWhole t text.now
+        → FailsByFaults S.Store tx.old.conn tx.new.conn result IsShop }
 {
     query(tx, text, &[])
 }
@@ -132,9 +135,11 @@ fn read_each<S: Alter>(
     tx: &mut Transaction<'_, S>,
     texts: &[&str],
 ) -> Result<Vec<Vec<Row>>, StoreFault>
-    ensures { DoesWithin S.Store tx.old.conn tx.new.conn result
+    ensures does { DoesWithin S.Store tx.old.conn tx.new.conn result
         (λ all old new. IsShop old → (tables : List Table) → SelectEach tables (map (λ t. t.now) texts.now)
         → HaveRows tables old.now.trees (map (λ rows. rows.items) all.items) × (new.now ≡ old.now)) }
+    ensures fails { (tables : List Table) → ReadEach tables (map (λ t. t.now) texts.now)
+        → FailsByFaults S.Store tx.old.conn tx.new.conn result IsShop }
 {
     let mut all = Vec::new(alloc);
     for text in texts {
@@ -149,8 +154,9 @@ pub(crate) fn read_tables<S: Alter>(
     alloc: Global,
     tx: &mut Transaction<'_, S>,
 ) -> Result<TableRows, StoreFault>
-    ensures { DoesInside S.Store tx.old.conn tx.new.conn result
+    ensures does { DoesInside S.Store tx.old.conn tx.new.conn result
         (λ tables old new. IsShop old → HaveTables old.now.trees tables × (new.now ≡ old.now)) }
+    ensures fails { FailsByFaults S.Store tx.old.conn tx.new.conn result IsShop }
 {
     let chain = read_whole(tx, CHAIN_TEXT)?;
     let mut all = read_each(alloc, tx, &OTHER_TEXTS)?;

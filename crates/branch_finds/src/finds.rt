@@ -2,10 +2,12 @@
 
 ghost use Rattle.std.specs.Prelude.{◌≡◌, ℕ, is_some, map, option_map, option_to_list, not, IfSome};
 ghost use Rattle.sql_rows.specs.Calls.{DoesWithin};
+ghost use Rattle.sql_rows.specs.Causes.{FailsByFaults};
 ghost use Rattle.shop_model.specs.Rows.{at, lacks};
 ghost use Rattle.shop_model.specs.Stock.{is_here, held_by};
 ghost use Rattle.shop_model.specs.Books.{head, shop_of};
 ghost use Rattle.shop_ledger.specs.Calls.{Finds};
+ghost use Rattle.shop_schema.specs.Asked.{HoldsBooks};
 ghost use Rattle.branch_finds.specs.Finds.{Knows, copy_shown};
 ghost use Rattle.consign_finds.specs.Finds.{open_from};
 ghost use Rattle.branch_core.specs.Agreed.{copy_at, rental_at, seen_copy, seen_rental, seen_film_copy, AreOfFilm, HasTermsNow, active_at};
@@ -122,13 +124,15 @@ fn find_renter<S: Alter>(
     branch: BranchNo,
     rental: RentalNo,
 ) -> Result<Option<CustomerNo>, StoreFault>
-    ensures { DoesWithin S.Store tx.old.conn tx.new.conn result
+    ensures does { DoesWithin S.Store tx.old.conn tx.new.conn result
         (λ renter. Finds (λ books. renter
         ≡ head (map (λ it. it.customer) (at rental (shop_of branch books).rentals)))) }
+    ensures fails { FailsByFaults S.Store tx.old.conn tx.new.conn result HoldsBooks }
 {
-    match rental_at(tx, branch, rental)? {
-        Some(row) => Ok(Some(row.rental.customer)),
-        None => Ok(None),
+    match rental_at(tx, branch, rental) {
+        Ok(Some(row)) => Ok(Some(row.rental.customer)),
+        Ok(None) => Ok(None),
+        Err(fault) => Err(fault),
     }
 }
 
@@ -138,10 +142,11 @@ pub fn find_holder<S: Alter>(
     branch: BranchNo,
     out: Option<RentalNo>,
 ) -> Result<Option<CustomerNo>, StoreFault>
-    ensures { DoesWithin S.Store tx.old.conn tx.new.conn result
+    ensures does { DoesWithin S.Store tx.old.conn tx.new.conn result
         (λ holder old new. (copy : ℕ) → Finds (λ books. option_to_list out
         ≡ open_from 1 copy (shop_of branch books).rentals → holder
         ≡ head (held_by copy (shop_of branch books).rentals)) old new) }
+    ensures fails { FailsByFaults S.Store tx.old.conn tx.new.conn result HoldsBooks }
 {
     match out {
         Some(rental) => find_renter(tx, branch, rental),
@@ -156,10 +161,14 @@ pub fn find_of_film<S: Alter>(
     branch: BranchNo,
     film: FilmNo,
 ) -> Result<Vec<FilmCopy>, StoreFault>
-    ensures { DoesWithin S.Store tx.old.conn tx.new.conn result
+    ensures does { DoesWithin S.Store tx.old.conn tx.new.conn result
         (λ copies. Finds (λ books. AreOfFilm film (shop_of branch books) copies.items)) }
+    ensures fails { FailsByFaults S.Store tx.old.conn tx.new.conn result HoldsBooks }
 {
-    let rows = copies_of_film(alloc, tx, branch, film)?;
+    let rows = match copies_of_film(alloc, tx, branch, film) {
+        Ok(rows) => rows,
+        Err(fault) => return Err(fault),
+    };
     with_stock(alloc, tx, branch, rows.as_slice())
 }
 
@@ -170,13 +179,17 @@ fn with_stock<S: Alter>(
     branch: BranchNo,
     rows: &[CopyRow],
 ) -> Result<Vec<FilmCopy>, StoreFault>
-    ensures { DoesWithin S.Store tx.old.conn tx.new.conn result
+    ensures does { DoesWithin S.Store tx.old.conn tx.new.conn result
         (λ copies. Finds (λ books. map seen_film_copy copies.items
         ≡ map (copy_shown (shop_of branch books).rentals) rows.now)) }
+    ensures fails { FailsByFaults S.Store tx.old.conn tx.new.conn result HoldsBooks }
 {
     let mut copies = Vec::new(alloc);
     for row in rows {
-        let copy = with_its_stock(tx, branch, *row)?;
+        let copy = match with_its_stock(tx, branch, *row) {
+            Ok(copy) => copy,
+            Err(fault) => return Err(fault),
+        };
         copies.push(copy)?;
     }
     Ok(copies)
@@ -188,13 +201,16 @@ fn with_its_stock<S: Alter>(
     branch: BranchNo,
     row: CopyRow,
 ) -> Result<FilmCopy, StoreFault>
-    ensures { DoesWithin S.Store tx.old.conn tx.new.conn result
+    ensures does { DoesWithin S.Store tx.old.conn tx.new.conn result
         (λ copy. Finds (λ books. seen_film_copy copy ≡ copy_shown (shop_of branch books).rentals row)) }
+    ensures fails { FailsByFaults S.Store tx.old.conn tx.new.conn result HoldsBooks }
 {
-    let out = out_at(tx, branch, row.number)?;
-    Ok(FilmCopy {
-        number: row.number,
-        is_here: is_here(row.state),
-        is_in_stock: out.is_none(),
-    })
+    match out_at(tx, branch, row.number) {
+        Ok(out) => Ok(FilmCopy {
+            number: row.number,
+            is_here: is_here(row.state),
+            is_in_stock: out.is_none(),
+        }),
+        Err(fault) => Err(fault),
+    }
 }

@@ -18,6 +18,8 @@ use Rattle.shop_model.specs.Office.{office_look}
 use Rattle.shop_types.specs.declared.reply.Reply.{Reply}
 use Rattle.shop_types.specs.Seen.{seen_view}
 use Rattle.shop_types.specs.Replies.{seen_reply}
+use Rattle.shop_schema.specs.Asked.{HoldsBooks}
+use Rattle.shop_ledger.specs.Asked.{HoldsBranch}
 use Rattle.shop_ledger.specs.Calls.{Finds}
 use Rattle.branch_reports.specs.Told.{IsDecision}
 use Rattle.branch_reports.specs.Looked.{looked}
@@ -57,15 +59,35 @@ Gives answer b (work.Shows it) books = answer ≡ answer_of (Shows (listed b it 
 abbrev pub IsShown : ℕ → Ask → Work Listing → Books → Type 0
 IsShown b ask it books = Gives (looked b ask books) b it books
 
+-- the reading asks for a list, whose rows come one at a time outside the transaction
+abbrev pub is_list : Ask → Bool
+is_list (model.Overdue at) = true
+is_list model.Arrivals = true
+is_list model.SentOff = true
+is_list (model.OneView view) = true
+is_list ask = false
+
+-- the work is answered, and has changed nothing
+abbrev pub IsStill : {L : Type 0} → Work L → Type 0
+IsStill (work.Answered it) = it.is_changed ≡ false
+IsStill (work.Shows it) = ⊥
+
 -- an answer is a decision, whatever the disk did
 abbrev pub TellsDecision : {L : Type 0} → Work L → Type 0
 TellsDecision (work.Answered it) = IsDecision (seen_reply it.reply)
 TellsDecision (work.Shows it) = ⊤
 
--- A reading of a branch stays inside the transaction, and shows what the definitions show of the books. Its answer is a decision.
+-- A reading of a branch stays inside the transaction, and shows what the definitions show of the books. Its answer is a decision. If
+-- it asks for no list, it is answered, and nothing is changed.
 pub record LooksAt {S E : Type 0} (g : Ghosts S) (b : ℕ) (ask : Ask) (old new : MutBor (Held S)) (result : Result (Work Listing) E) : Type 0 where
   pub does : DoesBy (reads_row ask) g old new result (λ it. Finds (IsShown b ask it))
   pub decided : IfOk result TellsDecision
+  pub still : is_list ask ≡ false → IfOk result IsStill
+
+-- What the reading asks of the state before it, so that it fails only as the disk meets a fault. Rewards ask that the branch is there.
+abbrev pub HoldsFor : ℕ → Ask → State → Type 0
+HoldsFor b (model.Rewards at purchases cents) s = HoldsBranch b s
+HoldsFor b ask s = HoldsBooks s
 
 -- the work with the reply, which changes nothing
 abbrev pub told_of : {E : Type 0} → Result Reply E → Result (Work Listing) E

@@ -2,6 +2,7 @@
 
 ghost use Rattle.std.specs.Prelude.{◌≡◌, false, IfOk};
 ghost use Rattle.sql_rows.specs.Calls.{DoesInside};
+ghost use Rattle.sql_rows.specs.Causes.{FailsByFaults};
 ghost use Rattle.shop_model.specs.Values.{OneView};
 ghost use Rattle.shop_model.specs.Refusals.{NoCounter};
 ghost use Rattle.shop_model.specs.Machine.{Sorry};
@@ -9,7 +10,8 @@ ghost use Rattle.shop_model.specs.Answers.{answer_of};
 ghost use Rattle.shop_types.specs.Seen.{seen_ask, seen_view};
 ghost use Rattle.shop_types.specs.Replies.{seen_reply};
 ghost use Rattle.shop_ledger.specs.Calls.{Finds};
-ghost use Rattle.branch_looks.specs.Looks.{IsAnswered, IsKnown, TellsDecision};
+ghost use Rattle.shop_schema.specs.Asked.{HoldsBooks};
+ghost use Rattle.branch_looks.specs.Looks.{IsAnswered, IsKnown, TellsDecision, is_list, IsStill};
 
 use crate::readings::{look, reads_row};
 use crate::work::{Listing, Work};
@@ -31,6 +33,8 @@ pub fn answer_look<S: Alter>(
     ensures does { DoesInside S.Store tx.old.conn tx.new.conn result
         (λ it. Finds (λ books. IsKnown is_known branch books.catalogue → IsAnswered branch (seen_ask ask.now) it books)) }
     ensures decided { IfOk result TellsDecision }
+    ensures still { is_list (seen_ask ask.now) ≡ false → IfOk result IsStill }
+    ensures fails { FailsByFaults S.Store tx.old.conn tx.new.conn result HoldsBooks }
 {
     // A reading that reads no row doesn't show that the transaction is open.
     if is_known && reads_row(*ask) {
@@ -49,11 +53,14 @@ fn look_where_found<S: Alter>(
     ensures does { DoesInside S.Store tx.old.conn tx.new.conn result
         (λ it. Finds (IsAnswered branch (seen_ask ask) it)) }
     ensures decided { IfOk result TellsDecision }
+    ensures still { is_list (seen_ask ask) ≡ false → IfOk result IsStill }
+    ensures fails { FailsByFaults S.Store tx.old.conn tx.new.conn result HoldsBooks }
 {
-    let Some(_) = standing_at(tx, branch)? else {
-        return Ok(Work::Answered(no_counter()));
-    };
-    look(alloc, tx, branch, ask)
+    match standing_at(tx, branch) {
+        Ok(Some(_)) => look(alloc, tx, branch, ask),
+        Ok(None) => Ok(Work::Answered(no_counter())),
+        Err(fault) => Err(fault),
+    }
 }
 
 /// Looks for the branch, and returns the view as a list for the caller to show.

@@ -2,11 +2,13 @@
 
 ghost use Rattle.std.specs.Prelude.{◌≡◌, ℕ, IfOk, string_bytes};
 ghost use Rattle.sql_rows.specs.Calls.{DoesInside};
+ghost use Rattle.sql_rows.specs.Causes.{FailsByFaults};
 ghost use Rattle.shop_model.specs.Values.{OneCustomer, OneFilm, InStock, HeldBy};
 ghost use Rattle.shop_model.specs.Shop.{Shop};
 ghost use Rattle.shop_model.specs.Machine.{CopiesAre};
 ghost use Rattle.shop_model.specs.Answers.{shown_text};
 ghost use Rattle.shop_types.specs.Replies.{seen_reply};
+ghost use Rattle.shop_schema.specs.Asked.{HoldsBooks};
 ghost use Rattle.branch_core.specs.Agreed.{AreOfFilm};
 ghost use Rattle.branch_looks.specs.Looks.{stock_asked, stock_listed};
 ghost use Rattle.branch_reports.specs.Looked.{Tells};
@@ -32,10 +34,12 @@ pub(crate) fn look_customer<S: Alter>(
 ) -> Result<Reply, StoreFault>
     ensures does { DoesInside S.Store tx.old.conn tx.new.conn result (Tells branch (OneCustomer number)) }
     ensures decided { IfOk result (λ reply. IsDecision (seen_reply reply)) }
+    ensures fails { FailsByFaults S.Store tx.old.conn tx.new.conn result HoldsBooks }
 {
-    match customer_at(tx, branch, number)? {
-        Some(row) => Ok(Reply::accepted(customer_text(alloc, number, &row.customer)?)),
-        None => Ok(Reply::refused(Refusal::NoCustomer)),
+    match customer_at(tx, branch, number) {
+        Ok(Some(row)) => Ok(Reply::accepted(customer_text(alloc, number, &row.customer)?)),
+        Ok(None) => Ok(Reply::refused(Refusal::NoCustomer)),
+        Err(fault) => Err(fault),
     }
 }
 
@@ -48,10 +52,12 @@ pub(crate) fn look_film<S: Alter>(
 ) -> Result<Reply, StoreFault>
     ensures does { DoesInside S.Store tx.old.conn tx.new.conn result (Tells branch (OneFilm number)) }
     ensures decided { IfOk result (λ reply. IsDecision (seen_reply reply)) }
+    ensures fails { FailsByFaults S.Store tx.old.conn tx.new.conn result HoldsBooks }
 {
-    match film_row(tx, number)? {
-        Some(row) => Ok(Reply::accepted(film_text(alloc, number, &row.film, row.withdrawn)?)),
-        None => Ok(Reply::refused(Refusal::NoFilm)),
+    match film_row(tx, number) {
+        Ok(Some(row)) => Ok(Reply::accepted(film_text(alloc, number, &row.film, row.withdrawn)?)),
+        Ok(None) => Ok(Reply::refused(Refusal::NoFilm)),
+        Err(fault) => Err(fault),
     }
 }
 
@@ -64,10 +70,12 @@ pub(crate) fn look_in_stock<S: Alter>(
 ) -> Result<Reply, StoreFault>
     ensures does { DoesInside S.Store tx.old.conn tx.new.conn result (Tells branch (InStock copy)) }
     ensures decided { IfOk result (λ reply. IsDecision (seen_reply reply)) }
+    ensures fails { FailsByFaults S.Store tx.old.conn tx.new.conn result HoldsBooks }
 {
-    match copy_now_at(tx, branch, copy)? {
-        Some(found) => Ok(Reply::accepted(in_stock_text(alloc, found.out.is_none())?)),
-        None => Ok(Reply::refused(Refusal::NoCopy)),
+    match copy_now_at(tx, branch, copy) {
+        Ok(Some(found)) => Ok(Reply::accepted(in_stock_text(alloc, found.out.is_none())?)),
+        Ok(None) => Ok(Reply::refused(Refusal::NoCopy)),
+        Err(fault) => Err(fault),
     }
 }
 
@@ -80,11 +88,17 @@ pub(crate) fn look_holder<S: Alter>(
 ) -> Result<Reply, StoreFault>
     ensures does { DoesInside S.Store tx.old.conn tx.new.conn result (Tells branch (HeldBy copy)) }
     ensures decided { IfOk result (λ reply. IsDecision (seen_reply reply)) }
+    ensures fails { FailsByFaults S.Store tx.old.conn tx.new.conn result HoldsBooks }
 {
-    let Some(found) = copy_now_at(tx, branch, copy)? else {
-        return Ok(Reply::refused(Refusal::NoCopy));
+    let found = match copy_now_at(tx, branch, copy) {
+        Ok(Some(found)) => found,
+        Ok(None) => return Ok(Reply::refused(Refusal::NoCopy)),
+        Err(fault) => return Err(fault),
     };
-    let holder = find_holder(tx, branch, found.out)?;
+    let holder = match find_holder(tx, branch, found.out) {
+        Ok(holder) => holder,
+        Err(fault) => return Err(fault),
+    };
     Ok(Reply::accepted(holder_text(alloc, holder)?))
 }
 
@@ -98,11 +112,17 @@ pub(crate) fn look_film_copies<S: Alter>(
 ) -> Result<Reply, StoreFault>
     ensures does { DoesInside S.Store tx.old.conn tx.new.conn result (Tells branch (stock_asked is_in film)) }
     ensures decided { IfOk result (λ reply. IsDecision (seen_reply reply)) }
+    ensures fails { FailsByFaults S.Store tx.old.conn tx.new.conn result HoldsBooks }
 {
-    let Some(_) = film_withdrawn(tx, film)? else {
-        return Ok(Reply::refused(Refusal::NoFilm));
+    match film_withdrawn(tx, film) {
+        Ok(Some(_)) => {}
+        Ok(None) => return Ok(Reply::refused(Refusal::NoFilm)),
+        Err(fault) => return Err(fault),
+    }
+    let copies = match find_of_film(alloc, tx, branch, film) {
+        Ok(copies) => copies,
+        Err(fault) => return Err(fault),
     };
-    let copies = find_of_film(alloc, tx, branch, film)?;
     match listed_text(alloc, copies.as_slice(), is_in) {
         Ok(text) => Ok(Reply::accepted(text)),
         Err(_) => Err(StoreFault::Memory),

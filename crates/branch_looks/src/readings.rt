@@ -1,8 +1,9 @@
 //! Answers a branch's reading inside a transaction, or by a list.
 
 ghost use Rattle.std.specs.Prelude.{◌≡◌};
+ghost use Rattle.sql_rows.specs.Causes.{FailsByFaults};
 ghost use Rattle.shop_types.specs.Seen.{seen_ask};
-ghost use Rattle.branch_looks.specs.Looks.{reads_row, LooksAt, told_of};
+ghost use Rattle.branch_looks.specs.Looks.{reads_row, HoldsFor, LooksAt, told_of};
 
 use crate::looks::{look_customer, look_film, look_film_copies, look_holder, look_in_stock};
 use crate::work::{Listing, Work};
@@ -38,7 +39,8 @@ pub(crate) fn look<S: Alter>(
     branch: BranchNo,
     ask: Ask,
 ) -> Result<Work<Listing>, StoreFault>
-    ensures { LooksAt S.Store branch (seen_ask ask) tx.old.conn tx.new.conn result }
+    ensures looks { LooksAt S.Store branch (seen_ask ask) tx.old.conn tx.new.conn result }
+    ensures fails { FailsByFaults S.Store tx.old.conn tx.new.conn result (HoldsFor branch (seen_ask ask)) }
 {
     match ask {
         Ask::Customer(number) => told(look_customer(alloc, tx, branch, number)),

@@ -2,9 +2,11 @@
 
 ghost use Rattle.std.specs.Prelude.{◌≡◌};
 ghost use Rattle.sql_rows.specs.Calls.{DoesWithin};
+ghost use Rattle.sql_rows.specs.Causes.{FailsByFaults};
 ghost use Rattle.shop_model.specs.Books.{shop_of};
 ghost use Rattle.shop_types.specs.Seen.{seen_payment};
 ghost use Rattle.shop_ledger.specs.Calls.{Finds};
+ghost use Rattle.shop_schema.specs.Asked.{HoldsBooks};
 ghost use Rattle.shop_store.specs.Seen.{seen_termed};
 ghost use Rattle.balance_rule.specs.Balance.{AreTermsOf, ArePaidBy, paid_of, terms_of};
 
@@ -23,10 +25,14 @@ pub fn find_terms<S: Alter>(
     branch: BranchNo,
     customer: CustomerNo,
 ) -> Result<Vec<RentalTerms>, StoreFault>
-    ensures { DoesWithin S.Store tx.old.conn tx.new.conn result
+    ensures does { DoesWithin S.Store tx.old.conn tx.new.conn result
         (λ terms. Finds (λ books. AreTermsOf (shop_of branch books) customer terms.items)) }
+    ensures fails { FailsByFaults S.Store tx.old.conn tx.new.conn result HoldsBooks }
 {
-    let rows = termed_of_customer(alloc, tx, branch, customer)?;
+    let rows = match termed_of_customer(alloc, tx, branch, customer) {
+        Ok(rows) => rows,
+        Err(fault) => return Err(fault),
+    };
     let mut terms = Vec::new(alloc);
     for row in &rows {
         terms.push(charged_by(*row))?;
@@ -54,10 +60,14 @@ pub fn find_paid<S: Alter>(
     branch: BranchNo,
     customer: CustomerNo,
 ) -> Result<Vec<Paid>, StoreFault>
-    ensures { DoesWithin S.Store tx.old.conn tx.new.conn result
+    ensures does { DoesWithin S.Store tx.old.conn tx.new.conn result
         (λ paid. Finds (λ books. ArePaidBy (shop_of branch books) customer paid.items)) }
+    ensures fails { FailsByFaults S.Store tx.old.conn tx.new.conn result HoldsBooks }
 {
-    let rows = payments_of_customer(alloc, tx, branch, customer)?;
+    let rows = match payments_of_customer(alloc, tx, branch, customer) {
+        Ok(rows) => rows,
+        Err(fault) => return Err(fault),
+    };
     let mut payments = Vec::new(alloc);
     for row in &rows {
         payments.push(paid_by(row.payment))?;

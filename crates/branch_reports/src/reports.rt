@@ -1,13 +1,16 @@
 //! Answers what a branch asks about money.
 
-ghost use Rattle.std.specs.Prelude.{◌≡◌, ℕ, IfOk};
+ghost use Rattle.std.specs.Prelude.{◌≡◌, ◌≤◌, ℕ, IfErr, IfOk, length};
 ghost use Rattle.sql_rows.specs.Calls.{DoesInside, DoesWithin};
+ghost use Rattle.sql_rows.specs.Causes.{FailsByFaults};
 ghost use Rattle.shop_model.specs.Values.{Balance, Rewards};
 ghost use Rattle.shop_model.specs.Shop.{Shop};
 ghost use Rattle.shop_model.specs.Stock.{balance};
 ghost use Rattle.shop_types.specs.Seen.{seen_rule};
 ghost use Rattle.shop_types.specs.Replies.{seen_reply};
 ghost use Rattle.balance_rule.specs.Balance.{AreTermsOf, ArePaidBy};
+ghost use Rattle.shop_ledger.specs.Asked.{HoldsBranch};
+ghost use Rattle.shop_schema.specs.Asked.{HoldsBooks};
 ghost use Rattle.branch_reports.specs.Looked.{Tells};
 ghost use Rattle.branch_reports.specs.Told.{IsDecision};
 
@@ -32,14 +35,29 @@ pub fn look_balance<S: Alter>(
 ) -> Result<Reply, StoreFault>
     ensures does { DoesInside S.Store tx.old.conn tx.new.conn result (Tells branch (Balance customer at)) }
     ensures decided { IfOk result (λ reply. IsDecision (seen_reply reply)) }
+    ensures fails { FailsByFaults S.Store tx.old.conn tx.new.conn result HoldsBooks }
 {
-    let Some(_) = active_at(tx, branch, customer)? else {
-        return Ok(Reply::refused(Refusal::NoCustomer));
+    match active_at(tx, branch, customer) {
+        Ok(Some(_)) => {}
+        Ok(None) => return Ok(Reply::refused(Refusal::NoCustomer)),
+        Err(fault) => return Err(fault),
+    }
+    let rule = match rule_at(tx) {
+        Ok(rule) => rule,
+        Err(fault) => return Err(fault),
     };
-    let rule = rule_at(tx)?;
-    let rentals = find_terms(alloc, tx, branch, customer)?;
-    let payments = find_paid(alloc, tx, branch, customer)?;
-    let cents = owed(rentals.as_slice(), payments.as_slice(), at, rule)?;
+    let rentals = match find_terms(alloc, tx, branch, customer) {
+        Ok(rentals) => rentals,
+        Err(fault) => return Err(fault),
+    };
+    let payments = match find_paid(alloc, tx, branch, customer) {
+        Ok(payments) => payments,
+        Err(fault) => return Err(fault),
+    };
+    let cents = match owed(rentals.as_slice(), payments.as_slice(), at, rule) {
+        Ok(cents) => cents,
+        Err(fault) => return Err(fault),
+    };
     Ok(Reply::accepted(balance_text(alloc, cents)?))
 }
 
@@ -51,9 +69,10 @@ fn owed(
     at: Moment,
     rule: Rule,
 ) -> Result<Cents, StoreFault>
-    ensures { IfOk result (λ cents. (shop : Shop) (customer : ℕ) → AreTermsOf shop customer rentals.now
+    ensures told { IfOk result (λ cents. (shop : Shop) (customer : ℕ) → AreTermsOf shop customer rentals.now
         → ArePaidBy shop customer payments.now
         → cents ≡ balance (seen_rule rule) shop customer at) }
+    ensures failed { IfErr result (λ _. length rentals.now ≤ 1_000_000 → ¬ (length payments.now ≤ 1_000_000)) }
 {
     if 1_000_000 < rentals.len() || 1_000_000 < payments.len() {
         return Err(StoreFault::Failed);
@@ -73,10 +92,14 @@ pub fn look_rewards<S: Alter>(
     ensures does { DoesWithin S.Store tx.old.conn tx.new.conn result
         (Tells branch (Rewards at purchases cents)) }
     ensures decided { IfOk result (λ reply. IsDecision (seen_reply reply)) }
+    ensures fails { FailsByFaults S.Store tx.old.conn tx.new.conn result (HoldsBranch branch) }
 {
     if purchases == 0 || cents == 0 {
         return Ok(Reply::refused(Refusal::BadThreshold));
     }
-    let customers = find_rewarded(alloc, tx, branch, at, purchases, cents)?;
+    let customers = match find_rewarded(alloc, tx, branch, at, purchases, cents) {
+        Ok(customers) => customers,
+        Err(fault) => return Err(fault),
+    };
     Ok(Reply::accepted(rewards_text(alloc, customers.as_slice())?))
 }

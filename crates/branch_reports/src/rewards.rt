@@ -4,9 +4,11 @@ ghost use Rattle.std.specs.Prelude.{◌≡◌, ℕ, ℤ, ◌+◌, ◌*◌, ◌�
 ghost use Rattle.std.specs.BTreeMap.{Updates, get};
 ghost use Rattle.std.specs.Ordering.{nat_cmp};
 ghost use Rattle.sql_rows.specs.Calls.{DoesWithin};
+ghost use Rattle.sql_rows.specs.Causes.{FailsByFaults};
 ghost use Rattle.shop_model.specs.Calendar.{month_before, seconds_of};
 ghost use Rattle.shop_model.specs.Books.{shop_of};
 ghost use Rattle.shop_model.specs.Stock.{rewarded_in};
+ghost use Rattle.shop_ledger.specs.Asked.{HoldsBranch};
 ghost use Rattle.shop_ledger.specs.Calls.{Finds};
 ghost use Rattle.shop_model.specs.Values.{Payment};
 ghost use Rattle.branch_reports.specs.Rewards.{AreSmall, AreSummed, one_paid, passes_for, payments_of, rewarded_numbers, sum_or_none};
@@ -38,20 +40,31 @@ pub fn find_rewarded<S: Alter>(
     purchases: u32,
     cents: u32,
 ) -> Result<Vec<CustomerNo>, StoreFault>
-    ensures { DoesWithin S.Store tx.old.conn tx.new.conn result
+    ensures does { DoesWithin S.Store tx.old.conn tx.new.conn result
         (λ customers. Finds (λ books. customers.items
         ≡ rewarded_in (month_before at) (shop_of branch books) purchases cents)) }
+    ensures fails { FailsByFaults S.Store tx.old.conn tx.new.conn result (HoldsBranch branch) }
 {
     let Some(month) = last_month(at) else {
         return Ok(Vec::new(alloc));
     };
     let (start, end) = last_month_bounds(at);
-    let customers = count_of(tx, Count::Of(branch, CountKind::Customers))?;
-    let rows = payments_between(alloc, tx, branch, start, end)?;
+    let customers = match count_of(tx, Count::Of(branch, CountKind::Customers)) {
+        Ok(customers) => customers,
+        Err(fault) => return Err(fault),
+    };
+    let rows = match payments_between(alloc, tx, branch, start, end) {
+        Ok(rows) => rows,
+        Err(fault) => return Err(fault),
+    };
     if 1_000_000 < rows.len() {
         return Err(StoreFault::Failed);
     }
-    rewarded_among(alloc, customers, rows.as_slice(), month, purchases, cents)
+    // No call below reads the store, so each fails only where memory runs out.
+    match rewarded_among(alloc, customers, rows.as_slice(), month, purchases, cents) {
+        Ok(numbers) => Ok(numbers),
+        Err(_) => Err(StoreFault::Memory),
+    }
 }
 
 /// Returns the first second of the month before the moment's, and the first second of the moment's own month. In

@@ -1,11 +1,16 @@
 -- A chain that has failed stays as it is, and a look at one that hasn't may be refused by the store.
 use Rattle.shop_schema.proofs.Common.{◌≡◌, ◌∙◌, Bool, true, false, inl, inr, refl, sym, ap, subst, Result, Ok, Err, cases_Bool, Ghosts, Held, state}
-use Rattle.shop_schema.proofs.Common.{HasCleanDisk, Survives, StoreFault, Memory, Size, Failed, problem_answer, is_store_failure, memory_failure, size_failure}
+use Rattle.shop_schema.proofs.Common.{State, Trees, Books, HasCleanDisk, Survives, StoreFault}
+use Rattle.shop_schema.proofs.Common.{Memory, Size, Failed, problem_answer, is_store_failure, memory_failure, size_failure}
 use Rattle.shop_schema.proofs.Common.{failed_failure, seen_refusal}
 use Rattle.std.specs.Prelude.{◌||◌}
 use Rattle.shop_types.specs.declared.refusal.Refusal.TheVariants.{StoreFailed}
 use Rattle.chain_requests.specs.Holding.{Chained, holding}
-use Rattle.chain_requests.specs.Chains.{Takes}
+use Rattle.sql_rows.specs.Causes.{IsReady, MetFaults}
+use Rattle.chain_caches.specs.Films.{KnownFilms}
+use Rattle.chain_requests.specs.Chains.{Takes, IsAt}
+use Rattle.chain_requests.specs.Wells.{IsWell, StaysWell}
+use Rattle.chain_requests.proofs.Wells.{well_refused}
 use Rattle.chain_requests.specs.Steps.{IsUndone}
 use Rattle.chain_requests.specs.Decisions.{IsStoreRefusal, refusal_for, is_final}
 use Rattle.chain_requests.proofs.Requests.{kept}
@@ -100,3 +105,18 @@ module _ {S A : Type 0} (g : Ghosts S) (old self new : Chained S) (conn : Held S
 
   pub refused_leaves : Survives (state g old.conn) (state g conn) (λ _. ⊥) → LeavesNoMore (state g self.conn) (state g new.conn)
   refused_leaves survives = leaves_no_more g old self conn new.conn is survives (ap (λ (x : Chained S). x.conn) told)
+
+-- A look that the store refused: the chain stays well, or the disk met a fault in the look.
+module _ {S : Type 0} (g : Ghosts S) (old self new : Chained S) (films : KnownFilms) (conn : Held S) (fault : StoreFault) (is : old ≡ self)
+    (told : new ≡ record { limits = old.limits; is_failed = old.is_failed || is_final fault; films = films; callers = old.callers; conn = conn }) where
+  pub refused_well : (Asked : State → Type 0) {Leaves : Trees → Type 0} → Survives (state g old.conn) (state g conn) Leaves
+      → ((books besides : Books) → IsAt g old books besides → IsWell g old → Asked (state g old.conn))
+      → (old.is_failed ≡ false → HasCleanDisk (state g conn) → IsReady (state g old.conn) → Asked (state g old.conn) → fault ≡ Failed
+      → MetFaults (state g old.conn) (state g conn))
+      → StaysWell g self new
+  refused_well Asked survives asks met =
+      let next : Chained S = record { limits = old.limits; is_failed = old.is_failed || is_final fault; films = films; callers = old.callers; conn = conn } in
+      let first : StaysWell g old next =
+      well_refused g old next survives fault (λ works. rw works refl)
+      (λ clean books besides at well failed. met well.works clean well.ready (asks books besides at well) failed) in
+      subst (λ (x : Chained S). StaysWell g self x) (sym told) (subst (λ (x : Chained S). StaysWell g x next) is first)

@@ -1,3 +1,4 @@
 pub mod Failing
 pub mod Results
 pub mod Resuming
+pub mod Wells

@@ -1,6 +1,6 @@
 //! The chain of shops over a store.
 
-ghost use Rattle.std.specs.Prelude.{◌≡◌, ◌≢◌, ◌≤◌, ◌||◌, [], true, false, Err, Some, All, IfOk, IfErr, IfSome, OnErr, length, map};
+ghost use Rattle.std.specs.Prelude.{◌≡◌, ◌≢◌, ◌≤◌, ◌||◌, [], true, false, Err, Some, All, IfOk, IfErr, IfSome, IsTrue, OnErr, length, map};
 ghost use Rattle.sqlite.specs.Held.{state};
 ghost use Rattle.sqlite.specs.State.{HasCleanDisk};
 ghost use Rattle.sqlite.specs.Steps.{over_memory};
@@ -13,6 +13,7 @@ ghost use Rattle.shop_types.specs.Seen.{seen_caller, seen_office_ask, seen_reque
 ghost use Rattle.shop_types.specs.Replies.{seen_reply};
 ghost use Rattle.chain_caches.specs.Callers.{AreCallers};
 ghost use Rattle.chain_requests.specs.Chains.{IsAt, Takes, Answers, AnswersEvent, Runs, event_of};
+ghost use Rattle.chain_requests.specs.Wells.{IsWell, StaysWell, is_row_look};
 ghost use Rattle.chain_engine.specs.Failing.{is_failure};
 ghost use Rattle.chain_engine.specs.Leaving.{LeavesNoMore};
 ghost use Rattle.chain_requests.specs.Steps.{IsKnownFor, asker, asked_of};
@@ -69,6 +70,7 @@ impl Chain<MemStore> {
     ) -> Result<Chain<MemStore>, OpenFault>
         ensures made { IfOk result (λ chain. (chain.limits ≡ limits) × (chain.is_failed ≡ false)
             × IsAt over_memory chain (first_books office.now) (first_books office.now)) }
+        ensures well { IfOk result (IsWell over_memory) }
         ensures fault { IfErr result (λ e. (e ≢ OpenFault.NotAChain) × (e ≢ OpenFault.OtherVersion)
             × (e ≢ OpenFault.Damaged) × (e ≢ OpenFault.Already)) }
     {
@@ -85,6 +87,7 @@ impl Chain<MemStore> {
     pub fn demo(alloc: Global, limits: Limits) -> Result<Chain<MemStore>, OpenFault>
         ensures made { IfOk result (λ chain. (chain.limits ≡ limits) × (chain.is_failed ≡ false)
             × IsAt over_memory chain opening_books opening_books) }
+        ensures well { IfOk result (IsWell over_memory) }
         ensures fault { IfErr result (λ e. (e ≢ OpenFault.NotAChain) × (e ≢ OpenFault.OtherVersion)
             × (e ≢ OpenFault.Damaged) × (e ≢ OpenFault.Already)) }
     {
@@ -129,13 +132,14 @@ impl<S: Alter> Chain<S> {
     }
 
     /// Returns the caller whose token it is, or the store's refusal: `Memory`, `Size` or `StoreFailed`. It is
-    /// `StoreFailed` exactly if the chain has failed after the call. Whatever the tables are, what a crash may find
-    /// stays as it was.
+    /// `StoreFailed` exactly if the chain has failed after the call. A chain that is well fails only if the disk meets
+    /// a fault in the call. Whatever the tables are, what a crash may find stays as it was.
     pub fn caller(&mut self, token: &Token) -> Result<Caller, Refusal>
         ensures taken { Takes S.Store self.old self.new (FindsCaller token.now result) }
         ensures refused { IfErr result IsOfStore }
         ensures left { LeavesNoMore (state S.Store self.old.conn) (state S.Store self.new.conn) }
         ensures fails { self.new.is_failed ≡ is_failure result }
+        ensures well { StaysWell S.Store self.old self.new }
         ensures failed { self.old.is_failed ≡ true → (self.new ≡ self.old) × (result ≡ Err Refusal.StoreFailed) }
     {
         if let Some(caller) = self.remembered(token) {
@@ -164,8 +168,9 @@ impl<S: Alter> Chain<S> {
     }
 
     /// Audits the tables, whatever they hold, or returns the store's refusal: `Memory`, `Size` or `StoreFailed`. It is
-    /// `StoreFailed` exactly if the chain has failed after the call. What a crash may find stays as it was. The audit
-    /// reads all tables: it takes the time to sort their rows, and the memory to keep them.
+    /// `StoreFailed` exactly if the chain has failed after the call. A chain that is well fails only if the disk meets
+    /// a fault in the call. What a crash may find stays as it was. The audit reads all tables: it takes the time to
+    /// sort their rows, and the memory to keep them.
     pub fn audit(&mut self) -> Result<Audit, Refusal>
         ensures told { HasCleanDisk (state S.Store self.new.conn)
             → IfOk result (AuditsState (state S.Store self.old.conn)) }
@@ -173,6 +178,7 @@ impl<S: Alter> Chain<S> {
         ensures refused { IfErr result IsOfStore }
         ensures left { LeavesNoMore (state S.Store self.old.conn) (state S.Store self.new.conn) }
         ensures fails { self.new.is_failed ≡ is_failure result }
+        ensures well { StaysWell S.Store self.old self.new }
         ensures failed { self.old.is_failed ≡ true → (self.new ≡ self.old) × (result ≡ Err Refusal.StoreFailed) }
     {
         match audit_unless_failed(self.alloc, self.is_failed, &mut self.conn) {
@@ -189,6 +195,7 @@ impl<S: Alter> Chain<S> {
             (Answers (seen_caller caller.now) (seen_request request.now) (seen_reply result)) }
         ensures told { IsTold (seen_reply result) }
         ensures fails { self.new.is_failed ≡ is_store_failure (seen_reply result) }
+        ensures well { IsTrue (is_row_look (seen_request request.now)) → StaysWell S.Store self.old self.new }
         ensures failed { self.old.is_failed ≡ true
             → (self.new ≡ self.old) × (seen_reply result ≡ problem_answer StoreFailed) }
     {
@@ -242,6 +249,7 @@ impl<S: Alter> Chain<S> {
             (AnswersEvent (event_of (token.now, request.now)) (seen_reply result)) }
         ensures told { IsTold (seen_reply result) }
         ensures fails { self.new.is_failed ≡ is_store_failure (seen_reply result) }
+        ensures well { IsTrue (is_row_look (seen_request request.now)) → StaysWell S.Store self.old self.new }
         ensures failed { self.old.is_failed ≡ true
             → (self.new ≡ self.old) × (seen_reply result ≡ problem_answer StoreFailed) }
     {
@@ -260,6 +268,7 @@ impl<S: Alter> Chain<S> {
             (Answers (asker asked.now) (asked_of asked.now) (seen_reply result)) }
         ensures told { IsTold (seen_reply result) }
         ensures fails { self.new.is_failed ≡ is_store_failure (seen_reply result) }
+        ensures well { IsTrue (is_row_look (asked_of asked.now)) → StaysWell S.Store self.old self.new }
     {
         asked_values(asked);
         limits_fit(self.limits);

@@ -2,7 +2,7 @@
 
 ghost use Rattle.std.specs.Prelude.{◌≡◌, IfOk, IfErr};
 ghost use Rattle.shop_schema.specs.Shop.{first_books};
-ghost use Rattle.chain_files.specs.Openings.{IsCreated, IsNotCreated};
+ghost use Rattle.chain_files.specs.Openings.{IsCreated, IsNotCreated, IsWellOrFaulty};
 
 use crate::chain::Chain;
 use chain_files::{FirstRows, OpenFault, connect, create, first_values};
@@ -23,6 +23,7 @@ impl<D: Disk + Drop> Chain<FileStore<D>> {
         office: &Token,
     ) -> Result<Chain<FileStore<D>>, (OpenFault, Files<D>)>
         ensures made { IfOk result (λ chain. IsCreated files limits (first_books office.now) chain) }
+        ensures well { IfOk result IsWellOrFaulty }
         ensures refused { IfErr result (λ e. IsNotCreated D.Disk files (first_books office.now) e.0 e.1) }
     {
         let first = FirstRows::OfOffice(office);

@@ -9,7 +9,7 @@ ghost use Rattle.shop_model.specs.Books.{Books};
 ghost use Rattle.chain_requests.specs.Chains.{IsAt};
 ghost use Rattle.chain_files.specs.Files.{KeepsBooks, KeepsEither};
 ghost use Rattle.sql_rows.specs.Files.{HoldsOne};
-ghost use Rattle.chain_files.specs.Openings.{IsOpenedIn, IsNotOpened};
+ghost use Rattle.chain_files.specs.Openings.{IsOpenedIn, IsNotOpened, IsWellOrFaulty};
 
 use crate::chain::Chain;
 use chain_files::{OpenFault, connect, examine};
@@ -29,6 +29,7 @@ impl<D: Disk + Drop> Chain<FileStore<D>> {
         limits: Limits,
     ) -> Result<Chain<FileStore<D>>, (OpenFault, Files<D>)>
         ensures opened { IfOk result (λ chain. IsOpenedIn files limits chain) }
+        ensures well { IfOk result IsWellOrFaulty }
         ensures refused { IfErr result (λ e. IsNotOpened D.Disk files e.0 e.1) }
     {
         let mut conn = connect(alloc, files)?;

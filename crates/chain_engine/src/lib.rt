@@ -13,7 +13,7 @@ mod stopping;
 
 pub use chain::Chain;
 pub use chain_files::OpenFault;
-pub use laws::runs_follow;
+pub use laws::{runs_follow, stays_well_in_memory};
 pub use paths::NotAtPath;
 pub use restarting::restart;
 pub use stopping::{NotResumed, Resumed, over_a_stop};

@@ -1,7 +1,7 @@
 //! How a chain of version 1 in two files becomes one of this version.
 
 ghost use Rattle.std.specs.Prelude.{◌≡◌, IfOk, IfErr};
-ghost use Rattle.chain_files.specs.Openings.{IsMigratedIn, IsNotMigrated};
+ghost use Rattle.chain_files.specs.Openings.{IsMigratedIn, IsNotMigrated, IsWellOrFaulty};
 
 use crate::chain::Chain;
 use chain_files::{OpenFault, connect, migrate_first};
@@ -23,6 +23,7 @@ impl<D: Disk + Drop> Chain<FileStore<D>> {
         limits: Limits,
     ) -> Result<Chain<FileStore<D>>, (OpenFault, Files<D>)>
         ensures migrated { IfOk result (λ chain. IsMigratedIn files limits chain) }
+        ensures well { IfOk result IsWellOrFaulty }
         ensures refused { IfErr result (λ e. IsNotMigrated D.Disk files e.0 e.1) }
     {
         let mut conn = connect(alloc, files)?;

@@ -5,3 +5,4 @@ pub mod NewFiles
 pub mod Migrated
 pub mod FirstRow
 pub mod OldFiles
+pub mod Opened

@@ -1,5 +1,6 @@
 -- What making, opening and migrating a chain in two files promise. The disk was honest if no wrong answer from it was taken as true.
 use Rattle.std.specs.Prelude.{◌≡◌, ◌≢◌, ◌⊎◌, true, false}
+use Rattle.sqlite_disk.specs.Disk.{MoreFaults}
 use Rattle.sqlite_disk.specs.declared.Disk.{Ghosts}
 use Rattle.sqlite_disk.specs.declared.Files.{Files}
 use Rattle.sqlite_wal.specs.Reads.{AreClean}
@@ -18,6 +19,7 @@ use Rattle.chain_files.specs.declared.faults.OpenFault.{OpenFault}
 use Rattle.chain_files.specs.declared.faults.OpenFault.TheVariants as fault
 use Rattle.chain_requests.specs.Holding.{Chained}
 use Rattle.chain_requests.specs.Chains.{IsAt}
+use Rattle.chain_requests.specs.Wells.{IsWell}
 use Rattle.chain_files.specs.Faults.{is_store_fault}
 use Rattle.chain_files.specs.Migrations.{AreMigrated}
 use Rattle.chain_files.specs.Files.{HoldsBooks, KeepsBooks, KeepsEither, HoldsNoChain, HoldsSoundly, HoldsDamage, HasThisVersion, HasNoVersion, HasOtherVersion}
@@ -25,6 +27,12 @@ use Rattle.chain_files.specs.Files.{TellsVersion, HoldsVersion1Books, HoldsVersi
 use Rattle.chain_files.specs.Files.{HasNeitherVersion, HoldsVersion1Damage}
 use Rattle.sql_files.specs.Making.{IsNoneOr}
 use Rattle.sql_rows.specs.Files.{HoldsOne, IsHeldIn, IsFoundIn, OpenFailed, HoldsNoTable}
+
+-- ---- a chain that was made, opened or migrated
+
+-- if the disk was honest, the chain is well, or the disk has failed or refused at least once
+abbrev pub IsWellOrFaulty : {D : Type 0} {g : Ghosts D} → Chained (FileStore D g) → Type 0
+IsWellOrFaulty chain = HasCleanDisk (file_state chain.conn) → IsWell over_files chain ⊎ MoreFaults 0 (file_state chain.conn).faults
 
 -- ---- making
 

@@ -5,6 +5,7 @@ ghost use Rattle.sqlite.specs.Held.{state};
 ghost use Rattle.sqlite.specs.Steps.{over_memory};
 ghost use Rattle.sqlite.specs.State.{HasCleanDisk, Survives};
 ghost use Rattle.sql_rows.specs.Books.{no_schema};
+ghost use Rattle.sql_rows.specs.Causes.{IsReady};
 ghost use Rattle.shop_schema.specs.Held.{AreValues};
 ghost use Rattle.shop_schema.specs.Shop.{Holds};
 ghost use Rattle.chain_requests.specs.Chains.{Rests};
@@ -102,6 +103,7 @@ pub fn create<S: Alter>(conn: &mut Connection<S>, first: &FirstRows<'_>) -> Resu
 pub fn in_memory(alloc: Global, first: &FirstRows<'_>) -> Result<Connection<MemStore>, OpenFault>
     ensures ended { IfOk result (λ conn. conn.in_transaction ≡ false) }
     ensures made { IfOk result (λ conn. Rests (state over_memory conn) (books_with first.now)) }
+    ensures ready { IfOk result (λ conn. IsReady (state over_memory conn)) }
     ensures fault { IfErr result (λ e. (e ≢ OpenFault.NotAChain) × (e ≢ OpenFault.OtherVersion)
         × (e ≢ OpenFault.Damaged) × (e ≢ OpenFault.Already)) }
 {

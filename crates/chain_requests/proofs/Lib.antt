@@ -9,5 +9,6 @@ pub mod Branches
 pub mod Running
 pub mod Following
 pub mod Resting
+pub mod Wells
 pub mod Requests
 pub mod Looking

@@ -2,6 +2,7 @@ pub mod Holding
 pub mod Branches
 pub mod Chains
 pub mod Steps
+pub mod Wells
 pub mod Decisions
 pub mod Reports
 pub mod Audits

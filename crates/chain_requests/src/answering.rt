@@ -1,16 +1,19 @@
 //! Answers to requests inside a transaction.
 
-ghost use Rattle.std.specs.Prelude.{◌≡◌, false, ⊤, IfOk};
+ghost use Rattle.std.specs.Prelude.{◌≡◌, false, ⊤, IfOk, IsTrue};
 ghost use Rattle.sql_rows.specs.Calls.{DoesInside};
+ghost use Rattle.sql_rows.specs.Causes.{FailsByFaults};
 ghost use Rattle.shop_model.specs.Books.{Counter, HeadOffice};
 ghost use Rattle.shop_model.specs.Machine.{Office};
 ghost use Rattle.shop_types.specs.Seen.{seen_office, seen_request};
 ghost use Rattle.shop_types.specs.Replies.{seen_reply};
+ghost use Rattle.shop_schema.specs.Asked.{HoldsBooks};
 ghost use Rattle.shop_ledger.specs.Calls.{Finds};
 ghost use Rattle.branch_reports.specs.Told.{IsDecision};
-ghost use Rattle.branch_looks.specs.Looks.{IsKnown, TellsDecision};
+ghost use Rattle.branch_looks.specs.Looks.{IsKnown, IsStill, TellsDecision};
 ghost use Rattle.chain_requests.specs.Reports.{for_branch};
 ghost use Rattle.chain_requests.specs.Steps.{IsHeldBy, IsKnownFor, Works, asker, asked_of, no_route};
+ghost use Rattle.chain_requests.specs.Wells.{is_row_look};
 
 use crate::asked::Asked;
 use crate::office_commands::answer_office;
@@ -35,6 +38,9 @@ pub fn answer_inside<S: Alter>(
     ensures does { DoesInside S.Store tx.old.conn tx.new.conn result
         (Works limits (asker asked.now) (asked_of asked.now) (IsHeldBy (IsKnownFor asked.now) films.old) films.new) }
     ensures decided { IfOk result TellsDecision }
+    ensures still { IsTrue (is_row_look (asked_of asked.now)) → IfOk result IsStill }
+    ensures fails { IsTrue (is_row_look (asked_of asked.now))
+        → FailsByFaults S.Store tx.old.conn tx.new.conn result HoldsBooks }
 {
     match *asked {
         Asked::OfBranch {
@@ -59,6 +65,9 @@ fn branch_inside<S: Alter>(
     ensures does { DoesInside S.Store tx.old.conn tx.new.conn result (Works limits (Counter branch)
         (seen_request request.now) (IsHeldBy (IsKnown is_known branch) films.old) films.new) }
     ensures decided { IfOk result TellsDecision }
+    ensures still { IsTrue (is_row_look (seen_request request.now)) → IfOk result IsStill }
+    ensures fails { IsTrue (is_row_look (seen_request request.now))
+        → FailsByFaults S.Store tx.old.conn tx.new.conn result HoldsBooks }
 {
     match request {
         Request::Do(command) => {

@@ -4,10 +4,13 @@ ghost use Rattle.std.specs.Prelude.{◌≡◌, false, IfOk, Some, true, Err};
 ghost use Rattle.sqlite.specs.Held.{state};
 ghost use Rattle.sqlite.specs.State.{HasCleanDisk, Survives};
 ghost use Rattle.sql_rows.specs.Calls.{DoesInside};
+ghost use Rattle.sql_rows.specs.Causes.{FailsByFaults};
 ghost use Rattle.shop_model.specs.Books.{caller_of};
 ghost use Rattle.shop_types.specs.Seen.{seen_caller};
+ghost use Rattle.shop_schema.specs.Asked.{HoldsBooks};
 ghost use Rattle.shop_ledger.specs.Calls.{Finds};
 ghost use Rattle.chain_requests.specs.Steps.{IsUndone, HasCaller};
+ghost use Rattle.chain_requests.specs.Wells.{FailsAtRest, RestsOnBooks};
 
 use shop_store::branches::branch_with;
 use shop_store::chain::is_office;
@@ -15,13 +18,15 @@ use shop_types::{Caller, Token};
 use sql_rows::StoreFault;
 use sqlite::{Alter, Connection, Transaction};
 
-/// Finds the caller who has the token.
+/// Finds the caller who has the token. If the store is ready and holds books, the result
+/// is `Failed` only if the disk met a fault.
 pub fn find_caller<S: Alter>(conn: &mut Connection<S>, token: &Token) -> Result<Caller, StoreFault>
     requires { conn.old.in_transaction ≡ false }
     ensures ended { conn.new.in_transaction ≡ false }
     ensures found { HasCleanDisk (state S.Store conn.new)
         → IfOk result (λ caller. HasCaller token.now (seen_caller caller) (state S.Store conn.old)) }
     ensures same { HasCleanDisk (state S.Store conn.new) → IsUndone (state S.Store conn.old) (state S.Store conn.new) }
+    ensures fails { FailsAtRest S.Store conn.old conn.new result RestsOnBooks }
     ensures crash { Survives (state S.Store conn.old) (state S.Store conn.new) (λ _. ⊥) }
 {
     let mut tx = conn.transaction();
@@ -31,8 +36,9 @@ pub fn find_caller<S: Alter>(conn: &mut Connection<S>, token: &Token) -> Result<
 }
 
 fn caller_in<S: Alter>(tx: &mut Transaction<'_, S>, token: &Token) -> Result<Caller, StoreFault>
-    ensures { DoesInside S.Store tx.old.conn tx.new.conn result
+    ensures does { DoesInside S.Store tx.old.conn tx.new.conn result
         (λ caller. Finds (λ books. seen_caller caller ≡ caller_of (Some token.now) books.catalogue)) }
+    ensures fails { FailsByFaults S.Store tx.old.conn tx.new.conn result HoldsBooks }
 {
     if is_office(tx, token)? {
         return Ok(Caller::Office);
@@ -55,6 +61,7 @@ pub fn caller_unless_failed<S: Alter>(
     ensures found { HasCleanDisk (state S.Store conn.new)
         → IfOk result (λ caller. HasCaller token.now (seen_caller caller) (state S.Store conn.old)) }
     ensures same { HasCleanDisk (state S.Store conn.new) → IsUndone (state S.Store conn.old) (state S.Store conn.new) }
+    ensures fails { is_failed ≡ false → FailsAtRest S.Store conn.old conn.new result RestsOnBooks }
     ensures crash { Survives (state S.Store conn.old) (state S.Store conn.new) (λ _. ⊥) }
 {
     if is_failed {

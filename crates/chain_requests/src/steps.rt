@@ -1,11 +1,12 @@
 //! A request of a branch, or a command of head office, in one transaction.
 
-ghost use Rattle.std.specs.Prelude.{◌≡◌, ◌≢◌, false, IfOk, IfErr};
+ghost use Rattle.std.specs.Prelude.{◌≡◌, ◌≢◌, false, IfOk, IfErr, IsTrue};
 ghost use Rattle.sqlite.specs.Held.{state};
 ghost use Rattle.sqlite.specs.State.{HasCleanDisk, Survives};
 ghost use Rattle.shop_types.specs.Replies.{seen_reply};
 ghost use Rattle.branch_reports.specs.Told.{IsDecision};
 ghost use Rattle.chain_requests.specs.Steps.{IsHeldBy, IsKnownFor, IsMade, IsUndone, LeavesAfter, LeavesEitherOf, asker, asked_of};
+ghost use Rattle.chain_requests.specs.Wells.{FailsAtRest, RestsOnBooks, is_row_look};
 
 use crate::answering::answer_inside;
 use crate::asked::Asked;
@@ -36,6 +37,8 @@ pub fn step<S: Alter>(
         → IfErr result (λ fault. (fault ≢ StoreFault.Failed → IsUndone (state S.Store conn.old)
         (state S.Store conn.new)) × LeavesEitherOf limits (asker asked.now) (asked_of asked.now) (IsHeldBy
         (IsKnownFor asked.now) films.old) (state S.Store conn.old) (state S.Store conn.new)) }
+    ensures fails { IsTrue (is_row_look (asked_of asked.now))
+        → FailsAtRest S.Store conn.old conn.new result RestsOnBooks }
     ensures crash { Survives (state S.Store conn.old) (state S.Store conn.new)
         (LeavesAfter limits (asker asked.now) (asked_of asked.now) (IsHeldBy (IsKnownFor asked.now) films.old)
         (state S.Store conn.old)) }

@@ -29,6 +29,8 @@ impl Stored for HeaderRow {
 
     ghost fits = { λ _. ⊤ };
 
+    ghost refuses = { λ _. ⊤ };
+
     fn read(row: &Row) -> Result<HeaderRow, StoreFault> {
         let (source, (addressee, (number, (place, (received, ()))))) = read_cells::<HeaderCells>(
             row,

@@ -33,6 +33,8 @@ impl Stored for LineRow {
 
     ghost fits = { λ _. ⊤ };
 
+    ghost refuses = { λ _. ⊤ };
+
     fn read(row: &Row) -> Result<LineRow, StoreFault> {
         let (source, (addressee, (number, (line, (film, (branch, (copy, (state, ())))))))) =
             read_cells::<LineCells>(row)?;

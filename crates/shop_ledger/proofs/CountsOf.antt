@@ -3,11 +3,12 @@ use Rattle.shop_schema.proofs.Common.{◌≡◌, ◌+◌, ◌<◌, ◌≤◌, �
 use Rattle.shop_schema.proofs.Common.{refl, sym, ap, subst, ◌∙◌, arith, IsPermutation, slice_get, AllByRecursion, all_map, all_weaker, cases_Bool, inl, inr}
 use Rattle.shop_schema.proofs.Common.{nat_tests, column, all-slice_get, PicksOne, number_value, same_number, numbered, Branch, Books, same_if, IsHeld, Count}
 use Rattle.shop_schema.proofs.Common.{Counts, is_count, count_in, branch_counts, office_count, counts_of, State, StandsWith, AreTermed, Holds, HoldsWith}
-use Rattle.shop_schema.proofs.Common.{all-permutation, Customers, CopyRows, Rentals, Payments}
+use Rattle.shop_schema.proofs.Common.{all-permutation, Customers, CopyRows, Rentals, Payments, at, lacks, is_empty, length_map, true≢false}
 use Rattle.std.specs.Prelude.{flat_map}
 use Rattle.sqlite_value.specs.Order as sql
 use Rattle.shop_schema.proofs.Stands.{with_own, for_own}
 use Rattle.shop_schema.proofs.Lasts.{numbered_once}
+use Rattle.shop_schema.proofs.Numbers.{numbered_at}
 use Rattle.shop_ledger.specs.declared.counts.CountKind.{CountKind}
 use Rattle.shop_ledger.specs.declared.counts.CountKind.TheVariants as kind
 use Rattle.shop_ledger.specs.Counted.{kind_number, CountsOnce}
@@ -56,14 +57,25 @@ kept_all P p (x ∷ xs) all = elim (cases_Bool (p x)) [
   | inr isnt ↦ rw isnt (kept_all P p xs all.1)
 ]
 
--- each count of the kind is the number that the books give, so `f` of the count is `g` of that number
+-- each count of the kind is the number that the books give
+pub all_lasts : (b k : ℕ) (books : Books) → 1 ≤ b
+    → AllByRecursion (λ (c : Count). c.last ≡ count_in k b books) (filter (is_count b k) (counts_of books).counters)
+all_lasts b k books low = kept_all _ (is_count b k) (counts_of books).counters (counts_right b k books low)
+
+-- so `f` of the count is `g` of that number
 all_told : {Y : Type 0} (f : Count → Y) (g : ℕ → Y) → ((c : Count) → f c ≡ g c.last) → (b k : ℕ) (books : Books) → 1 ≤ b
     → AllByRecursion (λ y. y ≡ g (count_in k b books)) (map f (filter (is_count b k) (counts_of books).counters))
 all_told f g same b k books low =
     let counters = (counts_of books).counters in
     all_map _ f (filter (is_count b k) counters)
     (all_weaker (λ (c : Count). c.last ≡ count_in k b books) _ (λ c is. same c ∙ ap g is)
-    (filter (is_count b k) counters) (kept_all _ (is_count b k) counters (counts_right b k books low)))
+    (filter (is_count b k) counters) (all_lasts b k books low))
+
+-- each row that is shown of the counts has the number that the books give
+pub all_counts : (b k : ℕ) (books : Books) (rows : List sql.Row) → 1 ≤ b
+    → IsPermutation (map last_value (filter (is_count b k) (counts_of books).counters)) rows
+    → AllByRecursion (λ vs. vs ≡ number_value (count_in k b books) ∷ []) rows
+all_counts b k books rows low same = all-permutation _ _ rows same (all_told last_value (λ last. number_value last ∷ []) (λ c. refl) b k books low)
 
 -- the first row has the number that the books give
 pub told_count : (b k : ℕ) (books : Books) (rows : List sql.Row) (row : sql.Row) (n : ℕ) → 1 ≤ b
@@ -71,8 +83,7 @@ pub told_count : (b k : ℕ) (books : Books) (rows : List sql.Row) (row : sql.Ro
     → slice_get rows 0 ≡ Some row → column row 0 ≡ number_value n → n ≡ count_in k b books
 told_count b k books rows row n low same some is =
     let P : sql.Row → Type 0 = λ vs. vs ≡ number_value (count_in k b books) ∷ [] in
-    let all = all-permutation P _ rows same (all_told last_value (λ last. number_value last ∷ []) (λ c. refl) b k books low) in
-    let one : row ≡ number_value (count_in k b books) ∷ [] = all-slice_get P rows 0 row some all in
+    let one : row ≡ number_value (count_in k b books) ∷ [] = all-slice_get P rows 0 row some (all_counts b k books rows low same) in
     same_number _ _ (sym is ∙ ap (λ r. column r 0) one)
 
 -- the count raised by `m` is the number that the books give, plus `m`
@@ -113,6 +124,21 @@ without_office : (b k : ℕ) (books : Books) (rest : List Count) → 1 ≤ b →
 without_office b k books rest low =
     ap (λ s. cond (s && 4 == k) (office_count books ∷ filter (is_count b k) rest) (filter (is_count b k) rest)) (not_office b low)
 
+-- a branch that is there has its count of each kind
+pub there_counted : (kind : CountKind) (b : ℕ) (books : Books) → 1 ≤ b → lacks books.catalogue.branches b ≡ false
+    → 1 ≤ length (filter (is_count b (kind_number kind)) (counts_of books).counters)
+there_counted kind b books low there =
+    let its = numbered books.catalogue.branches in
+    let found = at b books.catalogue.branches in
+    subst (λ (n : ℕ). 1 ≤ n)
+    (sym (ap length (without_office b (kind_number kind) books (flat_map (branch_counts books) its) low) ∙ as_many kind b books its
+    ∙ ap length (numbered_at b books.catalogue.branches) ∙ length_map (λ (branch : Branch). (b, branch)) found))
+    (some_there found there)
+  where
+    some_there : (found : List Branch) → is_empty found ≡ false → 1 ≤ length found
+    some_there [] none = absurd (true≢false none)
+    some_there (branch ∷ found) some = omega arith
+
 once_counted : (kind : CountKind) (b : ℕ) (books : Books) → 1 ≤ b → PicksOne (is_count b (kind_number kind)) (counts_of books).counters
 once_counted kind b books low =
     let k = kind_number kind in
@@ -133,12 +159,15 @@ small_once this b books low office small = record { once = once_counted this b b
     branches_small (it ∷ its) =
         (small kind.Customers it.0, (small kind.Copies it.0, (small kind.Rentals it.0, (small kind.Payments it.0, (small kind.Kept it.0, branches_small its)))))
 
+pub held_few : (books : Books) → IsHeld books → (kind : CountKind) (a : ℕ) → count_in (kind_number kind) a books ≤ 1_000_000
+held_few books held kind.Customers a = held.most_rows Customers a
+held_few books held kind.Copies a = held.most_rows CopyRows a
+held_few books held kind.Rentals a = held.most_rows Rentals a
+held_few books held kind.Payments a = held.most_rows Payments a
+held_few books held kind.Kept a = held.most_kept a
+
 held_small : (books : Books) → IsHeld books → (kind : CountKind) (a : ℕ) → count_in (kind_number kind) a books < 2 ^ 32
-held_small books held kind.Customers a = let few = held.most_rows Customers a in omega (arith, few)
-held_small books held kind.Copies a = let few = held.most_rows CopyRows a in omega (arith, few)
-held_small books held kind.Rentals a = let few = held.most_rows Rentals a in omega (arith, few)
-held_small books held kind.Payments a = let few = held.most_rows Payments a in omega (arith, few)
-held_small books held kind.Kept a = let few = held.most_kept a in omega (arith, few)
+held_small books held kind a = let few = held_few books held kind a in omega (arith, few)
 
 -- so it is of the books' own counts
 pub held_once : (books : Books) → IsHeld books → (kind : CountKind) (b : ℕ) → 1 ≤ b → CountsOnce b kind (counts_of books)

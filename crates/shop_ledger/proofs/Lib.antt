@@ -14,3 +14,7 @@ pub mod Agreeing
 pub mod OfficeCounts
 pub mod StandingTexts
 pub mod CountPuts
+pub mod CountRows
+pub mod LeftFaults
+pub mod LedgerFaults
+pub mod Failing

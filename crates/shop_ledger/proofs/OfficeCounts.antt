@@ -45,7 +45,7 @@ none_raised (c ∷ cs) all = λ i. cond (apart 4 c all.0 i) (raised 1 c) c ∷ n
 
 -- ---- the count that is head office's
 
-own_counts : (books : Books) → filter (is_count 0 4) (counts_of books).counters ≡ office_count books ∷ []
+pub own_counts : (books : Books) → filter (is_count 0 4) (counts_of books).counters ≡ office_count books ∷ []
 own_counts books =
     ap (λ l. office_count books ∷ l)
     (none_picked (flat_map (branch_counts books) (numbered books.catalogue.branches)) (callers books 1 (omega arith) books.catalogue.branches))

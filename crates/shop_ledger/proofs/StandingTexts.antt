@@ -30,7 +30,7 @@ with_keys = left counter_tree (are_equal (col 2 1) (col 1 1) ∷ are_equal (col 
 abbrev standing_shows : List Term
 standing_shows = col 1 8 ∷ col 2 3 ∷ []
 
-abbrev standing_query : Query
+abbrev pub standing_query : Query
 standing_query = joined_query (inner 18 with_keys) of_one standing_shows []
 
 pub standing_means : Selects shop_schema SELECT_STANDING.now standing_query
@@ -40,17 +40,17 @@ standing_means = record { names = _; is = refl; plain = (refl, refl); unlisted =
 -- ---- one branch
 
 -- the counts of kept commands of the caller
-abbrev keys_of : Books → ℕ → List Count
+abbrev pub keys_of : Books → ℕ → List Count
 keys_of books b = filter (is_count b 4) (counts_of books).counters
 
 keys_once : (books : Books) → IsHeld books → (b : ℕ) → PicksOne (is_count b 4) (counts_of books).counters
 keys_once books held zero = (office_once books held).once
 keys_once books held (suc b) = (held_once books held kind.Kept (suc b) (omega arith)).once
 
-abbrev keys_value : List Count → Value
+abbrev pub keys_value : List Count → Value
 keys_value counts = or_null (λ (c : Count). number_value c.last) (head counts)
 
-abbrev standing_row : Books → ℕ × Branch → sql.Row
+abbrev pub standing_row : Books → ℕ × Branch → sql.Row
 standing_row books x = or_null moment_value (head (owned_by x.0 books.lasts)) ∷ keys_value (keys_of books x.0) ∷ []
 
 module _ (b : ℕ) (books : Books) (db : Trees) (s : StandsFor db books) (held : IsHeld books) (x : ℕ × Branch) where
@@ -88,10 +88,10 @@ module _ (b : ℕ) (books : Books) (db : Trees) (s : StandsFor db books) (held :
 abbrev standing_output : Books → ℕ × Branch → Output
 standing_output books x = ([], standing_row books x)
 
-abbrev rows_of : ℕ → Books → List Branch → List sql.Row
+abbrev pub rows_of : ℕ → Books → List Branch → List sql.Row
 rows_of b books found = map (standing_row books) (map (λ branch. (b, branch)) found)
 
-shows_standing : (old new : State) (b : ℕ) (rows : List sql.Row)
+pub shows_standing : (old new : State) (b : ℕ) (rows : List sql.Row)
     → Shown SELECT_STANDING.now (number_value b ∷ []) old new rows → (books : Books) → Holds old books → IsHeld books
     → rows ≡ rows_of b books (at b books.catalogue.branches)
 shows_standing old new b rows h books holds held =
@@ -108,7 +108,7 @@ shows_standing old new b rows h books holds held =
     ∙ ap (map (standing_row books)) (numbered_at b books.catalogue.branches)
 
 -- the count that is shown is the books'
-keys_are : (b n : ℕ) (books : Books) → 1 ≤ b → (l : List Count) → keys_of books b ≡ l → keys_value l ≡ number_value n → n ≡ count_in 4 b books
+pub keys_are : (b n : ℕ) (books : Books) → 1 ≤ b → (l : List Count) → keys_of books b ≡ l → keys_value l ≡ number_value n → n ≡ count_in 4 b books
 keys_are b n books low [] e is = cc
 keys_are b n books low (c ∷ more) e is =
     let shown : List Count → List sql.Row = map (λ c. number_value c.last ∷ []) in

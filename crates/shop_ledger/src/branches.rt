@@ -1,11 +1,15 @@
-ghost use Rattle.std.specs.Prelude.{◌≡◌, ◌≤◌, ⊤, IfOk, IfSome};
+ghost use Rattle.std.specs.Prelude.{◌≡◌, ◌≤◌, ⊤, IfOk, IfErr, IfSome};
 ghost use Rattle.sqlite.specs.Values.{or_null};
 ghost use Rattle.sqlite_value.specs.Order.{column};
 ghost use Rattle.sql_rows.specs.Calls.{DoesInside};
+ghost use Rattle.sql_rows.specs.Causes.{FailsByFaults};
 ghost use Rattle.sql_rows.specs.Rows.{number_value};
+ghost use Rattle.sql_rows.specs.declared.fault.StoreFault.TheVariants.{Failed};
 ghost use Rattle.shop_model.specs.Calendar.{IsMoment};
 ghost use Rattle.shop_model.specs.Books.{set_last};
+ghost use Rattle.shop_ledger.specs.Asked.{ShowsStanding};
 ghost use Rattle.shop_ledger.specs.Calls.{Finds, Stores};
+ghost use Rattle.shop_schema.specs.Asked.{HoldsBooks};
 ghost use Rattle.shop_schema.specs.RowValues.{moment_value};
 ghost use Rattle.shop_ledger.specs.Standings.{IsStanding};
 
@@ -30,10 +34,20 @@ fn standing_in(row: &Row) -> Result<Standing, StoreFault>
     ensures moment { IfOk result (λ it. IfSome it.last IsMoment) }
     ensures keys { IfOk result (λ it. column row.now 1 ≡ number_value it.keys) }
     ensures bound { IfOk result (λ it. it.keys ≤ 1_000_000) }
+    ensures failed { IfErr result (λ e. e ≡ Failed → ¬ ShowsStanding row.now) }
 {
-    let last = moment_or_null_at(row, 0)?;
-    let keys = fitting(Some(number_at(row, 1)?))?;
-    Ok(Standing { last, keys })
+    let last = match moment_or_null_at(row, 0) {
+        Ok(last) => last,
+        Err(fault) => return Err(fault),
+    };
+    let shown = match number_at(row, 1) {
+        Ok(shown) => shown,
+        Err(fault) => return Err(fault),
+    };
+    match fitting(Some(shown)) {
+        Ok(keys) => Ok(Standing { last, keys }),
+        Err(fault) => Err(fault),
+    }
 }
 
 const SELECT_STANDING: &str =
@@ -48,8 +62,12 @@ pub fn standing_at<S: Alter>(
     ensures does { DoesInside S.Store tx.old.conn tx.new.conn result
         (λ standing. Finds (λ books. IsStanding branch books standing)) }
     ensures bound { IfOk result (λ standing. IfSome standing (λ it. it.keys ≤ 1_000_000)) }
+    ensures fails { FailsByFaults S.Store tx.old.conn tx.new.conn result HoldsBooks }
 {
-    let rows = query(tx, SELECT_STANDING, &[branch.get().to_sql()])?;
+    let rows = match query(tx, SELECT_STANDING, &[branch.get().to_sql()]) {
+        Ok(rows) => rows,
+        Err(fault) => return Err(fault),
+    };
     first_of(rows.as_slice(), standing_in)
 }
 

@@ -1,12 +1,17 @@
-ghost use Rattle.std.specs.Prelude.{◌≡◌, ◌≤◌, ◌+◌, ⊤, [], ◌∷◌, List, Some, IfOk, is_none, map, filter, option_to_list, slice_get};
-ghost use Rattle.sqlite.specs.State.{Shown};
+ghost use Rattle.std.specs.Prelude.{◌≡◌, ◌≤◌, ◌+◌, ⊤, ℕ, [], ◌∷◌, List, Some, IfOk, IfErr, is_none, map, filter, option_to_list, slice_get};
+ghost use Rattle.sqlite.specs.Held.{state};
+ghost use Rattle.sqlite.specs.State.{HasCleanDisk, Shown};
 ghost use Rattle.sqlite.specs.Values.{bound};
 ghost use Rattle.sqlite_value.specs.Order.{Row as SqlRow, column};
 ghost use Rattle.sql_rows.specs.Calls.{DoesInside};
+ghost use Rattle.sql_rows.specs.Causes.{FailsByFaults};
 ghost use Rattle.sql_rows.specs.Rows.{number_value};
+ghost use Rattle.sql_rows.specs.declared.fault.StoreFault.TheVariants.{Failed};
 ghost use Rattle.shop_model.specs.Rows.{numbered, of};
 ghost use Rattle.shop_model.specs.Stock.{keeps_out};
+ghost use Rattle.shop_ledger.specs.Asked.{HoldsCounter, ShowsCount};
 ghost use Rattle.shop_ledger.specs.Calls.{Finds};
+ghost use Rattle.shop_schema.specs.Asked.{FailsToCount, HoldsBooks, ShowsNumber};
 ghost use Rattle.shop_schema.specs.Counts.{is_count, raise, put_out, drop_out, add_count, with_branch};
 ghost use Rattle.shop_schema.specs.Shop.{Tallies};
 ghost use Rattle.shop_ledger.specs.Counted.{kind_number, caller_of, kind_of, counted, IsCount, CountsOnce, IsOutBy};
@@ -15,7 +20,7 @@ use shop_schema::{query_first, row_number_at, row_numbers_in};
 use shop_types::{BranchNo, CopyNo, RentalNo};
 use sql_rows::{StoreFault, execute, number_at, query};
 use sqlite::types::{ToSql, ValueRef};
-use sqlite::{Alter, Transaction};
+use sqlite::{Alter, Row, Transaction};
 use std::alloc::Global;
 
 /// The kinds of rows that are counted for each branch.
@@ -78,12 +83,21 @@ impl Count {
 /// Returns the count that was found. Fails with `Failed` if there is none, or if it is more than a million: no sound
 /// table counts more.
 pub(crate) fn fitting(found: Option<u32>) -> Result<u32, StoreFault>
-    ensures { IfOk result (λ n. (found ≡ Some n) × (n ≤ 1_000_000)) }
+    ensures ok { IfOk result (λ n. (found ≡ Some n) × (n ≤ 1_000_000)) }
+    ensures failed { IfErr result (λ _. (n : ℕ) → found ≡ Some n → ¬ (n ≤ 1_000_000)) }
 {
     match found {
         Some(count) if count <= 1_000_000 => Ok(count),
         _ => Err(StoreFault::Failed),
     }
+}
+
+/// Returns the count in the row.
+fn count_in(row: &Row) -> Result<u32, StoreFault>
+    ensures ok { IfOk result (λ n. column row.now 0 ≡ number_value n) }
+    ensures failed { IfErr result (λ e. e ≡ Failed → ¬ ShowsCount row.now) }
+{
+    number_at(row, 0)
 }
 
 /// Returns the count in the first row that a query shows. Fails with `Failed` if there is none, or if it is more than
@@ -97,8 +111,14 @@ fn count_shown<S: Alter>(
         (λ n old new. (rows : List SqlRow) × Shown text.now (bound params.now) old new rows
         × (row : SqlRow) × (Some row ≡ slice_get rows 0) × (column row 0 ≡ number_value n)) }
     ensures bound { IfOk result (λ n. n ≤ 1_000_000) }
+    ensures told { HasCleanDisk (state S.Store tx.new.conn.now)
+        → IfErr result (FailsToCount text.now (bound params.now) (state S.Store tx.old.conn.now)
+        (state S.Store tx.new.conn.now)) }
 {
-    fitting(query_first(tx, text, params, |row| number_at(row, 0))?)
+    match query_first(tx, text, params, count_in) {
+        Ok(found) => fitting(found),
+        Err(fault) => Err(fault),
+    }
 }
 
 const SELECT_COUNT: &str = "SELECT last FROM counter WHERE caller = ?1 AND kind = ?2";
@@ -108,6 +128,7 @@ pub fn count_of<S: Alter>(tx: &mut Transaction<'_, S>, count: Count) -> Result<u
     ensures does { DoesInside S.Store tx.old.conn tx.new.conn result
         (λ n. Finds (λ books. n ≡ counted count books)) }
     ensures bound { IfOk result (λ n. n ≤ 1_000_000) }
+    ensures fails { FailsByFaults S.Store tx.old.conn tx.new.conn result (HoldsCounter count) }
 {
     count_shown(
         tx,
@@ -144,6 +165,14 @@ pub fn take_numbers<S: Alter>(
     )
 }
 
+/// Returns the number of the rental in the row.
+fn rental_in(row: &Row) -> Result<RentalNo, StoreFault>
+    ensures ok { IfOk result (λ n. column row.now 0 ≡ number_value n) }
+    ensures failed { IfErr result (λ e. e ≡ Failed → ¬ ShowsNumber row.now) }
+{
+    row_number_at(row, 0)
+}
+
 const SELECT_OUT: &str = "SELECT rental FROM out_copy WHERE branch = ?1 AND copy = ?2";
 
 /// Returns the copy's open rental, if the copy is out. No copy has two. One row is read, however many rentals there
@@ -153,15 +182,16 @@ pub fn out_at<S: Alter>(
     branch: BranchNo,
     copy: CopyNo,
 ) -> Result<Option<RentalNo>, StoreFault>
-    ensures { DoesInside S.Store tx.old.conn tx.new.conn result
+    ensures does { DoesInside S.Store tx.old.conn tx.new.conn result
         (λ out. Finds (λ books. option_to_list out
         ≡ map (λ it. it.0) (filter (λ it. keeps_out copy it.1) (numbered (of branch books.rentals))))) }
+    ensures fails { FailsByFaults S.Store tx.old.conn tx.new.conn result HoldsBooks }
 {
     query_first(
         tx,
         SELECT_OUT,
         &[branch.get().to_sql(), copy.get().to_sql()],
-        |row| row_number_at(row, 0),
+        rental_in,
     )
 }
 

@@ -1,7 +1,7 @@
 //! Columns read as the shop's values, and the first row of an answer. Where a column holds no such value, the fault
 //! is `Failed`.
 
-ghost use Rattle.std.specs.Prelude.{◌≡◌, ◌≢◌, ◌<◌, ℕ, List, Ok, length, map, IfOk, IfErr, IfSome};
+ghost use Rattle.std.specs.Prelude.{◌≡◌, ◌≢◌, ◌<◌, ℕ, Option, List, Ok, Err, length, map, IfOk, IfErr, IfSome};
 ghost use Rattle.std.specs.Fn.{FnReturnsAt};
 ghost use Rattle.sqlite.specs.declared.types.Value.TheVariants.{Text as SqlText};
 ghost use Rattle.sqlite.specs.Held.{state};
@@ -9,6 +9,7 @@ ghost use Rattle.sqlite.specs.State.{HasCleanDisk, Shown};
 ghost use Rattle.sqlite.specs.Values.{bound, or_null};
 ghost use Rattle.sqlite_value.specs.Order.{Row as SqlRow, column};
 ghost use Rattle.sql_rows.specs.Calls.{StaysInside};
+ghost use Rattle.sql_rows.specs.Causes.{FailsFirst, FailsToRead};
 ghost use Rattle.sql_rows.specs.Rows.{number_value};
 ghost use Rattle.sql_rows.specs.declared.fault.StoreFault.TheVariants.{Failed};
 ghost use Rattle.shop_model.specs.Calendar.{Moment as Civil, IsMoment};
@@ -71,9 +72,13 @@ pub fn moment_at(row: &Row, at: usize) -> Result<Moment, StoreFault>
 pub fn moment_or_null_at(row: &Row, at: usize) -> Result<Option<Moment>, StoreFault>
     ensures ok { IfOk result (λ o. column row.now at ≡ or_null moment_value o) }
     ensures value { IfOk result (λ o. IfSome o IsMoment) }
+    ensures failed { IfErr result (λ e. e ≡ Failed → (o : Option Civil) → IfSome o IsMoment → at < length row.now
+        → column row.now at ≢ or_null moment_value o) }
 {
-    let Some(words) = words_or_null_at(row, at)? else {
-        return Ok(None);
+    let words = match words_or_null_at(row, at) {
+        Ok(Some(words)) => words,
+        Ok(None) => return Ok(None),
+        Err(fault) => return Err(fault),
     };
     match Moment::read(words.as_str()) {
         Some(moment) => Ok(Some(moment)),
@@ -88,9 +93,13 @@ pub fn row_number_or_null_at<const KIND: u8>(
 ) -> Result<Option<RowNumber<KIND>>, StoreFault>
     ensures ok { IfOk result (λ o. column row.now at ≡ or_null number_value o) }
     ensures value { IfOk result (λ o. IfSome o IsNumber) }
+    ensures failed { IfErr result (λ e. e ≡ Failed → (o : Option ℕ) → IfSome o IsNumber → at < length row.now
+        → column row.now at ≢ or_null number_value o) }
 {
-    let Some(number) = number_or_null_at(row, at)? else {
-        return Ok(None);
+    let number = match number_or_null_at(row, at) {
+        Ok(Some(number)) => number,
+        Ok(None) => return Ok(None),
+        Err(fault) => return Err(fault),
     };
     match RowNumber::new(number) {
         Some(named) => Ok(Some(named)),
@@ -121,10 +130,14 @@ pub fn first_of<T, F: Fn(&Row) -> Result<T, StoreFault>>(
 ) -> Result<Option<T>, StoreFault>
     requires { F.IsAlwaysCallable read }
     ensures found { IfOk result (TellsFirst (λ row it. FnReturnsAt F.Fn read row (Ok it)) rows.now) }
+    ensures failed { IfErr result (FailsFirst (λ row e. FnReturnsAt F.Fn read row (Err e)) rows.now) }
 {
     match rows.first() {
         None => Ok(None),
-        Some(row) => Ok(Some(read(row)?)),
+        Some(row) => match read(row) {
+            Ok(it) => Ok(Some(it)),
+            Err(fault) => Err(fault),
+        },
     }
 }
 
@@ -141,7 +154,13 @@ pub fn query_first<S: Alter, T, F: Fn(&Row) -> Result<T, StoreFault>>(
     ensures shown { HasCleanDisk (state S.Store tx.new.conn.now) → IfOk result (λ o. (rows : List SqlRow)
         × Shown text.now (bound params.now) (state S.Store tx.old.conn.now) (state S.Store tx.new.conn.now) rows
         × TellsFirst (λ row it. FnReturnsAt F.Fn read row (Ok it)) rows o) }
+    ensures told { HasCleanDisk (state S.Store tx.new.conn.now)
+        → IfErr result (FailsToRead (λ row e. FnReturnsAt F.Fn read row (Err e)) text.now (bound params.now)
+        (state S.Store tx.old.conn.now) (state S.Store tx.new.conn.now)) }
 {
-    let rows = query(tx, text, params)?;
+    let rows = match query(tx, text, params) {
+        Ok(rows) => rows,
+        Err(fault) => return Err(fault),
+    };
     first_of(rows.as_slice(), read)
 }

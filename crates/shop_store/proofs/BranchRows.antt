@@ -80,26 +80,34 @@ module _ {A : Type 0} (t : BranchRows A) where
   abbrev pub one_query : Query
   one_query = plain_query tree of_two (cols 1 1 wide) []
 
+  -- whether only the row of the number is shown; `refl` if the table is known
+  abbrev pub ShowsOne : Type 0
+  ShowsOne =
+      (b n : ℕ) (r : sql.Row)
+      → cond (list_all (holds ((number_value b ∷ number_value n ∷ []) ∷ r ∷ [])) of_two)
+      (output one_query ((number_value b ∷ number_value n ∷ []) ∷ r ∷ []) ∷ []) []
+      ≡ cond (has_key b n (columns_of wide r)) (([], columns_of wide r) ∷ []) []
+
+  pub one_shown : (text : List ℕ) → Selects shop_schema text one_query → ShowsOne → (old new : State) (b n : ℕ) (rows : List sql.Row)
+      → Shown text (number_value b ∷ number_value n ∷ []) old new rows → (books : Books) → Holds old books → IsHeld books
+      → rows ≡ map columns (filter (is_row b n) (items books))
+  one_shown text means only old new b n rows h books holds held =
+      selects_one shop_schema text tree wide of_two (cols 1 1 wide) [] means
+      (number_value b ∷ number_value n ∷ []) old new rows holds.schema_is h columns (items books)
+      (stood t.rows (counts_of books) books old.now.trees (with_own old.now.trees books holds.stands))
+      (own_rows old.now.trees tree) (has_key b n) (is_row b n) (key_tested b n) (only b n) (picks_row b (items books) (t.counted books held b) n)
+
   module _ {R : Type 0} (seen : R → Row A) (text : List ℕ) where
     abbrev pub ReadsOne : Type 1
     ReadsOne = (old new : State) (b n : ℕ) (rows : List sql.Row) (o : Option R) → Shown text (number_value b ∷ number_value n ∷ []) old new rows
         → map (λ x. columns (seen x)) (option_to_list o) ≡ take 1 rows → IfSome o (λ x. IsRow t.Fits (seen x))
         → Reads old new (λ books. option_to_list (option_map (λ x. (seen x).it) o) ≡ at n (of b (items books)))
 
-    -- `only` is `refl`
-    pub reads_one : Selects shop_schema text one_query
-        → ((b n : ℕ) (r : sql.Row)
-        → cond (list_all (holds ((number_value b ∷ number_value n ∷ []) ∷ r ∷ [])) of_two)
-        (output one_query ((number_value b ∷ number_value n ∷ []) ∷ r ∷ []) ∷ []) []
-        ≡ cond (has_key b n (columns_of wide r)) (([], columns_of wide r) ∷ []) []) → ReadsOne
+    pub reads_one : Selects shop_schema text one_query → ShowsOne → ReadsOne
     reads_one means only old new b n rows o h read kind = λ books holds held.
         let counted = t.counted books held b in
         let few : PicksOne (is_row b n) (items books) = picks_row b (items books) counted n in
-        let found : rows ≡ map columns (filter (is_row b n) (items books)) =
-        selects_one shop_schema text tree wide of_two (cols 1 1 wide) [] means
-        (number_value b ∷ number_value n ∷ []) old new rows holds.schema_is h columns (items books)
-        (stood t.rows (counts_of books) books old.now.trees (with_own old.now.trees books holds.stands))
-        (own_rows old.now.trees tree) (has_key b n) (is_row b n) (key_tested b n) (only b n) few in
+        let found : rows ≡ map columns (filter (is_row b n) (items books)) = one_shown text means only old new b n rows h books holds held in
         let short : length rows ≤ 1 = subst (λ (k : ℕ). k ≤ 1) (sym (ap length found ∙ length-map columns (filter (is_row b n) (items books)))) few in
         let one : map seen (option_to_list o) ≡ filter (is_row b n) (items books) =
         unmapped_kind columns (IsRow t.Fits) t.one _ _ (some_seen (IsRow t.Fits) seen o kind)
@@ -116,29 +124,36 @@ module _ {A : Type 0} (t : BranchRows A) where
     abbrev pub sorted_query : Query
     sorted_query = plain_query tree tests (cols 1 1 wide) ((col 1 2, ascending Binary) ∷ [])
 
-    module _ {R : Type 0} (seen : R → Row A) (text : List ℕ) (means : Selects shop_schema text sorted_query)
-        (params : sql.Row) (test : sql.Row → Bool) (p : Row A → Bool) where
-      pub reads_sorted : ((row : Row A) → test (columns row) ≡ p row)
-          → ((r : sql.Row)
-          → cond (list_all (holds (params ∷ r ∷ [])) tests) (output sorted_query (params ∷ r ∷ []) ∷ []) []
-          ≡ cond (test (columns_of wide r)) ((column (columns_of wide r) 1 ∷ [], columns_of wide r) ∷ []) [])
-          → ((books : Books) → IsHeld books → Rise (filter p (items books)))
-          → (old new : State) (rows : List sql.Row) (all : List R) → Shown text params old new rows
-          → map (λ x. columns (seen x)) all ≡ rows → AllByRecursion (λ x. IsRow t.Fits (seen x)) all
-          → (books : Books) → Holds old books → IsHeld books → Holds new books × (map seen all ≡ filter p (items books))
-      reads_sorted tested only rises old new rows all h read kinds books holds held =
+    -- whether the rows that pass are shown; `refl` if the table and the tests are known
+    abbrev pub ShowsSorted : sql.Row → (sql.Row → Bool) → Type 0
+    ShowsSorted params test =
+        (r : sql.Row)
+        → cond (list_all (holds (params ∷ r ∷ [])) tests) (output sorted_query (params ∷ r ∷ []) ∷ []) []
+        ≡ cond (test (columns_of wide r)) ((column (columns_of wide r) 1 ∷ [], columns_of wide r) ∷ []) []
+
+    module _ (text : List ℕ) (means : Selects shop_schema text sorted_query) (params : sql.Row) (test : sql.Row → Bool) (p : Row A → Bool)
+        (tested : (row : Row A) → test (columns row) ≡ p row) (only : ShowsSorted params test)
+        (rises : (books : Books) → IsHeld books → Rise (filter p (items books))) where
+      pub sorted_shown : (old new : State) (rows : List sql.Row) → Shown text params old new rows → (books : Books) → Holds old books → IsHeld books
+          → rows ≡ map columns (filter p (items books))
+      sorted_shown old new rows h books holds held =
           let rise = rises books held in
           let sorted : sort_by (by (λ (row : Row A). row.number)) (filter p (items books)) ≡ filter p (items books) =
           rise_sorted (λ (row : Row A). row.number) (filter p (items books)) rise in
-          let found : rows ≡ map columns (sort_by (by (λ (row : Row A). row.number)) (filter p (items books))) =
           selects_sorted shop_schema text tree wide tests (cols 1 1 wide) 1 means params old new rows holds.schema_is h columns (items books)
           (stood t.rows (counts_of books) books old.now.trees (with_own old.now.trees books holds.stands)) (own_rows old.now.trees tree) test p tested only
-          (λ row. row.number) (λ row. (t.begins row).1) (rise_differ (λ (row : Row A). row.number) (filter p (items books)) rise) in (
-            still_holds shop_schema StandsFor text params old new means.plain rows h books holds,
-            unmapped_kind columns (IsRow t.Fits) t.one _ _ (all_map (IsRow t.Fits) seen all kinds)
-                (all-filter (IsRow t.Fits) p (items books) (t.valued books held))
-                (map-map columns seen all ∙ read ∙ found ∙ ap (map columns) sorted),
-          )
+          (λ row. row.number) (λ row. (t.begins row).1) (rise_differ (λ (row : Row A). row.number) (filter p (items books)) rise)
+          ∙ ap (map columns) sorted
+
+      pub reads_sorted : {R : Type 0} (seen : R → Row A) (old new : State) (rows : List sql.Row) (all : List R) → Shown text params old new rows
+          → map (λ x. columns (seen x)) all ≡ rows → AllByRecursion (λ x. IsRow t.Fits (seen x)) all
+          → (books : Books) → Holds old books → IsHeld books → Holds new books × (map seen all ≡ filter p (items books))
+      reads_sorted seen old new rows all h read kinds books holds held = (
+        still_holds shop_schema StandsFor text params old new means.plain rows h books holds,
+        unmapped_kind columns (IsRow t.Fits) t.one _ _ (all_map (IsRow t.Fits) seen all kinds)
+            (all-filter (IsRow t.Fits) p (items books) (t.valued books held))
+            (map-map columns seen all ∙ read ∙ sorted_shown old new rows h books holds held),
+      )
 
   module _ {R : Type 0} (seen : R → Row A) (text : List ℕ) where
     -- the statement reads a branch's items that pass a test
@@ -151,14 +166,11 @@ module _ {A : Type 0} (t : BranchRows A) where
     -- `tested` says that the filter on a row's columns is the test; `only` is `refl`
     pub reads_which : (tests : List Term) → Selects shop_schema text (sorted_query tests)
         → (params : sql.Row) (b : ℕ) (test : sql.Row → Bool) (which : A → Bool) → ((row : Row A) → test (columns row) ≡ of_which which b row)
-        → ((r : sql.Row)
-        → cond (list_all (holds (params ∷ r ∷ [])) tests) (output (sorted_query tests) (params ∷ r ∷ []) ∷ []) []
-        ≡ cond (test (columns_of wide r)) ((column (columns_of wide r) 1 ∷ [], columns_of wide r) ∷ []) [])
-        → ReadsWhich params b which
+        → ShowsSorted tests params test → ReadsWhich params b which
     reads_which tests means params b test which tested only old new rows all h read kinds = λ books holds held.
         let found =
-        reads_sorted tests seen text means params test (of_which which b) tested only
-        (λ books held. which_rise which b (items books) (t.counted books held b)) old new rows all h read kinds books holds held in (
+        reads_sorted tests text means params test (of_which which b) tested only
+        (λ books held. which_rise which b (items books) (t.counted books held b)) seen old new rows all h read kinds books holds held in (
           found.0,
           sym (map-map (λ (row : Row A). row.it) seen all) ∙ ap (map (λ (row : Row A). row.it)) found.1
               ∙ which_are which b (items books) (t.counted books held b),

@@ -12,3 +12,5 @@ pub mod BranchTables
 pub mod Ascending
 pub mod WithTerms
 pub mod Common
+pub mod TokenFaults
+pub mod FindFaults

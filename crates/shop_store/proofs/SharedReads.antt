@@ -90,23 +90,26 @@ number_is_some n h = cc
 
 -- ---- a column of a table's only row: `one` says that its values are one to one
 
-pub reads_only : {X V : Type 0} {Fits : sql.Row → V → Type 0} (text : List ℕ) (tree width place : ℕ)
-    → Selects shop_schema text (plain_query tree [] (col 1 (suc place) ∷ []) [])
-    → ((r : sql.Row) → output (plain_query tree [] (col 1 (suc place) ∷ []) []) ([] ∷ r ∷ []) ∷ [] ≡ ([], column (columns_of width r) place ∷ []) ∷ [])
-    → (columns : X → sql.Row) (item : Books → X)
-    → ((books : Books) (trees : Trees) → StandsFor trees books → HasRows width (trees tree) (columns (item books) ∷ []))
-    → ((x y : X) → column (columns x) place ≡ column (columns y) place → x ≡ y) → (told : V → X)
-    → ((row : sql.Row) (v : V) → Fits row v → column row 0 ≡ column (columns (told v)) place)
-    → (old new : State) (rows : List sql.Row) (found : Option V) (v : V) → Shown text [] old new rows
-    → TellsFirst Fits rows found → found ≡ Some v → Reads old new (λ books. told v ≡ item books)
-reads_only {Fits = Fits} text tree width place means only columns item stood one told fits old new rows found v h first is books holds held =
-    let it = subst (TellsFirst Fits rows) is first in
-    let shown : rows ≡ (column (columns (item books)) place ∷ []) ∷ [] =
-    projects_one shop_schema text tree width [] (col 1 (suc place) ∷ []) means [] old new rows holds.schema_is h columns
-    (item books ∷ []) (stood books old.now.trees holds.stands) (own_rows old.now.trees tree)
-    (λ vs. true) (λ vs. column vs place ∷ []) (λ x. true) (λ x. refl) only (omega arith) in
-    let both : Some it.0 ≡ Some (column (columns (item books)) place ∷ []) = it.1 ∙ ap (λ (rs : List sql.Row). slice_get rs 0) shown in
-    let row : it.0 ≡ column (columns (item books)) place ∷ [] = cc in (
-      still_holds shop_schema StandsFor text [] old new means.plain rows h books holds,
-      one (told v) (item books) (sym (fits it.0 v it.2) ∙ ap (λ (r : sql.Row). column r 0) row),
-    )
+module _ {X : Type 0} (text : List ℕ) (tree width place : ℕ) (means : Selects shop_schema text (plain_query tree [] (col 1 (suc place) ∷ []) []))
+    (only : (r : sql.Row) → output (plain_query tree [] (col 1 (suc place) ∷ []) []) ([] ∷ r ∷ []) ∷ [] ≡ ([], column (columns_of width r) place ∷ []) ∷ [])
+    (columns : X → sql.Row) (item : Books → X)
+    (stood : (books : Books) (trees : Trees) → StandsFor trees books → HasRows width (trees tree) (columns (item books) ∷ [])) where
+  pub only_shown : (old new : State) (rows : List sql.Row) → Shown text [] old new rows → (books : Books) → Holds old books
+      → rows ≡ (column (columns (item books)) place ∷ []) ∷ []
+  only_shown old new rows h books holds =
+      projects_one shop_schema text tree width [] (col 1 (suc place) ∷ []) means [] old new rows holds.schema_is h columns
+      (item books ∷ []) (stood books old.now.trees holds.stands) (own_rows old.now.trees tree)
+      (λ vs. true) (λ vs. column vs place ∷ []) (λ x. true) (λ x. refl) only (omega arith)
+
+  pub reads_only : {V : Type 0} {Fits : sql.Row → V → Type 0} → ((x y : X) → column (columns x) place ≡ column (columns y) place → x ≡ y) → (told : V → X)
+      → ((row : sql.Row) (v : V) → Fits row v → column row 0 ≡ column (columns (told v)) place)
+      → (old new : State) (rows : List sql.Row) (found : Option V) (v : V) → Shown text [] old new rows
+      → TellsFirst Fits rows found → found ≡ Some v → Reads old new (λ books. told v ≡ item books)
+  reads_only {Fits = Fits} one told fits old new rows found v h first is books holds held =
+      let it = subst (TellsFirst Fits rows) is first in
+      let both : Some it.0 ≡ Some (column (columns (item books)) place ∷ []) =
+      it.1 ∙ ap (λ (rs : List sql.Row). slice_get rs 0) (only_shown old new rows h books holds) in
+      let row : it.0 ≡ column (columns (item books)) place ∷ [] = cc in (
+        still_holds shop_schema StandsFor text [] old new means.plain rows h books holds,
+        one (told v) (item books) (sym (fits it.0 v it.2) ∙ ap (λ (r : sql.Row). column r 0) row),
+      )

@@ -22,15 +22,19 @@ use Rattle.shop_schema.specs.Trees.{branch_tree}
 
 -- ---- head office
 
-abbrev of_token : List Term
+abbrev pub of_token : List Term
 of_token = op2 (Compare Eq Binary) (col 1 2) (col 0 0) ∷ []
+
+pub select_office_means : Selects shop_schema SELECT_OFFICE.now (plain_query 0 of_token (col 1 1 ∷ []) [])
+unfolding understood everything
+select_office_means = record { names = _; is = refl; plain = (refl, refl); unlisted = refl }
 
 pub told_office : (old new : State) (token : List ℕ) (rows : List sql.Row) → Shown SELECT_OFFICE.now (Text token ∷ []) old new rows
     → Reads old new (λ books. not (length rows == 0) ≡ bytes_eq token books.catalogue.office_token)
 unfolding understood everything
 told_office old new token rows h books holds held =
     let found =
-    reads_any SELECT_OFFICE.now 0 2 of_token (col 1 1 ∷ []) (record { names = _; is = refl; plain = (refl, refl); unlisted = refl })
+    reads_any SELECT_OFFICE.now 0 2 of_token (col 1 1 ∷ []) select_office_means
     (λ them. chain_columns) (λ them. them.catalogue.office_token ∷ []) (λ them trees s. s.chain)
     (Text token ∷ []) (λ vs. text_test 1 token vs && true) (λ vs. column vs 0 ∷ []) (bytes_eq token)
     (λ them t. one_tested _ (text_tested t token ∙ bytes_eq_turned t token)) (λ r. refl) old new rows h books holds held in

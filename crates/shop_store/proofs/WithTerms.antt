@@ -104,6 +104,11 @@ all_termed [] (t ∷ terms) p q = tt
 all_termed (rental ∷ rentals) [] p q = tt
 all_termed (rental ∷ rentals) (t ∷ terms) p q = ((p.0, q.0), all_termed rentals terms p.1 q.1)
 
+pub termed_fit : (b : ℕ) (books : Books) → IsHeld books → AllByRecursion IsTermed (termed (shop_of b books))
+termed_fit b books held =
+    all_termed (of b books.rentals) (of b books.terms) (all_of IsRental b books.rentals (held.values.rows Rentals))
+    (all_of IsTerms b books.terms (held.values.rows TermRows))
+
 -- rows that have the columns of some of the branch's rentals are these rentals
 pub termed_told : (b : ℕ) (q : Rental × Terms → Bool) (books : Books) → IsHeld books
     → (items : List TermedRental) → AllByRecursion (λ (it : TermedRental). IsTermed (seen_termed it)) items
@@ -111,7 +116,5 @@ pub termed_told : (b : ℕ) (q : Rental × Terms → Bool) (books : Books) → I
     → map seen_termed items ≡ filter q (termed (shop_of b books))
 termed_told b q books held items kinds is =
     unmapped_kind termed_columns IsTermed same_termed (map seen_termed items) (filter q (termed (shop_of b books))) (all_map IsTermed seen_termed items kinds)
-    (all-filter IsTermed q (termed (shop_of b books))
-    (all_termed (of b books.rentals) (of b books.terms) (all_of IsRental b books.rentals (held.values.rows Rentals))
-    (all_of IsTerms b books.terms (held.values.rows TermRows))))
+    (all-filter IsTermed q (termed (shop_of b books)) (termed_fit b books held))
     (map-map termed_columns seen_termed items ∙ is)

@@ -1,13 +1,17 @@
 //! The chain's own row and rule: head office's token, and the rule for balances.
 
-ghost use Rattle.std.specs.Prelude.{⊤, ◌≡◌, IfOk};
+ghost use Rattle.std.specs.Prelude.{⊤, ◌≡◌, IfErr, IfOk};
 ghost use Rattle.std.specs.Str.{bytes_eq};
 ghost use Rattle.sqlite_value.specs.Order.{column};
 ghost use Rattle.sql_rows.specs.Calls.{DoesInside};
+ghost use Rattle.sql_rows.specs.Causes.{FailsByFaults};
 ghost use Rattle.sql_rows.specs.Rows.{number_value};
+ghost use Rattle.sql_rows.specs.declared.fault.StoreFault.TheVariants.{Failed};
 ghost use Rattle.shop_types.specs.Seen.{seen_rule};
 ghost use Rattle.shop_ledger.specs.Calls.{Finds, Stores};
-ghost use Rattle.shop_schema.specs.RowValues.{rule_value};
+ghost use Rattle.shop_schema.specs.Asked.{HoldsBooks};
+ghost use Rattle.shop_schema.specs.RowValues.{rule_columns, rule_value};
+ghost use Rattle.shop_store.specs.Asked.{IsNoneOf};
 
 use crate::columns::{token_at, token_text};
 use crate::rows::shows_row;
@@ -21,8 +25,9 @@ const SELECT_OFFICE: &str = "SELECT version FROM chain WHERE office_token = ?1";
 
 /// Returns whether the token is head office's.
 pub fn is_office<S: Alter>(tx: &mut Transaction<'_, S>, token: &Token) -> Result<bool, StoreFault>
-    ensures { DoesInside S.Store tx.old.conn tx.new.conn result
+    ensures does { DoesInside S.Store tx.old.conn tx.new.conn result
         (λ is. Finds (λ books. is ≡ bytes_eq token.now books.catalogue.office_token)) }
+    ensures fails { FailsByFaults S.Store tx.old.conn tx.new.conn result HoldsBooks }
 {
     shows_row(tx, SELECT_OFFICE, &[token_text(token).to_sql()])
 }
@@ -42,9 +47,14 @@ pub fn office_token<S: Alter>(tx: &mut Transaction<'_, S>) -> Result<Token, Stor
 
 /// Reads the rule in the row.
 fn rule_in(row: &Row) -> Result<Rule, StoreFault>
-    ensures { IfOk result (λ rule. column row.now 0 ≡ rule_value (seen_rule rule)) }
+    ensures ok { IfOk result (λ rule. column row.now 0 ≡ rule_value (seen_rule rule)) }
+    ensures failed { IfErr result (λ e. e ≡ Failed → IsNoneOf (λ _. ⊤) rule_columns row.now) }
 {
-    match number_at(row, 0)? {
+    let number = match number_at(row, 0) {
+        Ok(number) => number,
+        Err(fault) => return Err(fault),
+    };
+    match number {
         0 => Ok(Rule::ByCode),
         1 => Ok(Rule::ByComment),
         _ => Err(StoreFault::Failed),
@@ -65,12 +75,14 @@ const SELECT_RULE: &str = "SELECT comment_rule FROM chain_rule";
 
 /// Returns the rule for balances.
 pub fn rule_at<S: Alter>(tx: &mut Transaction<'_, S>) -> Result<Rule, StoreFault>
-    ensures { DoesInside S.Store tx.old.conn tx.new.conn result
+    ensures does { DoesInside S.Store tx.old.conn tx.new.conn result
         (λ rule. Finds (λ books. seen_rule rule ≡ books.catalogue.rule)) }
+    ensures fails { FailsByFaults S.Store tx.old.conn tx.new.conn result HoldsBooks }
 {
-    match query_first(tx, SELECT_RULE, &[], rule_in)? {
-        None => Err(StoreFault::Failed),
-        Some(rule) => Ok(rule),
+    match query_first(tx, SELECT_RULE, &[], rule_in) {
+        Ok(Some(rule)) => Ok(rule),
+        Ok(None) => Err(StoreFault::Failed),
+        Err(fault) => Err(fault),
     }
 }
 

@@ -1,17 +1,21 @@
-ghost use Rattle.std.specs.Prelude.{◌≡◌, ◌<◌, ◌==◌, ◌&&◌, ⊤, [], ◌∷◌, ◌++◌, IfOk, IfSome, filter, map, option_map, option_to_list};
+ghost use Rattle.std.specs.Prelude.{◌≡◌, ◌<◌, ◌==◌, ◌&&◌, ⊤, [], ◌∷◌, ◌++◌, IfErr, IfOk, IfSome, filter, map, option_map, option_to_list};
 ghost use Rattle.sqlite_value.specs.Order.{column};
 ghost use Rattle.std.specs.List.{list_any};
 ghost use Rattle.std.specs.Str.{bytes_eq};
 ghost use Rattle.sqlite.specs.Values.{bound, or_null};
 ghost use Rattle.sql_rows.specs.Rows.{PicksOne, number_value};
 ghost use Rattle.sql_rows.specs.Calls.{DoesInside};
+ghost use Rattle.sql_rows.specs.Causes.{FailsByFaults};
+ghost use Rattle.sql_rows.specs.declared.fault.StoreFault.TheVariants.{Failed};
 ghost use Rattle.shop_model.specs.Rows.{at, is_of, is_row, numbered, of, owned_by, set_row};
 ghost use Rattle.shop_model.specs.Values as model;
 ghost use Rattle.shop_model.specs.Stock.{keeps_out};
 ghost use Rattle.shop_model.specs.Books.{put_state, shop_of};
 ghost use Rattle.shop_model.specs.Sound.{copy_is};
 ghost use Rattle.shop_ledger.specs.Calls.{Finds, Stores};
+ghost use Rattle.shop_schema.specs.Asked.{HoldsBooks};
 ghost use Rattle.shop_schema.specs.RowValues.{IsRow, IsCopy, state_value, copy_columns};
+ghost use Rattle.shop_store.specs.Asked.{IsNoneOf, ShowsNow};
 ghost use Rattle.shop_store.specs.Seen.{seen_copy_row, seen_copy_now};
 ghost use Rattle.shop_types.specs.Seen.{seen_state};
 
@@ -49,10 +53,14 @@ impl Stored for CopyRow {
 
     ghost fits = { λ row. IsRow IsCopy (seen_copy_row row) };
 
+    ghost refuses = { IsNoneOf (IsRow IsCopy) copy_columns };
+
     fn read(row: &Row) -> Result<CopyRow, StoreFault> {
-        let (branch, (number, (film, (state, (origin, (copy, ())))))) = read_cells::<CopyCells>(
-            row,
-        )?;
+        let cells = match read_cells::<CopyCells>(row) {
+            Ok(cells) => cells,
+            Err(fault) => return Err(fault),
+        };
+        let (branch, (number, (film, (state, (origin, (copy, ())))))) = cells;
         Ok(CopyRow {
             branch,
             number,
@@ -104,14 +112,22 @@ pub fn copy_at<S: Alter>(
 
 /// Reads the current state of the copy in the row.
 fn now_in(row: &Row) -> Result<CopyNow, StoreFault>
-    ensures { IfOk result (λ it. (column row.now 0 ≡ number_value it.film)
+    ensures ok { IfOk result (λ it. (column row.now 0 ≡ number_value it.film)
         × (column row.now 1 ≡ state_value (seen_state it.state)) × (column row.now 2 ≡ or_null number_value it.out)) }
+    ensures failed { IfErr result (λ e. e ≡ Failed → ¬ ShowsNow row.now) }
 {
-    Ok(CopyNow {
-        film: row_number_at(row, 0)?,
-        state: CopyState::read_at(row, 1)?,
-        out: row_number_or_null_at(row, 2)?,
-    })
+    let film = match row_number_at(row, 0) {
+        Ok(film) => film,
+        Err(fault) => return Err(fault),
+    };
+    let state = match CopyState::read_at(row, 1) {
+        Ok(state) => state,
+        Err(fault) => return Err(fault),
+    };
+    match row_number_or_null_at(row, 2) {
+        Ok(out) => Ok(CopyNow { film, state, out }),
+        Err(fault) => Err(fault),
+    }
 }
 
 const SELECT_NOW: &str =
@@ -124,11 +140,12 @@ pub fn copy_now_at<S: Alter>(
     branch: BranchNo,
     number: CopyNo,
 ) -> Result<Option<CopyNow>, StoreFault>
-    ensures { DoesInside S.Store tx.old.conn tx.new.conn result
+    ensures does { DoesInside S.Store tx.old.conn tx.new.conn result
         (λ found. Finds (λ books. (option_to_list (option_map seen_copy_now found) ≡ at number
         (shop_of branch books).copies)
         × IfSome found (λ it. option_to_list it.out ≡ map (λ it. it.0)
         (filter (λ it. keeps_out number it.1) (numbered (of branch books.rentals)))))) }
+    ensures fails { FailsByFaults S.Store tx.old.conn tx.new.conn result HoldsBooks }
 {
     query_first(
         tx,
@@ -149,9 +166,10 @@ pub fn copies_of_film<S: Alter>(
     branch: BranchNo,
     film: FilmNo,
 ) -> Result<Vec<CopyRow>, StoreFault>
-    ensures { DoesInside S.Store tx.old.conn tx.new.conn result
+    ensures does { DoesInside S.Store tx.old.conn tx.new.conn result
         (λ rows. Finds (λ books. map (λ row. seen_copy_row row) rows.items
         ≡ filter (λ row. is_of branch row && row.it.film == film) books.copies)) }
+    ensures fails { FailsByFaults S.Store tx.old.conn tx.new.conn result HoldsBooks }
 {
     query_all(
         alloc,

@@ -1,13 +1,19 @@
-ghost use Rattle.std.specs.Prelude.{⊤, ◌≡◌, [], ◌∷◌, ◌++◌, map, option_map, option_to_list};
+ghost use Rattle.std.specs.Prelude.{⊤, ◌≡◌, [], ◌∷◌, ◌++◌, IfErr, IfOk, map, option_map, option_to_list};
 ghost use Rattle.sqlite.specs.Values.{bound};
+ghost use Rattle.sqlite_value.specs.Order.{column};
 ghost use Rattle.sql_rows.specs.Calls.{DoesInside};
+ghost use Rattle.sql_rows.specs.Causes.{FailsByFaults};
+ghost use Rattle.sql_rows.specs.Rows.{flag_value};
+ghost use Rattle.sql_rows.specs.declared.fault.StoreFault.TheVariants.{Failed};
 ghost use Rattle.shop_model.specs.Calendar.{moment_text};
 ghost use Rattle.shop_model.specs.Rows.{at, of, set_row};
 ghost use Rattle.shop_model.specs.Books.{head};
 ghost use Rattle.shop_types.specs.Seen.{seen_customer};
 ghost use Rattle.shop_ledger.specs.Calls.{Finds, Stores};
+ghost use Rattle.shop_schema.specs.Asked.{HoldsBooks, ShowsFlag};
 ghost use Rattle.shop_schema.specs.RowValues.{IsRow, IsCustomer, customer_columns};
 ghost use Rattle.shop_schema.specs.Held.{IsHeld};
+ghost use Rattle.shop_store.specs.Asked.{IsNoneOf};
 ghost use Rattle.shop_store.specs.Seen.{seen_row};
 
 use shop_schema::tables::CustomerCells;
@@ -30,10 +36,14 @@ impl Stored for CustomerRow {
 
     ghost fits = { λ row. IsRow IsCustomer (seen_row row) };
 
+    ghost refuses = { IsNoneOf (IsRow IsCustomer) customer_columns };
+
     fn read(row: &Row) -> Result<CustomerRow, StoreFault> {
-        let (branch, (number, (first, (last, (address, (postal, (phone, more))))))) = read_cells::<
-            CustomerCells,
-        >(row)?;
+        let cells = match read_cells::<CustomerCells>(row) {
+            Ok(cells) => cells,
+            Err(fault) => return Err(fault),
+        };
+        let (branch, (number, (first, (last, (address, (postal, (phone, more))))))) = cells;
         let (city, (active, (created, ()))) = more;
         Ok(CustomerRow {
             branch,
@@ -84,15 +94,24 @@ pub fn customer_at<S: Alter>(
     branch: BranchNo,
     number: CustomerNo,
 ) -> Result<Option<CustomerRow>, StoreFault>
-    ensures { DoesInside S.Store tx.old.conn tx.new.conn result
+    ensures does { DoesInside S.Store tx.old.conn tx.new.conn result
         (λ row. Finds (λ books. option_to_list (option_map (λ it. seen_customer it.customer) row)
         ≡ at number (of branch books.customers))) }
+    ensures fails { FailsByFaults S.Store tx.old.conn tx.new.conn result HoldsBooks }
 {
     query_one(
         tx,
         SELECT_CUSTOMER,
         &[branch.get().to_sql(), number.get().to_sql()],
     )
+}
+
+/// Returns whether the customer in the row may rent.
+fn active_in(row: &Row) -> Result<bool, StoreFault>
+    ensures ok { IfOk result (λ active. column row.now 0 ≡ flag_value active) }
+    ensures failed { IfErr result (λ e. e ≡ Failed → ¬ ShowsFlag row.now) }
+{
+    flag_at(row, 0)
 }
 
 const SELECT_ACTIVE: &str = "SELECT active FROM customer WHERE branch = ?1 AND number = ?2";
@@ -103,14 +122,15 @@ pub fn active_at<S: Alter>(
     branch: BranchNo,
     number: CustomerNo,
 ) -> Result<Option<bool>, StoreFault>
-    ensures { DoesInside S.Store tx.old.conn tx.new.conn result
+    ensures does { DoesInside S.Store tx.old.conn tx.new.conn result
         (λ active. Finds (λ books. active ≡ head (map (λ it. it.active) (at number (of branch books.customers))))) }
+    ensures fails { FailsByFaults S.Store tx.old.conn tx.new.conn result HoldsBooks }
 {
     query_first(
         tx,
         SELECT_ACTIVE,
         &[branch.get().to_sql(), number.get().to_sql()],
-        |row| flag_at(row, 0),
+        active_in,
     )
 }
 

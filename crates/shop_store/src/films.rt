@@ -1,12 +1,18 @@
 //! Films: a film with all its columns, single columns of a film, and what head office sets in it.
 
-ghost use Rattle.std.specs.Prelude.{⊤, ◌≡◌, true, length, map, option_map};
+ghost use Rattle.std.specs.Prelude.{⊤, ◌≡◌, true, IfErr, IfOk, length, map, option_map};
 ghost use Rattle.std.specs.Option.{option_to_list};
+ghost use Rattle.sqlite_value.specs.Order.{column};
 ghost use Rattle.sql_rows.specs.Calls.{DoesInside};
+ghost use Rattle.sql_rows.specs.Causes.{FailsByFaults};
+ghost use Rattle.sql_rows.specs.Rows.{flag_value};
+ghost use Rattle.sql_rows.specs.declared.fault.StoreFault.TheVariants.{Failed};
 ghost use Rattle.shop_model.specs.Rows.{at, set_at};
 ghost use Rattle.shop_model.specs.Books.{head};
 ghost use Rattle.shop_ledger.specs.Calls.{Finds, Stores};
+ghost use Rattle.shop_schema.specs.Asked.{HoldsBooks, ShowsFlag};
 ghost use Rattle.shop_schema.specs.RowValues.{IsShared, IsFilm, film_columns};
+ghost use Rattle.shop_store.specs.Asked.{IsNoneOf};
 ghost use Rattle.shop_store.specs.SharedSeen.{seen_film_row, withdrawn_of};
 
 use shop_schema::tables::FilmCells;
@@ -29,10 +35,14 @@ impl Stored for FilmRow {
 
     ghost fits = { λ row. IsShared IsFilm (row.number, seen_film_row row) };
 
+    ghost refuses = { IsNoneOf (IsShared IsFilm) film_columns };
+
     fn read(row: &Row) -> Result<FilmRow, StoreFault> {
-        let (number, (title, (description, (language, (category, priced))))) = read_cells::<
-            FilmCells,
-        >(row)?;
+        let cells = match read_cells::<FilmCells>(row) {
+            Ok(cells) => cells,
+            Err(fault) => return Err(fault),
+        };
+        let (number, (title, (description, (language, (category, priced))))) = cells;
         let (period, (rate, (replacement, (minutes, (rating, (features, (withdrawn, ()))))))) =
             priced;
         Ok(FilmRow {
@@ -62,10 +72,19 @@ pub fn film_row<S: Alter>(
     tx: &mut Transaction<'_, S>,
     number: FilmNo,
 ) -> Result<Option<FilmRow>, StoreFault>
-    ensures { DoesInside S.Store tx.old.conn tx.new.conn result
+    ensures does { DoesInside S.Store tx.old.conn tx.new.conn result
         (λ row. Finds (λ books. option_to_list (option_map seen_film_row row) ≡ at number books.catalogue.films)) }
+    ensures fails { FailsByFaults S.Store tx.old.conn tx.new.conn result HoldsBooks }
 {
     query_one(tx, SELECT_FILM, &[number.get().to_sql()])
+}
+
+/// Returns whether the film in the row is withdrawn.
+fn withdrawn_in(row: &Row) -> Result<bool, StoreFault>
+    ensures ok { IfOk result (λ withdrawn. column row.now 0 ≡ flag_value withdrawn) }
+    ensures failed { IfErr result (λ e. e ≡ Failed → ¬ ShowsFlag row.now) }
+{
+    flag_at(row, 0)
 }
 
 const SELECT_WITHDRAWN: &str = "SELECT withdrawn FROM film WHERE number = ?1";
@@ -75,15 +94,11 @@ pub fn film_withdrawn<S: Alter>(
     tx: &mut Transaction<'_, S>,
     film: FilmNo,
 ) -> Result<Option<bool>, StoreFault>
-    ensures { DoesInside S.Store tx.old.conn tx.new.conn result
+    ensures does { DoesInside S.Store tx.old.conn tx.new.conn result
         (λ withdrawn. Finds (λ books. withdrawn ≡ head (map withdrawn_of (at film books.catalogue.films)))) }
+    ensures fails { FailsByFaults S.Store tx.old.conn tx.new.conn result HoldsBooks }
 {
-    query_first(
-        tx,
-        SELECT_WITHDRAWN,
-        &[film.get().to_sql()],
-        |row| flag_at(row, 0),
-    )
+    query_first(tx, SELECT_WITHDRAWN, &[film.get().to_sql()], withdrawn_in)
 }
 
 const UPDATE_RATE: &str = "UPDATE film SET rate = ?2 WHERE number = ?1";

@@ -2,12 +2,15 @@ ghost use Rattle.std.specs.Prelude.{⊤, ◌≡◌, ◌==◌, ◌&&◌, [], ◌�
 ghost use Rattle.sqlite.specs.Values.{bound, or_null};
 ghost use Rattle.sqlite_value.specs.Value.{owned};
 ghost use Rattle.sql_rows.specs.Calls.{DoesInside};
+ghost use Rattle.sql_rows.specs.Causes.{FailsByFaults};
 ghost use Rattle.sql_rows.specs.Rows.{number_value};
 ghost use Rattle.shop_model.specs.Calendar.{moment_text, is_by, is_earlier};
 ghost use Rattle.shop_model.specs.Rows.{of};
 ghost use Rattle.shop_types.specs.Seen.{seen_payment};
 ghost use Rattle.shop_ledger.specs.Calls.{Finds, Stores};
+ghost use Rattle.shop_schema.specs.Asked.{HoldsBooks};
 ghost use Rattle.shop_schema.specs.RowValues.{IsRow, IsPayment, payment_columns};
+ghost use Rattle.shop_store.specs.Asked.{IsNoneOf};
 ghost use Rattle.shop_store.specs.Seen.{seen_payment_row};
 
 use shop_schema::tables::PaymentCells;
@@ -31,10 +34,14 @@ impl Stored for PaymentRow {
 
     ghost fits = { λ row. IsRow IsPayment (seen_payment_row row) };
 
+    ghost refuses = { IsNoneOf (IsRow IsPayment) payment_columns };
+
     fn read(row: &Row) -> Result<PaymentRow, StoreFault> {
-        let (branch, (number, (customer, (staff, (rental, (amount, (paid, ()))))))) = read_cells::<
-            PaymentCells,
-        >(row)?;
+        let cells = match read_cells::<PaymentCells>(row) {
+            Ok(cells) => cells,
+            Err(fault) => return Err(fault),
+        };
+        let (branch, (number, (customer, (staff, (rental, (amount, (paid, ()))))))) = cells;
         Ok(PaymentRow {
             branch,
             number,
@@ -86,9 +93,10 @@ pub fn payments_of_customer<S: Alter>(
     branch: BranchNo,
     customer: CustomerNo,
 ) -> Result<Vec<PaymentRow>, StoreFault>
-    ensures { DoesInside S.Store tx.old.conn tx.new.conn result
+    ensures does { DoesInside S.Store tx.old.conn tx.new.conn result
         (λ rows. Finds (λ books. map (λ row. seen_payment row.payment) rows.items
         ≡ filter (λ it. it.customer == customer) (of branch books.payments))) }
+    ensures fails { FailsByFaults S.Store tx.old.conn tx.new.conn result HoldsBooks }
 {
     query_all(
         alloc,
@@ -110,9 +118,10 @@ pub fn payments_between<S: Alter>(
     start: Moment,
     end: Moment,
 ) -> Result<Vec<PaymentRow>, StoreFault>
-    ensures { DoesInside S.Store tx.old.conn tx.new.conn result
+    ensures does { DoesInside S.Store tx.old.conn tx.new.conn result
         (λ rows. Finds (λ books. map (λ row. seen_payment row.payment) rows.items
         ≡ filter (λ it. is_by start it.paid && is_earlier it.paid end) (of branch books.payments))) }
+    ensures fails { FailsByFaults S.Store tx.old.conn tx.new.conn result HoldsBooks }
 {
     let _real = start.text();
     let _also = end.text();

@@ -1,13 +1,16 @@
 ghost use Rattle.std.specs.Prelude.{⊤, ◌≡◌, ◌==◌, ◌&&◌, [], ◌∷◌, ◌++◌, Some, option_map, option_to_list};
 ghost use Rattle.sqlite.specs.Values.{bound};
 ghost use Rattle.sql_rows.specs.Calls.{DoesInside};
+ghost use Rattle.sql_rows.specs.Causes.{FailsByFaults};
 ghost use Rattle.std.specs.List.{list_any};
 ghost use Rattle.shop_model.specs.Calendar.{moment_text, same_moment};
 ghost use Rattle.shop_model.specs.Rows.{at, of, set_row};
 ghost use Rattle.shop_types.specs.Seen.{seen_rental};
 ghost use Rattle.shop_ledger.specs.Calls.{Finds, Stores};
+ghost use Rattle.shop_schema.specs.Asked.{HoldsBooks};
 ghost use Rattle.shop_schema.specs.RowValues.{IsRow, IsRental, rental_columns};
 ghost use Rattle.shop_schema.specs.Held.{IsHeld};
+ghost use Rattle.shop_store.specs.Asked.{IsNoneOf};
 ghost use Rattle.shop_store.specs.Seen.{seen_rental_row, opened_row};
 
 use crate::rows::shows_row;
@@ -31,9 +34,14 @@ impl Stored for RentalRow {
 
     ghost fits = { λ row. IsRow IsRental (seen_rental_row row) };
 
+    ghost refuses = { IsNoneOf (IsRow IsRental) rental_columns };
+
     fn read(row: &Row) -> Result<RentalRow, StoreFault> {
-        let (branch, (number, (rented, (copy, (customer, (returned, (staff, ()))))))) =
-            read_cells::<RentalCells>(row)?;
+        let cells = match read_cells::<RentalCells>(row) {
+            Ok(cells) => cells,
+            Err(fault) => return Err(fault),
+        };
+        let (branch, (number, (rented, (copy, (customer, (returned, (staff, ()))))))) = cells;
         Ok(RentalRow {
             branch,
             number,
@@ -73,9 +81,10 @@ pub fn rental_at<S: Alter>(
     branch: BranchNo,
     number: RentalNo,
 ) -> Result<Option<RentalRow>, StoreFault>
-    ensures { DoesInside S.Store tx.old.conn tx.new.conn result
+    ensures does { DoesInside S.Store tx.old.conn tx.new.conn result
         (λ row. Finds (λ books. option_to_list (option_map (λ it. seen_rental it.rental) row)
         ≡ at number (of branch books.rentals))) }
+    ensures fails { FailsByFaults S.Store tx.old.conn tx.new.conn result HoldsBooks }
 {
     query_one(
         tx,

@@ -1,12 +1,14 @@
 //! Whether there is a shared row of a number, a name or a token.
 
-ghost use Rattle.std.specs.Prelude.{◌≡◌, ◌==◌, ◌&&◌, not, List, length};
+ghost use Rattle.std.specs.Prelude.{◌≡◌, ◌==◌, ◌&&◌, not, List, IfErr, length};
 ghost use Rattle.std.specs.List.{list_any};
 ghost use Rattle.std.specs.Str.{bytes_eq};
-ghost use Rattle.sqlite.specs.State.{Shown};
+ghost use Rattle.sqlite.specs.Held.{state};
+ghost use Rattle.sqlite.specs.State.{HasCleanDisk, Shown};
 ghost use Rattle.sqlite.specs.Values.{bound};
 ghost use Rattle.sqlite_value.specs.Order.{Row as SqlRow};
 ghost use Rattle.sql_rows.specs.Calls.{DoesInside};
+ghost use Rattle.sql_rows.specs.Fault.{IsToldOf, QueryGave};
 ghost use Rattle.shop_model.specs.Rows.{lacks};
 ghost use Rattle.shop_ledger.specs.Calls.{Finds};
 
@@ -23,12 +25,17 @@ pub(crate) fn shows_row<S: Alter>(
     text: &str,
     params: &[ValueRef<'_>],
 ) -> Result<bool, StoreFault>
-    ensures { DoesInside S.Store tx.old.conn tx.new.conn result
+    ensures does { DoesInside S.Store tx.old.conn tx.new.conn result
         (λ shows old new. (rows : List SqlRow) × Shown text.now (bound params.now) old new rows
         × (shows ≡ not (length rows == 0))) }
+    ensures told { HasCleanDisk (state S.Store tx.new.conn.now)
+        → IfErr result (IsToldOf
+        (QueryGave text.now (bound params.now) (state S.Store tx.old.conn.now) (state S.Store tx.new.conn.now))) }
 {
-    let rows = query(tx, text, params)?;
-    Ok(!rows.is_empty())
+    match query(tx, text, params) {
+        Ok(rows) => Ok(!rows.is_empty()),
+        Err(fault) => Err(fault),
+    }
 }
 
 const SELECT_COUNTRY: &str = "SELECT number FROM country WHERE number = ?1";

@@ -2,9 +2,12 @@
 
 ghost use Rattle.std.specs.Prelude.{◌≡◌, ◌==◌, filter, map};
 ghost use Rattle.sql_rows.specs.Calls.{DoesInside};
+ghost use Rattle.sql_rows.specs.Causes.{FailsByFaults};
 ghost use Rattle.shop_model.specs.Books.{shop_of};
 ghost use Rattle.shop_model.specs.Stock.{termed};
 ghost use Rattle.shop_ledger.specs.Calls.{Finds};
+ghost use Rattle.shop_schema.specs.Asked.{HoldsBooks};
+ghost use Rattle.shop_store.specs.Asked.{IsNoneOf};
 ghost use Rattle.shop_store.specs.Seen.{seen_termed, termed_columns, IsTermed};
 
 use shop_schema::read_cells;
@@ -40,10 +43,14 @@ impl Stored for TermedRental {
 
     ghost fits = { λ it. IsTermed (seen_termed it) };
 
+    ghost refuses = { IsNoneOf IsTermed termed_columns };
+
     fn read(row: &Row) -> Result<TermedRental, StoreFault> {
-        let (rented, (copy, (customer, (returned, (staff, terms))))) = read_cells::<TermedCells>(
-            row,
-        )?;
+        let cells = match read_cells::<TermedCells>(row) {
+            Ok(cells) => cells,
+            Err(fault) => return Err(fault),
+        };
+        let (rented, (copy, (customer, (returned, (staff, terms))))) = cells;
         let (rate, (period, (replacement, ()))) = terms;
         Ok(TermedRental {
             rental: Rental {
@@ -73,9 +80,10 @@ pub fn termed_of_customer<S: Alter>(
     branch: BranchNo,
     customer: CustomerNo,
 ) -> Result<Vec<TermedRental>, StoreFault>
-    ensures { DoesInside S.Store tx.old.conn tx.new.conn result
+    ensures does { DoesInside S.Store tx.old.conn tx.new.conn result
         (λ rows. Finds (λ books. map (λ row. seen_termed row) rows.items
         ≡ filter (λ it. it.0.customer == customer) (termed (shop_of branch books)))) }
+    ensures fails { FailsByFaults S.Store tx.old.conn tx.new.conn result HoldsBooks }
 {
     query_all(
         alloc,

@@ -33,3 +33,5 @@ pub mod Chaining
 pub mod LastRow
 pub mod Dropping
 pub mod NumberTests
+pub mod QueryFaults
+pub mod CallFaults

@@ -1,6 +1,6 @@
 -- Tests of a column by `>` and `<` a number.
 use Rattle.std.specs.Prelude.{nat_lt}
-use Rattle.sql_rows.proofs.Common.{◌≡◌, ◌∙◌, ℕ, pos, Bool, List, [], ◌∷◌, ap, arith, is_lt, is_gt, nat_cmp, int_cmp, ints, nat_tests, Int, Row, column, Binary}
+use Rattle.sql_rows.proofs.Common.{◌≡◌, ◌∙◌, ℕ, pos, Bool, List, [], ◌∷◌, ap, arith, is_lt, is_gt, int_cmp, ints, nat_tests, Int, Row, column, Binary}
 use Rattle.sql_rows.proofs.Common.{value_cmp-Int, Compare, Lt, is_true, number_value, Term, col, op2}
 use Rattle.sqlite_sql.specs.declared.ops.CompareOp.TheVariants.{Gt}
 use Rattle.sqlite_sql.specs.Ops.{binary}

@@ -7,3 +7,4 @@ pub mod Texts
 pub mod Tables
 pub mod Terms
 pub mod Files
+pub mod Causes

@@ -1,6 +1,6 @@
 //! Rows of an answer as values.
 
-ghost use Rattle.std.specs.Prelude.{List, ◌≡◌, ◌≢◌, ◌<◌, ◌^◌, ℕ, IsUtf8, Bool, length, IfErr, IfSome, map, take, IfOk};
+ghost use Rattle.std.specs.Prelude.{List, Option, ◌≡◌, ◌≢◌, ◌<◌, ◌^◌, ℕ, IsUtf8, Bool, length, IfErr, IfSome, map, take, IfOk};
 ghost use Rattle.std.specs.List.{AllByRecursion};
 ghost use Rattle.std.specs.Option.{option_to_list};
 ghost use Rattle.sqlite_value.specs.declared.value.Value.TheVariants.{Text, Blob};
@@ -11,6 +11,7 @@ ghost use Rattle.sqlite.specs.Held.{state};
 ghost use Rattle.sqlite.specs.State.{HasCleanDisk, Shown};
 ghost use Rattle.sqlite.specs.Values.{bound, or_null};
 ghost use Rattle.sql_rows.specs.Calls.{StaysInside};
+ghost use Rattle.sql_rows.specs.Causes.{FailsAtOne, FailsFirst, FailsToRead, FailsToReadAll};
 
 use crate::call::query;
 use crate::fault::{StoreFault, fault_of};
@@ -27,20 +28,28 @@ pub trait Stored: Sized + Drop {
     // the program can hold the value's numbers and texts
     ghost fits: { Self → Type 0 };
 
+    // the rows that may be refused as `Failed`
+    ghost refuses: { SqlRow → Type 0 };
+
     /// Reads the value whose columns the row has. Fails if the program can't hold that value.
     fn read(row: &Row) -> Result<Self, StoreFault>
         ensures ok { IfOk result (λ x. columns x ≡ row.now) }
-        ensures value { IfOk result (λ x. fits x) };
+        ensures value { IfOk result (λ x. fits x) }
+        ensures failed { IfErr result (λ e. e ≡ Failed → refuses row.now) };
 }
 
 /// Reads the values of the rows, in their order.
 fn read_all<T: Stored>(alloc: Global, rows: &[Row]) -> Result<Vec<T>, StoreFault>
     ensures ok { IfOk result (λ all. map T.Stored.columns all.items ≡ rows.now) }
     ensures values { IfOk result (λ all. AllByRecursion T.Stored.fits all.items) }
+    ensures failed { IfErr result (FailsAtOne T.Stored.refuses rows.now) }
 {
     let mut all = Vec::new(alloc);
     for row in rows {
-        all.push(T::read(row)?)?;
+        match T::read(row) {
+            Ok(value) => all.push(value)?,
+            Err(fault) => return Err(fault),
+        }
     }
     Ok(all)
 }
@@ -49,10 +58,14 @@ fn read_all<T: Stored>(alloc: Global, rows: &[Row]) -> Result<Vec<T>, StoreFault
 fn read_one<T: Stored>(rows: &[Row]) -> Result<Option<T>, StoreFault>
     ensures ok { IfOk result (λ o. map T.Stored.columns (option_to_list o) ≡ take 1 rows.now) }
     ensures value { IfOk result (λ o. IfSome o T.Stored.fits) }
+    ensures failed { IfErr result (FailsFirst (λ row e. e ≡ Failed → T.Stored.refuses row) rows.now) }
 {
     match rows.first() {
         None => Ok(None),
-        Some(row) => Ok(Some(T::read(row)?)),
+        Some(row) => match T::read(row) {
+            Ok(value) => Ok(Some(value)),
+            Err(fault) => Err(fault),
+        },
     }
 }
 
@@ -68,8 +81,14 @@ pub fn query_all<S: Alter, T: Stored>(
     ensures shown { HasCleanDisk (state S.Store tx.new.conn.now) → IfOk result (λ all. (rows : List SqlRow)
         × Shown text.now (bound params.now) (state S.Store tx.old.conn.now) (state S.Store tx.new.conn.now) rows
         × (map T.Stored.columns all.items ≡ rows) × AllByRecursion T.Stored.fits all.items) }
+    ensures told { HasCleanDisk (state S.Store tx.new.conn.now)
+        → IfErr result (FailsToReadAll T.Stored.refuses text.now (bound params.now)
+        (state S.Store tx.old.conn.now) (state S.Store tx.new.conn.now)) }
 {
-    let rows = query(tx, text, params)?;
+    let rows = match query(tx, text, params) {
+        Ok(rows) => rows,
+        Err(fault) => return Err(fault),
+    };
     read_all(alloc, rows.as_slice())
 }
 
@@ -84,8 +103,14 @@ pub fn query_one<S: Alter, T: Stored>(
     ensures shown { HasCleanDisk (state S.Store tx.new.conn.now) → IfOk result (λ o. (rows : List SqlRow)
         × Shown text.now (bound params.now) (state S.Store tx.old.conn.now) (state S.Store tx.new.conn.now) rows
         × (map T.Stored.columns (option_to_list o) ≡ take 1 rows) × IfSome o T.Stored.fits) }
+    ensures told { HasCleanDisk (state S.Store tx.new.conn.now)
+        → IfErr result (FailsToRead (λ row e. e ≡ Failed → T.Stored.refuses row) text.now (bound params.now)
+        (state S.Store tx.old.conn.now) (state S.Store tx.new.conn.now)) }
 {
-    let rows = query(tx, text, params)?;
+    let rows = match query(tx, text, params) {
+        Ok(rows) => rows,
+        Err(fault) => return Err(fault),
+    };
     read_one(rows.as_slice())
 }
 
@@ -143,6 +168,8 @@ pub fn bytes_at(row: &Row, at: usize) -> Result<Bytes, StoreFault>
 pub fn words_or_null_at(row: &Row, at: usize) -> Result<Option<Words>, StoreFault>
     ensures ok { IfOk result (λ o. column row.now at ≡ or_null Text o) }
     ensures utf8 { IfOk result (λ o. IfSome o (λ w. IsUtf8 w)) }
+    ensures failed { IfErr result (λ e. e ≡ Failed → (o : Option (List ℕ)) → IfSome o (λ t. IsUtf8 t) → at < length row.now
+        → column row.now at ≢ or_null Text o) }
 {
     let text: Result<Option<String>, _> = row.get(at);
     match text {
@@ -155,6 +182,8 @@ pub fn words_or_null_at(row: &Row, at: usize) -> Result<Option<Words>, StoreFaul
 /// Returns the number below 4,294,967,296 in the column, or none if it is NULL.
 pub fn number_or_null_at(row: &Row, at: usize) -> Result<Option<u32>, StoreFault>
     ensures ok { IfOk result (λ o. column row.now at ≡ or_null number_value o) }
+    ensures failed { IfErr result (λ e. e ≡ Failed → (o : Option ℕ) → IfSome o (λ n. n < 2 ^ 32) → at < length row.now
+        → column row.now at ≢ or_null number_value o) }
 {
     let found: Result<Option<u32>, _> = row.get(at);
     match found {

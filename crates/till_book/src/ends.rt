@@ -38,6 +38,8 @@ impl Stored for EntryNumber {
 
     ghost fits = { λ _. ⊤ };
 
+    ghost refuses = { λ _. ⊤ };
+
     fn read(row: &Row) -> Result<EntryNumber, StoreFault> {
         if row.column_count() != 1 {
             return Err(StoreFault::Failed);
@@ -52,6 +54,8 @@ impl Stored for LastEntry {
     ghost columns = { λ row. number_value row.number ∷ Blob row.request ∷ [] };
 
     ghost fits = { λ _. ⊤ };
+
+    ghost refuses = { λ _. ⊤ };
 
     fn read(row: &Row) -> Result<LastEntry, StoreFault> {
         if row.column_count() != 2 {

@@ -35,6 +35,8 @@ impl Stored for BookEntry {
 
     ghost fits = { λ _. ⊤ };
 
+    ghost refuses = { λ _. ⊤ };
+
     fn read(row: &Row) -> Result<BookEntry, StoreFault> {
         if row.column_count() != 1 {
             return Err(StoreFault::Failed);
@@ -49,6 +51,8 @@ impl Stored for BookReply {
     ghost columns = { λ row. number_value row.status ∷ Blob row.body ∷ [] };
 
     ghost fits = { λ _. ⊤ };
+
+    ghost refuses = { λ _. ⊤ };
 
     fn read(row: &Row) -> Result<BookReply, StoreFault> {
         if row.column_count() != 2 {
@@ -65,6 +69,8 @@ impl Stored for Settlement {
     ghost columns = { λ row. reply_columns (seen_settlement row) };
 
     ghost fits = { λ _. ⊤ };
+
+    ghost refuses = { λ _. ⊤ };
 
     fn read(row: &Row) -> Result<Settlement, StoreFault> {
         if row.column_count() != 3 {

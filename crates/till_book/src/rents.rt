@@ -46,6 +46,8 @@ impl Stored for RentRow {
 
     ghost fits = { λ _. ⊤ };
 
+    ghost refuses = { λ _. ⊤ };
+
     fn read(row: &Row) -> Result<RentRow, StoreFault> {
         if row.column_count() != 3 {
             return Err(StoreFault::Failed);

@@ -6,7 +6,7 @@ use Rattle.consign_finds.proofs.Outs.{out_shown}
 use Rattle.consign_finds.proofs.find_one.Goals as goal
 
 pub returns : goal.returns
-returns g c = done (and_then (one_call c.in_ok-row.ensures) (one_call c.in_ok-out.ensures)) (λ said books holds held.
+returns g c = done (and_then (one_call c.in_ok-row.ensures) (one_call c.in_ok-out.ensures.does)) (λ said books holds held.
     let row = said.0 books holds held in
     let out = said.1 books row.0 held in
     let listed : Option CopyRow → List BookCopy = λ o. option_to_list (option_map (λ (it : CopyRow). (seen_copy_row it).it) o) in

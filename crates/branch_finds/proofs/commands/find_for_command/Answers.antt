@@ -3,7 +3,7 @@ use Rattle.sql_rows.proofs.Chaining.{one_call}
 use Rattle.branch_finds.proofs.commands.find_for_command.Goals as goal
 
 pub returns : goal.returns
-returns g c = done (and_then (one_call c.in_ok-staff.ensures) (some_calls c.in_ok-rows.ensures)) (λ said books holds held.
+returns g c = done (and_then (one_call c.in_ok-staff.ensures.does) (some_calls c.in_ok-rows.ensures)) (λ said books holds held.
     let staff = said.0 books holds held in
     let rows = said.1 books staff.0 held in (
       rows.0,

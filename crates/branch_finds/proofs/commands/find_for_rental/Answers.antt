@@ -4,7 +4,7 @@ use Rattle.branch_finds.proofs.commands.find_for_rental.Goals as goal
 
 pub returns : goal.returns
 returns g c =
-    done (and_then (one_call c.in_ok-is_active.ensures) (and_then (some_calls c.in_ok-found.ensures) (one_call c.in_ok-has_same.ensures)))
+    done (and_then (one_call c.in_ok-is_active.ensures.does) (and_then (some_calls c.in_ok-found.ensures) (one_call c.in_ok-has_same.ensures)))
     (λ said books holds held.
     let active = said.0 books holds held in
     let found = said.1.0 books active.0 held in

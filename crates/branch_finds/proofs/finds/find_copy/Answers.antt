@@ -22,14 +22,14 @@ pub returns-in_default : goal.returns-in_default
 returns-in_default g c = rw c.in_default.is (record { inside = within_none; says = λ clean books holds held. (holds, λ known. ((tt, tt), known)) })
 
 pub returns-in_default-2 : goal.returns-in_default-2
-returns-in_default-2 g c = rw c.in-Some.is (done (one_call c.in_ok-row.ensures) (λ said books holds held.
+returns-in_default-2 g c = rw c.in-Some.is (done (one_call c.in_ok-row.ensures.does) (λ said books holds held.
     let row = said books holds held in
     let shows : Copy → Bool × Bool × Bool = shown books.catalogue (not (in_stock c.in-Some.copy (shop_of c.args.branch books).rentals)) in
     let told : Option CopyNow → Option (Bool × Bool × Bool) = option_map (λ (x : CopyNow). shows (seen_copy_now x)) in
     (row.0, λ known. ((sym (ap told c.in_default-2.is) ∙ head_of seen_copy_now shows c.in_ok-row.field-0 _ row.1.0, tt), known))))
 
 pub returns : goal.returns
-returns g c = rw c.in-Some.is (done (and_then (one_call c.in_ok-row.ensures) (some_calls c.in_ok-film.ensures)) (λ said books holds held.
+returns g c = rw c.in-Some.is (done (and_then (one_call c.in_ok-row.ensures.does) (some_calls c.in_ok-film.ensures)) (λ said books holds held.
     let row = said.0 books holds held in
     let films = said.1 books row.0 held in (
       films.0,

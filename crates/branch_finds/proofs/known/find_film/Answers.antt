@@ -13,7 +13,7 @@ returns-in-Some g c = record {
 }
 
 pub returns-in_default-2 : goal.returns-in_default-2
-returns-in_default-2 g c = done (one_call c.in_ok-row.ensures) (λ said books holds held.
+returns-in_default-2 g c = done (one_call c.in_ok-row.ensures.does) (λ said books holds held.
     let row = said books holds held in (
       row.0,
       λ rows. (
@@ -23,7 +23,7 @@ returns-in_default-2 g c = done (one_call c.in_ok-row.ensures) (λ said books ho
     ))
 
 pub returns : goal.returns
-returns g c = done (one_call c.in_ok-row.ensures) (λ said books holds held.
+returns g c = done (one_call c.in_ok-row.ensures.does) (λ said books holds held.
     let row = said books holds held in
     let told =
     ap Some c.known_in-film.ensures ∙ ap (option_map (λ (it : FilmRow). known_of (seen_film_row it))) (sym c.in-Some-2.is)

@@ -1,10 +1,11 @@
 use Rattle.shop_schema.proofs.Common.{◌∙◌, sym, IfOk-weaker, seen_ask}
 use Rattle.branch_looks.proofs.Answered.{shown_answered}
+use Rattle.branch_looks.proofs.Telling.{row_asks}
 use Rattle.branch_looks.proofs.answering.answer_look.Goals as goal
 
 pub returns-then-reads_row-clause-does : goal.returns-then-reads_row-clause-does
 returns-then-reads_row-clause-does g c =
-    let looked = rw (sym c.reads_row.ensures ∙ c.if-reads_row.true) at c.look.ensures.does in
+    let looked = rw (sym c.reads_row.ensures ∙ c.if-reads_row.true) at c.look.ensures.looks.does in
     record {
       inside = looked.inside;
       says = λ clean. IfOk-weaker c.look.result _ _ (λ it shown books holds held.
@@ -21,3 +22,10 @@ returns-clause-does g c =
           let was = answered books holds held in
           (was.0, λ known. was.1)) (found.says clean);
     }
+
+pub returns-then-reads_row-clause-fails : goal.returns-then-reads_row-clause-fails
+returns-then-reads_row-clause-fails g c clean ready holds =
+    c.look.ensures.fails clean ready (row_asks c.args.branch (seen_ask c.args.ask.now) (sym c.reads_row.ensures ∙ c.if-reads_row.true) holds)
+
+pub returns-then-reads_row-clause-still : goal.returns-then-reads_row-clause-still
+returns-then-reads_row-clause-still g c = c.look.ensures.looks.still

@@ -8,23 +8,24 @@ use Rattle.branch_looks.proofs.looks.look_customer.Goals as goal
 abbrev listed : Option CustomerRow → List Customer
 listed o = option_to_list (option_map (λ row. seen_customer row.customer) o)
 
-pub returns-in_ok-customer_text-in-Some-clause-does : goal.returns-in_ok-customer_text-in-Some-clause-does
-returns-in_ok-customer_text-in-Some-clause-does g c = done_inside c.in_ok-row.ensures (λ row books holds held.
+pub returns-in_ok-customer_text-in-Ok-Some-clause-does : goal.returns-in_ok-customer_text-in-Ok-Some-clause-does
+returns-in_ok-customer_text-in-Ok-Some-clause-does g c = done_inside c.in-Ok-Some.ensures.does (λ row books holds held.
     let found = row books holds held in (
       found.0,
-      c.accepted.ensures ∙ ap accepted_answer c.in_ok-customer_text-in-Some.ensures
-          ∙ ap (λ (rows : List Customer). answer_of (given NoCustomer (CustomerIs c.args.number) rows)) (ap listed (sym c.in-Some.is) ∙ found.1),
+      c.accepted.ensures ∙ ap accepted_answer c.in_ok-customer_text-in-Ok-Some.ensures
+          ∙ ap (λ (rows : List Customer). answer_of (given NoCustomer (CustomerIs c.args.number) rows)) (ap listed (sym c.in-Ok-Some.field-0-is) ∙ found.1),
     ))
 
-pub returns-in-None-clause-does : goal.returns-in-None-clause-does
-returns-in-None-clause-does g c = done_inside c.in_ok-row.ensures (λ row books holds held.
+pub returns-in-Ok-None-clause-does : goal.returns-in-Ok-None-clause-does
+returns-in-Ok-None-clause-does g c = done_inside c.in-Ok-None.ensures.does (λ row books holds held.
     let found = row books holds held in (
       found.0,
-      c.refused.ensures ∙ ap (λ (rows : List Customer). answer_of (given NoCustomer (CustomerIs c.args.number) rows)) (ap listed (sym c.in-None.is) ∙ found.1),
+      c.refused.ensures
+          ∙ ap (λ (rows : List Customer). answer_of (given NoCustomer (CustomerIs c.args.number) rows)) (ap listed (sym c.in-Ok-None.field-0-is) ∙ found.1),
     ))
 
-pub returns-in_ok-customer_text-in-Some-clause-decided : goal.returns-in_ok-customer_text-in-Some-clause-decided
-returns-in_ok-customer_text-in-Some-clause-decided g c = accepted_told _ _ c.accepted.ensures
+pub returns-in_ok-customer_text-in-Ok-Some-clause-decided : goal.returns-in_ok-customer_text-in-Ok-Some-clause-decided
+returns-in_ok-customer_text-in-Ok-Some-clause-decided g c = accepted_told _ _ c.accepted.ensures
 
-pub returns-in-None-clause-decided : goal.returns-in-None-clause-decided
-returns-in-None-clause-decided g c = refused_told _ (Decision NoCustomer) c.refused.ensures refl
+pub returns-in-Ok-None-clause-decided : goal.returns-in-Ok-None-clause-decided
+returns-in-Ok-None-clause-decided g c = refused_told _ (Decision NoCustomer) c.refused.ensures refl

@@ -3,7 +3,9 @@ use Rattle.shop_schema.proofs.Common.{CopiesAre, Sorry, Shows, look, answer_of, 
 use Rattle.shop_store.specs.SharedSeen.{withdrawn_of}
 use Rattle.branch_core.specs.Agreed.{AreOfFilm}
 use Rattle.branch_looks.specs.Looks.{stock_asked, stock_listed}
-use Rattle.sql_rows.proofs.Chaining.{first_done, done_inside}
+use Rattle.shop_schema.specs.Asked.{HoldsBooks}
+use Rattle.shop_ledger.proofs.Failing.{fails_after, finds_stay}
+use Rattle.sql_rows.proofs.Chaining.{one_call, first_done, done_inside}
 use Rattle.branch_reports.proofs.Given.{given_none, given_some}
 use Rattle.branch_reports.proofs.Decisions.{accepted_told, refused_told}
 use Rattle.branch_looks.proofs.looks.look_film_copies.Goals as goal
@@ -18,8 +20,8 @@ film_shown : (is_in : Bool) (b film : ℕ) (catalogue : Catalogue) (shop : Shop)
 film_shown true b film catalogue shop w is = given_some NoFilm (CopiesAre (film_in_stock film shop)) withdrawn_of (at film catalogue.films) w is
 film_shown false b film catalogue shop w is = given_some NoFilm (CopiesAre (film_not_in_stock film shop)) withdrawn_of (at film catalogue.films) w is
 
-pub returns-in-Ok-clause-does : goal.returns-in-Ok-clause-does
-returns-in-Ok-clause-does g c = first_done c.in_ok-film_withdrawn.ensures (some_calls c.in_ok-copies.ensures) (λ withdrawn said books holds held.
+pub returns-in-Ok-listed_text-clause-does : goal.returns-in-Ok-listed_text-clause-does
+returns-in-Ok-listed_text-clause-does g c = first_done c.in-Ok-Some.ensures.does (some_calls c.in-Ok.ensures.does) (λ withdrawn said books holds held.
     let b = c.args.branch in
     let film = c.args.film in
     let shop = shop_of b books in
@@ -27,18 +29,24 @@ returns-in-Ok-clause-does g c = first_done c.in_ok-film_withdrawn.ensures (some_
     let copies = said books found.0 held in
     let are : AreOfFilm film shop c.as_slice.result.now = subst (AreOfFilm film shop) (sym c.as_slice.ensures.value) copies.1 in (
       copies.0,
-      c.accepted.ensures ∙ ap accepted_answer (c.in-Ok.ensures film shop are)
-          ∙ ap answer_of (sym (film_shown c.args.is_in b film books.catalogue shop _ (sym c.in-Some.is ∙ found.1))),
+      c.accepted.ensures ∙ ap accepted_answer (c.in-Ok-listed_text.ensures film shop are)
+          ∙ ap answer_of (sym (film_shown c.args.is_in b film books.catalogue shop _ (sym c.in-Ok-Some.field-0-is ∙ found.1))),
     ))
 
-pub returns-in_default-clause-does : goal.returns-in_default-clause-does
-returns-in_default-clause-does g c = done_inside c.in_ok-film_withdrawn.ensures (λ withdrawn books holds held.
+pub returns-in-Ok-None-clause-does : goal.returns-in-Ok-None-clause-does
+returns-in-Ok-None-clause-does g c = done_inside c.in-Ok-None.ensures.does (λ withdrawn books holds held.
     let b = c.args.branch in
     let found = withdrawn books holds held in
-    (found.0, c.refused.ensures ∙ ap answer_of (sym (no_film c.args.is_in b c.args.film books.catalogue (shop_of b books) (sym c.in_default.is ∙ found.1)))))
+    let none = no_film c.args.is_in b c.args.film books.catalogue (shop_of b books) (sym c.in-Ok-None.field-0-is ∙ found.1) in
+    (found.0, c.refused.ensures ∙ ap answer_of (sym none)))
 
-pub returns-in-Ok-clause-decided : goal.returns-in-Ok-clause-decided
-returns-in-Ok-clause-decided g c = accepted_told _ _ c.accepted.ensures
+pub returns-in-Ok-listed_text-clause-decided : goal.returns-in-Ok-listed_text-clause-decided
+returns-in-Ok-listed_text-clause-decided g c = accepted_told _ _ c.accepted.ensures
 
-pub returns-in_default-clause-decided : goal.returns-in_default-clause-decided
-returns-in_default-clause-decided g c = refused_told _ (Decision NoFilm) c.refused.ensures refl
+pub returns-in-Ok-None-clause-decided : goal.returns-in-Ok-None-clause-decided
+returns-in-Ok-None-clause-decided g c = refused_told _ (Decision NoFilm) c.refused.ensures refl
+
+pub returns-in-Err-find_of_film-clause-fails : goal.returns-in-Err-find_of_film-clause-fails
+returns-in-Err-find_of_film-clause-fails g c =
+    fails_after HoldsBooks HoldsBooks (one_call c.in-Ok-Some.ensures.does) finds_stay c.in-Err-find_of_film.ensures.does.inside
+    c.in-Err-find_of_film.ensures.fails

@@ -13,29 +13,29 @@ told is_in copies = given NoCopy (λ (_ : Copy). InStockIs is_in) copies
 abbrev listed : Option CopyNow → List Copy
 listed o = option_to_list (option_map seen_copy_now o)
 
-pub returns-in_ok-in_stock_text-in-Some-clause-does : goal.returns-in_ok-in_stock_text-in-Some-clause-does
-returns-in_ok-in_stock_text-in-Some-clause-does g c = done_inside c.in_ok-found.ensures (λ row books holds held.
+pub returns-in_ok-in_stock_text-in-Ok-Some-clause-does : goal.returns-in_ok-in_stock_text-in-Ok-Some-clause-does
+returns-in_ok-in_stock_text-in-Ok-Some-clause-does g c = done_inside c.in-Ok-Some.ensures.does (λ row books holds held.
     let rentals = (shop_of c.args.branch books).rentals in
     let found = row books holds held in
     let is_in : c.is_none.result ≡ in_stock c.args.copy rentals =
-    stock_of_out c.args.copy rentals c.in-Some.found.out _ c.is_none.ensures (rw c.in-Some.is at found.1.1) in
+    stock_of_out c.args.copy rentals c.in-Ok-Some.found.out _ c.is_none.ensures (rw c.in-Ok-Some.field-0-is at found.1.1) in
     let shows : Bool → Reply = λ b. Shows (InStockIs b) in (
       found.0,
-      c.accepted.ensures ∙ ap accepted_answer c.in_ok-in_stock_text-in-Some.ensures ∙ ap (λ (b : Bool). answer_of (shows b)) is_in
-          ∙ ap (λ (copies : List Copy). answer_of (told (in_stock c.args.copy rentals) copies)) (ap listed (sym c.in-Some.is) ∙ found.1.0),
+      c.accepted.ensures ∙ ap accepted_answer c.in_ok-in_stock_text-in-Ok-Some.ensures ∙ ap (λ (b : Bool). answer_of (shows b)) is_in
+          ∙ ap (λ (copies : List Copy). answer_of (told (in_stock c.args.copy rentals) copies)) (ap listed (sym c.in-Ok-Some.field-0-is) ∙ found.1.0),
     ))
 
-pub returns-in-None-clause-does : goal.returns-in-None-clause-does
-returns-in-None-clause-does g c = done_inside c.in_ok-found.ensures (λ row books holds held.
+pub returns-in-Ok-None-clause-does : goal.returns-in-Ok-None-clause-does
+returns-in-Ok-None-clause-does g c = done_inside c.in-Ok-None.ensures.does (λ row books holds held.
     let found = row books holds held in (
       found.0,
       c.refused.ensures
           ∙ ap (λ (copies : List Copy). answer_of (told (in_stock c.args.copy (shop_of c.args.branch books).rentals) copies))
-          (ap listed (sym c.in-None.is) ∙ found.1.0),
+          (ap listed (sym c.in-Ok-None.field-0-is) ∙ found.1.0),
     ))
 
-pub returns-in_ok-in_stock_text-in-Some-clause-decided : goal.returns-in_ok-in_stock_text-in-Some-clause-decided
-returns-in_ok-in_stock_text-in-Some-clause-decided g c = accepted_told _ _ c.accepted.ensures
+pub returns-in_ok-in_stock_text-in-Ok-Some-clause-decided : goal.returns-in_ok-in_stock_text-in-Ok-Some-clause-decided
+returns-in_ok-in_stock_text-in-Ok-Some-clause-decided g c = accepted_told _ _ c.accepted.ensures
 
-pub returns-in-None-clause-decided : goal.returns-in-None-clause-decided
-returns-in-None-clause-decided g c = refused_told _ (Decision NoCopy) c.refused.ensures refl
+pub returns-in-Ok-None-clause-decided : goal.returns-in-Ok-None-clause-decided
+returns-in-Ok-None-clause-decided g c = refused_told _ (Decision NoCopy) c.refused.ensures refl

@@ -23,10 +23,10 @@ loop-row-preserved g c =
     c.in_ok-push.ensures.items ∙ ap (λ (p : Paid). c.loop-row.payments.items ++ p ∷ []) c.paid_by.ensures
     ∙ ap (λ (rs : List Paid). rs ++ paid it ∷ []) c.loop-row.invariant ∙ sym more
 
-pub returns : goal.returns
-returns g c = done (one_call c.in_ok-rows.ensures) (λ said books holds held.
+pub returns-clause-does : goal.returns-clause-does
+returns-clause-does g c = done (one_call c.in-Ok.ensures.does) (λ said books holds held.
     let found = said books holds held in
-    let rows = c.in_ok-rows.rows.items in
+    let rows = c.in-Ok.rows.items in
     let all : c.loop-row.payments.items ≡ map paid rows =
     c.loop-row.invariant ∙ ap (map paid) (take_all c.loop-row.row-index c.deref-row-items.result.now c.loop-row-test.false ∙ c.deref-row-items.ensures.value) in
     (found.0, all ∙ sym (map-map paid_of (λ (row : PaymentRow). seen_payment row.payment) rows) ∙ ap (λ (ps : List Payment). map paid_of ps) found.1))

@@ -9,10 +9,10 @@ use Rattle.branch_reports.proofs.balances.find_terms.Goals as goal
 abbrev charged : TermedRental → RentalTerms
 charged row = terms_of (seen_termed row)
 
-pub returns : goal.returns
-returns g c = done (one_call c.in_ok-rows.ensures) (λ said books holds held.
+pub returns-clause-does : goal.returns-clause-does
+returns-clause-does g c = done (one_call c.in-Ok.ensures.does) (λ said books holds held.
     let found = said books holds held in
-    let rows = c.in_ok-rows.rows.items in
+    let rows = c.in-Ok.rows.items in
     let all : c.loop-row.terms.items ≡ map charged rows =
     c.loop-row.invariant
     ∙ ap (map charged) (take_all c.loop-row.row-index c.deref-row-items.result.now c.loop-row-test.false ∙ c.deref-row-items.ensures.value) in

@@ -4,12 +4,12 @@ use Rattle.branch_reports.proofs.Decisions.{accepted_told, refused_told}
 use Rattle.branch_reports.proofs.reports.look_rewards.Goals as goal
 
 pub returns-clause-does : goal.returns-clause-does
-returns-clause-does g c = done (some_calls c.in_ok-customers.ensures) (λ said books holds held.
+returns-clause-does g c = done (some_calls c.in-Ok.ensures.does) (λ said books holds held.
     let b = c.args.branch in
     let found = said books holds held in (
       found.0,
       rewards_told b books.catalogue (shop_of b books) c.args.at c.args.purchases c.args.cents
-          c.in_ok-customers.customers.items c.as_slice.result.now _ _ c.if-purchases-eq0.false c.if-cents-eq0.false
+          c.in-Ok.customers.items c.as_slice.result.now _ _ c.if-purchases-eq0.false c.if-cents-eq0.false
           c.as_slice.ensures.value found.1 c.in_ok-rewards_text.ensures c.accepted.ensures,
     ))
 

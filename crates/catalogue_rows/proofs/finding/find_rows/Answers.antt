@@ -26,16 +26,16 @@ returns-in-City g c =
 
 pub returns-in-Price : goal.returns-in-Price
 returns-in-Price g c =
-    found_of (λ rows. rows.film) _ c.with_film.result (ap seen_office_act c.in-Price.is) (λ rows books is. is) c.with_film.ensures c.film_withdrawn.ensures
+    found_of (λ rows. rows.film) _ c.with_film.result (ap seen_office_act c.in-Price.is) (λ rows books is. is) c.with_film.ensures c.film_withdrawn.ensures.does
 
 pub returns-in-Withdraw : goal.returns-in-Withdraw
 returns-in-Withdraw g c =
     found_of (λ rows. rows.film) _ c.with_film-in-Withdraw.result (ap seen_office_act c.in-Withdraw.is)
-    (λ rows books is. is) c.with_film-in-Withdraw.ensures c.film_withdrawn-in-Withdraw.ensures
+    (λ rows books is. is) c.with_film-in-Withdraw.ensures c.film_withdrawn-in-Withdraw.ensures.does
 
 pub returns-in-Leave : goal.returns-in-Leave
 returns-in-Leave g c =
-    found_of (λ rows. rows.staff) _ c.with_staff.result (ap seen_office_act c.in-Leave.is) (λ rows books is. is) c.with_staff.ensures c.staff_at.ensures
+    found_of (λ rows. rows.staff) _ c.with_staff.result (ap seen_office_act c.in-Leave.is) (λ rows books is. is) c.with_staff.ensures c.staff_at.ensures.does
 
 pub returns-in-Film : goal.returns-in-Film
 returns-in-Film g c = of_act (ap seen_office_act c.in-Film.is) c.for_film.ensures

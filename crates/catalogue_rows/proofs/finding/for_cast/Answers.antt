@@ -4,7 +4,7 @@ use Rattle.catalogue_rows.proofs.finding.for_cast.Goals as goal
 
 pub returns : goal.returns
 returns g c =
-    done (and_then (one_call c.in_ok-withdrawn.ensures) (and_then (one_call c.in_ok-has_actor.ensures) (one_call c.in_ok-has_cast.ensures)))
+    done (and_then (one_call c.in_ok-withdrawn.ensures.does) (and_then (one_call c.in_ok-has_actor.ensures) (one_call c.in_ok-has_cast.ensures)))
     (λ said books holds held.
     let film = said.0 books holds held in
     let actor = said.1.0 books film.0 held in

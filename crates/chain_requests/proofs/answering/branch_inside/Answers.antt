@@ -7,7 +7,8 @@ use Rattle.chain_caches.proofs.FilmSteps.{rows_by_branch}
 use Rattle.sql_rows.proofs.Chaining.{done_inside}
 use Rattle.branch_work.specs.Rules.{rules_of}
 use Rattle.branch_work.specs.Works.{IsDone}
-use Rattle.chain_requests.proofs.Looking.{decision_for, look_come, office_refused}
+use Rattle.chain_requests.proofs.Looking.{decision_for, look_come, office_refused, no_list, no_row_look, still_for}
+use Rattle.chain_requests.proofs.Wells.{passed_on}
 use Rattle.chain_requests.proofs.answering.branch_inside.Goals as goal
 
 pub returns-in_ok-done-in-Do-clause-does : goal.returns-in_ok-done-in-Do-clause-does
@@ -54,3 +55,37 @@ returns-in_ok-look-in-Look-clause-decided g c =
 pub returns-in_ok-look-in-View-clause-decided : goal.returns-in_ok-look-in-View-clause-decided
 returns-in_ok-look-in-View-clause-decided g c =
     rw c.for_branch-in-View.ensures (decision_for c.args.branch c.in_ok-look-in-View.look c.in_ok-look-in-View.ensures.decided)
+
+pub returns-in_err-done-in-Do-clause-fails : goal.returns-in_err-done-in-Do-clause-fails
+returns-in_err-done-in-Do-clause-fails g c row = absurd (no_row_look (request.Do c.in-Do.command) c.in-Do.is refl row)
+
+pub returns-in_ok-done-in-Do-clause-still : goal.returns-in_ok-done-in-Do-clause-still
+returns-in_ok-done-in-Do-clause-still g c row = absurd (no_row_look (request.Do c.in-Do.command) c.in-Do.is refl row)
+
+pub returns-in_err-look-in-Look-clause-fails : goal.returns-in_err-look-in-Look-clause-fails
+returns-in_err-look-in-Look-clause-fails g c row clean ready books =
+    passed_on c.from_residual-in_err-look-in-Look.result c.in_err-look-in-Look.field-0.0 (c.in_err-look-in-Look.ensures.fails clean ready books)
+    c.from_residual-in_err-look-in-Look.ensures.1
+
+pub returns-in_ok-look-in-Look-clause-still : goal.returns-in_ok-look-in-Look-clause-still
+returns-in_ok-look-in-Look-clause-still g c row =
+    rw c.for_branch.ensures (still_for c.args.branch c.in_ok-look-in-Look.look
+    (c.in_ok-look-in-Look.ensures.still (no_list (seen_ask c.in-Look.ask) (rw c.in-Look.is at row))))
+
+pub returns-in_err-look-in-View-clause-fails : goal.returns-in_err-look-in-View-clause-fails
+returns-in_err-look-in-View-clause-fails g c row = absurd (no_row_look (request.View c.in-View.view) c.in-View.is refl row)
+
+pub returns-in_ok-look-in-View-clause-still : goal.returns-in_ok-look-in-View-clause-still
+returns-in_ok-look-in-View-clause-still g c row = absurd (no_row_look (request.View c.in-View.view) c.in-View.is refl row)
+
+pub returns-in_err-done-in-Office-clause-fails : goal.returns-in_err-done-in-Office-clause-fails
+returns-in_err-done-in-Office-clause-fails g c row = elim c.in-Office.is [
+  | inl is ↦ absurd (no_row_look (request.Office is.0) is.1 refl row)
+  | inr is ↦ absurd (no_row_look (request.OfficeLook is.0) is.1 refl row)
+]
+
+pub returns-in_ok-done-in-Office-clause-still : goal.returns-in_ok-done-in-Office-clause-still
+returns-in_ok-done-in-Office-clause-still g c row = elim c.in-Office.is [
+  | inl is ↦ absurd (no_row_look (request.Office is.0) is.1 refl row)
+  | inr is ↦ absurd (no_row_look (request.OfficeLook is.0) is.1 refl row)
+]

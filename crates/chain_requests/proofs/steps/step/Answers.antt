@@ -1,8 +1,11 @@
-use Rattle.shop_schema.proofs.Common.{◌∙◌, refl, arith, IfOk-weaker, state, HasCleanDisk, survives_more}
+use Rattle.shop_schema.proofs.Common.{◌∙◌, refl, arith, IfOk-weaker, state, HasCleanDisk, survives_more, false≢true, sym}
 use Rattle.sqlite.specs.Steps.{FailsToCommit}
 use Rattle.chain_requests.specs.Steps.{asker, asked_of}
 use Rattle.chain_requests.proofs.Resting.{Commits, left_back, said_back, leaves_less, looks, either_of, undone_either, leaves_then, made_nothing, shows_made}
 use Rattle.chain_requests.proofs.Resting.{made_commit, leaves_after, undone_after, of_any_error}
+use Rattle.shop_schema.specs.Asked.{HoldsBooks}
+use Rattle.chain_requests.specs.Wells.{RestsOnBooks}
+use Rattle.chain_requests.proofs.Wells.{books_begun, fails_at_rest}
 use Rattle.chain_requests.proofs.steps.step.Goals as goal
 
 pub returns-in-Ok-clause-made : goal.returns-in-Ok-clause-made
@@ -132,3 +135,19 @@ returns-in-Ok-clause-decided g c = rw c.in-Ok-Answered.field-0-is at c.in-Ok-Ans
 
 pub returns-then-not-done-clause-decided : goal.returns-then-not-done-clause-decided
 returns-then-not-done-clause-decided g c = rw c.in-Ok-Answered.field-0-is at c.in-Ok-Answered.ensures.decided
+
+pub returns-in-Err-clause-fails : goal.returns-in-Err-clause-fails
+returns-in-Err-clause-fails g c row =
+    fails_at_rest c.args.conn.now RestsOnBooks HoldsBooks (books_begun g.S.Store c.args.conn.now) c.in-Err.ensures.does (c.in-Err.ensures.fails row)
+    c.transaction-tx.ensures.begun c.transaction-tx.ensures.same_reference c.conn-in-Err-1.given c.rollback-in-Err.ensures.survives
+
+pub returns-in-Ok-Shows-clause-fails : goal.returns-in-Ok-Shows-clause-fails
+returns-in-Ok-Shows-clause-fails g c row = absurd ((rw c.in-Ok-Shows.field-0-is at c.in-Ok-Shows.ensures.still) row)
+
+pub returns-then-is_open-clause-fails : goal.returns-then-is_open-clause-fails
+returns-then-is_open-clause-fails g c row =
+    absurd (false≢true (sym ((rw c.in-Ok-Answered.field-0-is at c.in-Ok-Answered.ensures.still) row) ∙ c.if-not-done.false))
+
+pub returns-else-is_open-clause-fails : goal.returns-else-is_open-clause-fails
+returns-else-is_open-clause-fails g c row =
+    absurd (false≢true (sym ((rw c.in-Ok-Answered.field-0-is at c.in-Ok-Answered.ensures.still) row) ∙ c.if-not-done.false))

@@ -4,11 +4,19 @@ use Rattle.shop_schema.proofs.Common.{col, Query, Join, inner, left, end, Output
 use Rattle.shop_schema.proofs.Common.{Selects, answers, kept_as_map, number_tested, same_number, two_tested, joined_query, are_equal, or_blank, shown_of}
 use Rattle.shop_schema.proofs.Common.{left_pair, joined_rows, still_holds, Row, at, is_row, of, Books, BookCopy, head, shop_of, unmarked, row_at, shop_schema}
 use Rattle.shop_schema.proofs.Common.{copy_columns, out_columns, state_value, Out, is_out, counts_of, IsHeld, StandsFor, Holds, Reads, seen_state, CopyRows}
+use Rattle.shop_schema.proofs.Common.{AllByRecursion, subst, all-filter, all_map, all_weaker, IsRow, IsCopy, StoreFault, Failed}
 use Rattle.std.specs.Prelude.{option_map}
 use Rattle.sqlite_value.specs.Order as sql
 use Rattle.sqlite_tied.specs.Compute.{everything}
 use Rattle.sqlite.specs.Listing.{understood}
 use Rattle.sqlite.specs.State.{Shown}
+use Rattle.sql_rows.specs.Causes.{IsReadyInside, MetFaults, FailsToRead}
+use Rattle.sql_rows.proofs.QueryFaults.{IsFine, first_met, err_then}
+use Rattle.shop_schema.specs.Asked.{HoldsBooks}
+use Rattle.shop_schema.specs.RowValues.{IsNumber}
+use Rattle.shop_ledger.proofs.LeftFaults.{fine_left}
+use Rattle.shop_ledger.proofs.LedgerFaults.{outs_numbers}
+use Rattle.shop_store.specs.Asked.{ShowsNow}
 use Rattle.shop_schema.proofs.Lists.{picks_row}
 use Rattle.shop_schema.proofs.OneRow.{same_value}
 use Rattle.shop_schema.proofs.ShopTables.{state_is}
@@ -164,10 +172,48 @@ module _ (old new : State) (b n : ℕ) (rows slice : List sql.Row)
         (still books holds, (told.0 ∙ in_shop books held, told.1 ∙ outs_numbered b n books held)),
   )
 
-pub returns : goal.returns
-returns g c =
+-- ---- no row that is shown is refused
+
+now_fine : (b n : ℕ) → IsFine shop_schema SELECT_NOW.now now_query (number_value b ∷ number_value n ∷ [])
+unfolding understood everything
+now_fine b n = fine_left _ _ _ _ _ _ now_means (refl, refl, refl) refl
+
+rental_shown : (outs : List Out) → AllByRecursion (λ (o : Out). IsNumber o.rental) outs
+    → (out : Option ℕ) × IfSome out IsNumber × (or_null (λ (o : Out). number_value o.rental) (head outs) ≡ or_null number_value out)
+rental_shown [] all = (None, tt, refl)
+rental_shown (o ∷ more) all = (Some o.rental, all.0, refl)
+
+shows_so : (outs : List Out) → AllByRecursion (λ (o : Out). IsNumber o.rental) outs → (c : Row BookCopy) → IsRow IsCopy c → ShowsNow (shown_with outs c)
+shows_so outs all c fits =
+    let seen = state_is c.it.state in
+    let out = rental_shown outs all in
+    (c.it.film, seen.0, out.0, fits.2.0, out.1, λ i. number_value c.it.film ∷ state_value (sym seen.1 i) ∷ out.2 i ∷ [])
+
+met : {Fails : sql.Row → StoreFault → Type 0} (old new : State) (b n : ℕ)
+    → ((row : sql.Row) (fault : StoreFault) → Fails row fault → fault ≡ Failed → ¬ ShowsNow row) → IsReadyInside old → HoldsBooks old
+    → (fault : StoreFault) → FailsToRead Fails SELECT_NOW.now (number_value b ∷ number_value n ∷ []) old new fault → fault ≡ Failed → MetFaults old new
+met old new b n refuses ready it =
+    let books = it.0 in
+    let found = filter (is_row b n) books.copies in
+    let outs = filter (is_out b n) (counts_of books).outs in
+    let numbers = all-filter (λ (o : Out). IsNumber o.rental) (is_out b n) (counts_of books).outs (outs_numbers books it.2) in
+    first_met ShowsNow shop_schema SELECT_NOW.now now_query (number_value b ∷ number_value n ∷ []) (now_fine b n) old new it.1.schema_is refuses
+    (λ rows h.
+    subst (AllByRecursion ShowsNow) (sym (shows_now old new b n rows rows h refl books it.1 it.2))
+    (all_map ShowsNow (shown_with outs) found
+    (all_weaker (IsRow IsCopy) _ (shows_so outs numbers) found (all-filter (IsRow IsCopy) (is_row b n) books.copies (it.2.values.rows CopyRows)))))
+    ready
+
+pub returns-clause-does : goal.returns-clause-does
+returns-clause-does g c =
     does_first _ _ c.query_first.ensures.inside
     (rw (c.to_sql.ensures, c.get.ensures.value, c.to_sql-2.ensures, c.get-2.ensures.value) at c.query_first.ensures.shown)
     (λ rows these.
     let read = reads _ _ c.args.branch c.args.number rows rows these refl in
     (read.0, λ row it some says. read.1 row it some (search rules)))
+
+pub returns-clause-fails : goal.returns-clause-fails
+returns-clause-fails g c clean ready holds =
+    err_then c.query_first.result _ _
+    (rw (c.to_sql.ensures, c.get.ensures.value, c.to_sql-2.ensures, c.get-2.ensures.value) at (c.query_first.ensures.told clean))
+    (met _ _ c.args.branch c.args.number (λ row fault says failed. search rules) ready holds)

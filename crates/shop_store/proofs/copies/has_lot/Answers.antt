@@ -22,5 +22,5 @@ reads old new b name rows h books holds held =
 
 pub returns : goal.returns
 returns g c =
-    tells _ _ (rw (c.to_sql.ensures, c.get.ensures.value, c.to_sql-2.ensures, c.as_str.ensures.value) at c.shows_row.ensures)
+    tells _ _ (rw (c.to_sql.ensures, c.get.ensures.value, c.to_sql-2.ensures, c.as_str.ensures.value) at c.shows_row.ensures.does)
     (reads _ _ c.args.branch c.args.lot.now)

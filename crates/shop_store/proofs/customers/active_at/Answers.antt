@@ -1,6 +1,9 @@
 use Rattle.shop_schema.proofs.Common.{map, filter, Some, None, sym, ap, ◌∙◌, rules, slice_get, State, Selects, plain_query, same_flag, projects_one}
 use Rattle.shop_schema.proofs.Common.{still_holds, at, is_row, of, Customer, Books, head, map_at, row_at, shop_schema, customer_columns, IsHeld, StandsFor}
-use Rattle.shop_schema.proofs.Common.{Holds, Customers}
+use Rattle.shop_schema.proofs.Common.{Holds, Customers, subst, AllByRecursion, all_map, all_of, StoreFault, Failed}
+use Rattle.sql_rows.specs.Causes.{IsReadyInside, MetFaults, FailsToRead}
+use Rattle.sql_rows.proofs.QueryFaults.{IsFine, fine_plain, first_met, err_then}
+use Rattle.shop_schema.specs.Asked.{HoldsBooks, ShowsFlag}
 use Rattle.sqlite_value.specs.Order as sql
 use Rattle.shop_schema.proofs.FirstRows.{first_none, first_some}
 use Rattle.shop_schema.proofs.Lists.{picks_row}
@@ -56,10 +59,32 @@ module _ (old new : State) (b n : ℕ) (rows slice : List sql.Row)
     ),
   )
 
-pub returns : goal.returns
-returns g c =
+active_fine : (b n : ℕ) → IsFine shop_schema SELECT_ACTIVE.now (plain_query customer_tree of_two (col 1 9 ∷ []) []) (number_value b ∷ number_value n ∷ [])
+unfolding understood everything
+active_fine b n = fine_plain customer_tree of_two (col 1 9 ∷ []) [] active_means (refl, refl, refl) refl
+
+met : {Fails : sql.Row → StoreFault → Type 0} (old new : State) (b n : ℕ)
+    → ((row : sql.Row) (fault : StoreFault) → Fails row fault → fault ≡ Failed → ¬ ShowsFlag row) → IsReadyInside old → HoldsBooks old
+    → (fault : StoreFault) → FailsToRead Fails SELECT_ACTIVE.now (number_value b ∷ number_value n ∷ []) old new fault → fault ≡ Failed → MetFaults old new
+met old new b n refuses ready it =
+    first_met ShowsFlag shop_schema SELECT_ACTIVE.now _ (number_value b ∷ number_value n ∷ []) (active_fine b n) old new it.1.schema_is refuses
+    (λ rows h.
+    let found = filter (is_row b n) it.0.customers in
+    let shows : Row Customer → sql.Row = λ c. flag_value c.it.active ∷ [] in
+    subst (AllByRecursion ShowsFlag) (sym (shows_active old new b n rows rows h refl it.0 it.1 it.2))
+    (all_map ShowsFlag shows found (all_of (λ c. ShowsFlag (shows c)) (λ c. (c.it.active, refl)) found)))
+    ready
+
+pub returns-clause-does : goal.returns-clause-does
+returns-clause-does g c =
     does_first _ _ c.query_first.ensures.inside
     (rw (c.to_sql.ensures, c.get.ensures.value, c.to_sql-2.ensures, c.get-2.ensures.value) at c.query_first.ensures.shown)
     (λ rows these.
     let read = reads _ _ c.args.branch c.args.number rows rows these refl in
     (read.0, λ row it some says. read.1 row it some (search rules)))
+
+pub returns-clause-fails : goal.returns-clause-fails
+returns-clause-fails g c clean ready holds =
+    err_then c.query_first.result _ _
+    (rw (c.to_sql.ensures, c.get.ensures.value, c.to_sql-2.ensures, c.get-2.ensures.value) at (c.query_first.ensures.told clean))
+    (met _ _ c.args.branch c.args.number (λ row fault says failed. search rules) ready holds)

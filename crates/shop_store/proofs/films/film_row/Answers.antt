@@ -1,7 +1,14 @@
 use Rattle.shop_schema.proofs.Common.{at_one, inl, inr, ◌≡◌, ◌≤◌, ℕ, List, [], ◌∷◌, map, length, refl, ap, ◌∙◌, arith, option_to_list, IfSome, AllByRecursion}
 use Rattle.shop_schema.proofs.Common.{State, number_value, at, Film, film_columns, IsFilm, IsShared, Reads, cols, Selects, shop_schema}
 use Rattle.std.specs.Prelude.{Option, Some, None, take, option_map}
+use Rattle.shop_schema.proofs.Common.{StoreFault, Failed, nat_tests}
 use Rattle.sqlite_value.specs.Order as sql
+use Rattle.sql_rows.specs.Causes.{IsReadyInside, MetFaults, FailsToRead}
+use Rattle.sql_rows.proofs.QueryFaults.{err_then}
+use Rattle.shop_schema.specs.Asked.{HoldsBooks}
+use Rattle.shop_schema.specs.RowValues.{IsNumber}
+use Rattle.shop_store.specs.Asked.{IsNoneOf}
+use Rattle.shop_store.proofs.FindFaults.{IsSomeOf, shared_met}
 use Rattle.sqlite_tied.specs.Compute.{everything}
 use Rattle.sqlite.specs.Listing.{understood}
 use Rattle.sqlite.specs.State.{Shown}
@@ -54,7 +61,23 @@ reads old new n rows o h low read fit = λ books holds held.
       film_of n o (at n films_are) (at_short n films_are) fit (all_at IsFilm n films_are held.values.catalogue.films.1) (read ∙ ap (take 1) found),
     )
 
-pub returns : goal.returns
-returns g c =
+met : (old new : State) (n : ℕ) → 1 ≤ n → IsNumber n → IsReadyInside old → HoldsBooks old → (fault : StoreFault)
+    → FailsToRead (λ row e. e ≡ Failed → IsNoneOf (IsShared IsFilm) film_columns row) SELECT_FILM.now (number_value n ∷ []) old new fault
+    → fault ≡ Failed → MetFaults old new
+unfolding understood everything
+met old new n low number =
+    shared_met films SELECT_FILM.now (cols 1 1 12) select_row_means (λ vs. vs) select_row_shows (refl, refl, refl) (λ m. refl)
+    IsFilm (λ books held. held.values.catalogue.films.1) (IsSomeOf (IsShared IsFilm) film_columns) old new n low
+    (λ books x fits. ((n, x), (number, fits), refl))
+    (λ row fault fails failed is. fails failed is.0 is.1 is.2)
+
+pub returns-clause-does : goal.returns-clause-does
+returns-clause-does g c =
     does_so c.query_one.ensures.inside (rw (c.to_sql.ensures, c.get.ensures.value) at c.query_one.ensures.shown)
     (λ o it. reads _ _ c.args.number it.0 o it.1 (omega arith) it.2 it.3)
+
+pub returns-clause-fails : goal.returns-clause-fails
+returns-clause-fails g c clean ready holds =
+    let number : IsNumber c.args.number = grind (arith, nat_tests) in
+    err_then c.query_one.result _ _ (rw (c.to_sql.ensures, c.get.ensures.value) at (c.query_one.ensures.told clean))
+    (met _ _ c.args.number (omega arith) number ready holds)

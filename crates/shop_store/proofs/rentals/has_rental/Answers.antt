@@ -88,5 +88,5 @@ returns g c =
       c.to_sql-4.ensures,
       c.get-3.ensures.value,
     )
-    at c.shows_row.ensures in
+    at c.shows_row.ensures.does in
     tells _ _ shown (reads _ _ c.args.branch c.args.rented c.args.copy c.args.customer c.text-real.ensures.kind)

@@ -20,5 +20,5 @@ reads old new film actor =
 
 pub returns : goal.returns
 returns g c =
-    tells _ _ (rw (c.to_sql.ensures, c.get.ensures.value, c.to_sql-2.ensures, c.get-2.ensures.value) at c.shows_row.ensures)
+    tells _ _ (rw (c.to_sql.ensures, c.get.ensures.value, c.to_sql-2.ensures, c.get-2.ensures.value) at c.shows_row.ensures.does)
     (reads _ _ c.args.film c.args.actor)

@@ -12,4 +12,4 @@ reads =
     (λ it. it.token) (λ books it. refl) (λ n r. refl)
 
 pub returns : goal.returns
-returns g c = tells _ _ (rw (c.to_sql.ensures, c.token_text.ensures) at c.shows_row.ensures) (reads _ _ c.args.token.now)
+returns g c = tells _ _ (rw (c.to_sql.ensures, c.token_text.ensures) at c.shows_row.ensures.does) (reads _ _ c.args.token.now)

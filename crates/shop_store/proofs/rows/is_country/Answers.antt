@@ -7,4 +7,4 @@ unfolding understood everything
 reads = reads_name countries _ (record { names = _; is = refl; plain = (refl, refl); unlisted = refl }) (λ books it. refl) (λ n r. refl)
 
 pub returns : goal.returns
-returns g c = tells _ _ (rw c.to_sql.ensures at c.shows_row.ensures) (reads _ _ c.args.name.now)
+returns g c = tells _ _ (rw c.to_sql.ensures at c.shows_row.ensures.does) (reads _ _ c.args.name.now)

@@ -3,7 +3,13 @@ use Rattle.shop_schema.proofs.Common.{AllByRecursion, map-id, Null, column, asce
 use Rattle.shop_schema.proofs.Common.{overlay, State, map-map, IsPermutation-same, columns_of, number_value, number_tested, two_tested, joined_query, are_equal}
 use Rattle.shop_schema.proofs.Common.{or_blank, shown_of, left_pair, joined_rows, still_holds, Selects, answers, kept_as_map, Row, at, is_row, of, Rental}
 use Rattle.shop_schema.proofs.Common.{Terms, Books, shop_of, termed, row_at, shop_schema, rental_columns, terms_columns, IsHeld, StandsFor, Holds, Reads}
-use Rattle.shop_schema.proofs.Common.{Rentals, TermRows}
+use Rattle.shop_schema.proofs.Common.{Rentals, TermRows, all-filter, StoreFault, Failed}
+use Rattle.sql_rows.specs.Causes.{IsReadyInside, MetFaults, FailsToReadAll}
+use Rattle.sql_rows.proofs.QueryFaults.{IsFine, err_then}
+use Rattle.shop_schema.specs.Asked.{HoldsBooks}
+use Rattle.shop_ledger.proofs.LeftFaults.{fine_left}
+use Rattle.shop_store.specs.Asked.{IsNoneOf}
+use Rattle.shop_store.proofs.FindFaults.{all_fit}
 use Rattle.sqlite_tied.specs.Compute.{everything}
 use Rattle.sqlite.specs.Listing.{understood}
 use Rattle.sqlite.specs.State.{Shown}
@@ -13,7 +19,7 @@ use Rattle.shop_ledger.proofs.Rising.{of_which, which_rise}
 use Rattle.shop_store.specs.declared.termed.TheConstants.{SELECT_TERMED}
 use Rattle.shop_store.specs.declared.termed.TermedRental.{TermedRental}
 use Rattle.shop_store.specs.Seen.{seen_termed, termed_columns, IsTermed}
-use Rattle.shop_store.proofs.WithTerms.{rental_shown, shown_first, rentals_climb, termed_rows, termed_told}
+use Rattle.shop_store.proofs.WithTerms.{termed_fit, rental_shown, shown_first, rentals_climb, termed_rows, termed_told}
 use Rattle.sqlite_value.specs.Order as sql
 use Rattle.shop_ledger.proofs.Doing.{does_so}
 use Rattle.shop_store.proofs.termed.termed_of_customer.Goals as goal
@@ -121,7 +127,31 @@ reads old new b n rows all h read kinds = λ books holds held. (
       (held.numbers.rows Rentals b) (held.termed b)),
 )
 
-pub returns : goal.returns
-returns g c =
+termed_fine : (b n : ℕ) → IsFine shop_schema SELECT_TERMED.now termed_query (number_value b ∷ number_value n ∷ [])
+unfolding understood everything
+termed_fine b n = fine_left _ _ _ _ _ _ termed_means (refl, refl, refl) refl
+
+met : (old new : State) (b n : ℕ) → IsReadyInside old → HoldsBooks old → (fault : StoreFault)
+    → FailsToReadAll (IsNoneOf IsTermed termed_columns) SELECT_TERMED.now (number_value b ∷ number_value n ∷ []) old new fault
+    → fault ≡ Failed → MetFaults old new
+met old new b n ready it =
+    let books = it.0 in
+    let his : Rental × Terms → Bool = λ pair. pair.0.customer == n in
+    all_fit IsTermed termed_columns SELECT_TERMED.now termed_query (number_value b ∷ number_value n ∷ []) (termed_fine b n) old new it
+    (λ rows h. (
+      filter his (termed (shop_of b books)),
+      all-filter IsTermed his (termed (shop_of b books)) (termed_fit b books it.2),
+      shows_termed old new b n rows books it.1 it.2 h
+          ∙ termed_rows b (λ (it : Rental). it.customer == n) books.terms (shown_of_row books.terms) termed_columns
+          (termed_alike b books.terms) books.rentals [] (of b books.terms) refl (it.2.numbers.rows Rentals b) (it.2.termed b),
+    )) ready
+
+pub returns-clause-does : goal.returns-clause-does
+returns-clause-does g c =
     does_so c.query_all.ensures.inside (rw (c.to_sql.ensures, c.get.ensures.value, c.to_sql-2.ensures, c.get-2.ensures.value) at c.query_all.ensures.shown)
     (λ all it. reads _ _ c.args.branch c.args.customer it.0 all.items it.1 it.2 it.3)
+
+pub returns-clause-fails : goal.returns-clause-fails
+returns-clause-fails g c clean ready holds =
+    err_then c.query_all.result _ _ (rw (c.to_sql.ensures, c.get.ensures.value, c.to_sql-2.ensures, c.get-2.ensures.value) at (c.query_all.ensures.told clean))
+    (met _ _ c.args.branch c.args.customer ready holds)

@@ -19,3 +19,6 @@ returns-in-Ok-clause-made c =
         left = λ failed. absurd (false≢true failed);
       },
     )
+
+pub returns-in-Ok-clause-well : goal.returns-in-Ok-clause-well
+returns-in-Ok-clause-well c = rw c.over.ensures (record { works = refl; ready = c.in-Ok.ensures.ready })

@@ -6,9 +6,11 @@ use Rattle.chain_requests.specs.Holding.{Chained}
 use Rattle.chain_requests.specs.Chains.{Takes, Answers}
 use Rattle.chain_requests.specs.Steps.{IsHeldBy, IsKnownFor, asker, asked_of}
 use Rattle.chain_requests.specs.Decisions.{refusal_for, is_final}
+use Rattle.chain_requests.specs.Wells.{RestsOnBooks, StaysWell}
+use Rattle.chain_requests.proofs.Wells.{at_rest, well_after}
 use Rattle.chain_requests.proofs.Requests.{made, unmade}
 use Rattle.chain_requests.proofs.Failures.{decision_fine}
-use Rattle.chain_engine.proofs.Failing.{fails_by, same_failed}
+use Rattle.chain_engine.proofs.Failing.{fails_by, same_failed, refused_well}
 use Rattle.chain_engine.proofs.chain.Chain.answer_asked.Goals as goal
 
 pub returns-in-Ok-clause-taken : goal.returns-in-Ok-clause-taken
@@ -77,3 +79,21 @@ returns-in-Err-clause-fails g c =
     let tells = c.refused.ensures ∙ ap (λ r. problem_answer (seen_refusal r)) c.refusal.ensures.told in
     same_failed c.refusal.ensures.failed
     ∙ fails_by c.self.inside.is_failed c.in-Err.fault (λ was. absurd (false≢true (sym fine ∙ was))) ∙ sym (ap is_store_failure tells)
+
+pub returns-in-Ok-clause-well : goal.returns-in-Ok-clause-well
+returns-in-Ok-clause-well g c row =
+    let inside = c.self.inside in
+    let old : Chained _ = record { limits = inside.limits; is_failed = inside.is_failed; films = inside.films; callers = inside.callers; conn = inside.conn } in
+    let new : Chained _ = record {
+      limits = inside.limits;
+      is_failed = inside.is_failed;
+      films = c.step.new.films;
+      callers = inside.callers;
+      conn = c.step.new.conn;
+    } in
+    subst (λ (x : Chained _). StaysWell g.S.Store x new) c.self.view_is (well_after g.S.Store old new c.in-Ok.ensures.crash refl)
+
+pub returns-in-Err-clause-well : goal.returns-in-Err-clause-well
+returns-in-Err-clause-well g c row =
+    refused_well g.S.Store _ _ _ c.clear.new.self c.step.new.conn c.in-Err.fault c.self.view_is c.refusal.ensures.failed RestsOnBooks c.in-Err.ensures.crash
+    (λ books besides at well. at_rest g.S.Store _ books besides at well.works) (λ works. c.in-Err.ensures.fails row)

@@ -1,6 +1,7 @@
 use Rattle.shop_schema.proofs.Common.{◌∙◌, ap, sym, inr, caller_in, seen_refusal, seen_request, is_store_failure}
 use Rattle.chain_requests.specs.Chains.{event_of}
 use Rattle.chain_requests.proofs.Requests.{event_answered, store_refuses, refused_takes}
+use Rattle.chain_requests.proofs.Wells.{well_then}
 use Rattle.chain_requests.proofs.Taking.{takes_then}
 use Rattle.chain_engine.proofs.chain.Chain.answer_with.Goals as goal
 
@@ -20,3 +21,11 @@ returns-in-Err-clause-told g c = inr (seen_refusal c.in-Err.refusal, c.refused.e
 
 pub returns-in-Err-clause-fails : goal.returns-in-Err-clause-fails
 returns-in-Err-clause-fails g c = c.in-Err.ensures.fails ∙ sym (ap is_store_failure c.refused.ensures)
+
+pub returns-in-Ok-clause-well : goal.returns-in-Ok-clause-well
+returns-in-Ok-clause-well g c row =
+    well_then g.S.Store c.args.self.now c.caller.new.self c.answer.new.self c.answer.ensures.taken.clean
+    (λ now books besides at. let it = c.in-Ok.ensures.taken.goes now books besides at in (it.0, it.1, it.3)) c.in-Ok.ensures.well (c.answer.ensures.well row)
+
+pub returns-in-Err-clause-well : goal.returns-in-Err-clause-well
+returns-in-Err-clause-well g c row = c.in-Err.ensures.well

@@ -1,10 +1,12 @@
-use Rattle.shop_schema.proofs.Common.{◌≡◌, ◌∙◌, refl, ap, subst, arith, Ok, Err, state, Failed}
+use Rattle.shop_schema.proofs.Common.{◌≡◌, ◌∙◌, refl, ap, subst, arith, Ok, Err, state, Failed, IsShop}
 use Rattle.chain_requests.specs.Holding.{Chained}
 use Rattle.chain_requests.specs.Chains.{Takes}
 use Rattle.chain_requests.specs.Audits.{AuditsState}
 use Rattle.chain_requests.specs.Decisions.{FindsAudit}
+use Rattle.chain_requests.specs.Wells.{StaysWell}
+use Rattle.chain_requests.proofs.Wells.{at_shop, well_after}
 use Rattle.chain_requests.proofs.Requests.{audited}
-use Rattle.chain_engine.proofs.Failing.{is_live, leaves_no_more, stays_refused, look_refused, refused_fails, refused_leaves}
+use Rattle.chain_engine.proofs.Failing.{is_live, leaves_no_more, stays_refused, look_refused, refused_fails, refused_leaves, refused_well}
 use Rattle.chain_engine.proofs.chain.Chain.audit.Goals as goal
 
 pub returns-in-Ok-clause-told : goal.returns-in-Ok-clause-told
@@ -51,3 +53,22 @@ returns-in-Ok-clause-fails g c = is_live c.self.inside.is_failed c.in-Ok.audit F
 pub returns-in-Err-clause-fails : goal.returns-in-Err-clause-fails
 returns-in-Err-clause-fails g c =
     rw c.refusal.ensures.told (refused_fails g.S.Store _ _ _ c.audit_unless_failed.new.conn _ c.self.view_is c.refusal.ensures.failed c.in-Err.ensures.failed)
+
+pub returns-in-Ok-clause-well : goal.returns-in-Ok-clause-well
+returns-in-Ok-clause-well g c =
+    let inside = c.self.inside in
+    let old : Chained _ = record { limits = inside.limits; is_failed = inside.is_failed; films = inside.films; callers = inside.callers; conn = inside.conn } in
+    let new : Chained _ = record {
+      limits = inside.limits;
+      is_failed = inside.is_failed;
+      films = inside.films;
+      callers = inside.callers;
+      conn = c.audit_unless_failed.new.conn;
+    } in
+    subst (λ (x : Chained _). StaysWell g.S.Store x new) c.self.view_is (well_after g.S.Store old new c.in-Ok.ensures.crash refl)
+
+pub returns-in-Err-clause-well : goal.returns-in-Err-clause-well
+returns-in-Err-clause-well g c =
+    refused_well g.S.Store _ _ _ c.self.inside.films c.audit_unless_failed.new.conn c.in-Err.fault c.self.view_is c.refusal.ensures.failed
+    IsShop c.in-Err.ensures.crash
+    (λ books besides at well. at_shop g.S.Store _ books besides at well) c.in-Err.ensures.fails

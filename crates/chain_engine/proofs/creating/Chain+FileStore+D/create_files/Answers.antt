@@ -1,9 +1,10 @@
-use Rattle.shop_schema.proofs.Common.{arith, inr, refl, subst, file_state, HasCleanDisk, empty_sound, first_books, HoldsOne}
+use Rattle.shop_schema.proofs.Common.{[], false, arith, inr, refl, subst, file_state, HasCleanDisk, empty_sound, first_books, HoldsOne}
 use Rattle.chain_requests.specs.Chains.{widest_rules}
 use Rattle.chain_files.proofs.Opening.{opened_at}
 use Rattle.shop_schema.specs.Shop.{StandsFor}
 use Rattle.sql_files.proofs.Found.{holds_no_table, holds_a_table, none_or_new}
 use Rattle.chain_files.proofs.NewFiles.{stopped_by}
+use Rattle.chain_files.proofs.Opened.{opened_well}
 use Rattle.chain_engine.proofs.Results.{refused_by}
 use Rattle.chain_engine.proofs.creating.Chain+FileStore+D.create_files.Goals as goal
 
@@ -56,3 +57,9 @@ returns-in-Err-clause-refused g c =
       version = c.in-Err.ensures.version;
       damaged = c.in-Err.ensures.damaged;
     }
+
+pub returns-in-Ok-clause-well : goal.returns-in-Ok-clause-well
+returns-in-Ok-clause-well g c =
+    rw c.over.ensures (opened_well c.in_ok-conn.conn
+    (record { limits = c.args.limits; is_failed = false; films = []; callers = []; conn = c.create.new.conn }) c.create.ensures.crash
+    c.in_ok-conn.ensures.opened c.in_ok-conn.ensures.fresh refl)

@@ -1,8 +1,9 @@
-use Rattle.shop_schema.proofs.Common.{inl, inr, refl, arith, ∥∥₁_map, file_state, HasCleanDisk}
+use Rattle.shop_schema.proofs.Common.{[], false, inl, inr, refl, arith, ∥∥₁_map, file_state, HasCleanDisk}
 use Rattle.sqlite_wal.specs.Reads.{AreClean}
 use Rattle.sql_files.proofs.Found.{shows_what_is_found, left_as_found}
 use Rattle.chain_files.proofs.Opening.{found_rests, kept_rests, either_rests, sound_rests, opened_at, holds_no_chain, holds_sound}
 use Rattle.chain_files.proofs.Opening.{holds_damage, has_this_version, has_no_version, has_other_version, still_books, still_either, unopened_by}
+use Rattle.chain_files.proofs.Opened.{opened_well}
 use Rattle.chain_engine.proofs.Results.{refused_by}
 use Rattle.chain_engine.proofs.files.Chain+FileStore+D.open_files.Goals as goal
 
@@ -82,3 +83,9 @@ returns-in-Err-clause-refused g c =
           inr (still_either conn c.args.files (opened clean) (found clean) stays back.result (same honest) books besides keeps);
       already = c.in-Err.ensures.already;
     }
+
+pub returns-in-Ok-clause-well : goal.returns-in-Ok-clause-well
+returns-in-Ok-clause-well g c =
+    rw c.over.ensures (opened_well c.in_ok-conn.conn
+    (record { limits = c.args.limits; is_failed = false; films = []; callers = []; conn = c.examine.new.conn }) c.examine.ensures.crash
+    c.in_ok-conn.ensures.opened c.in_ok-conn.ensures.fresh refl)

@@ -1,10 +1,11 @@
-use Rattle.shop_schema.proofs.Common.{inr, refl, arith, file_state, HasCleanDisk, migrated, migrated_sound}
+use Rattle.shop_schema.proofs.Common.{[], false, inr, refl, arith, file_state, HasCleanDisk, migrated, migrated_sound}
 use Rattle.shop_schema.proofs.Values.{migrated_values}
 use Rattle.chain_requests.specs.Chains.{widest_rules}
 use Rattle.sql_files.proofs.Found.{shows_what_is_found}
 use Rattle.chain_files.proofs.Opening.{opened_at, has_this_version, tells_version}
 use Rattle.chain_files.proofs.OldFiles.{keeps_in_either, is_version_1, has_version_1, holds_version_1_damage, holds_version_1_soundly, tells_first}
 use Rattle.chain_files.proofs.OldFiles.{holds_neither, has_neither_version, stands_as_found, stands_as_kept, left_or_migrated, left_in_either, unmigrated_by}
+use Rattle.chain_files.proofs.Opened.{opened_well}
 use Rattle.chain_engine.proofs.Results.{refused_by}
 use Rattle.chain_engine.proofs.migrating.Chain+FileStore+D.migrate_files.Goals as goal
 
@@ -92,3 +93,9 @@ returns-in-Err-clause-refused g c =
           inr (left_in_either conn files (opened clean) (found clean) stays c.migrate_first.new.conn
           back.result c.migrate_first.ensures.crash clean (back.ensures.left honest) books keeps);
     }
+
+pub returns-in-Ok-clause-well : goal.returns-in-Ok-clause-well
+returns-in-Ok-clause-well g c =
+    rw c.over.ensures (opened_well c.in_ok-conn.conn
+    (record { limits = c.args.limits; is_failed = false; films = []; callers = []; conn = c.migrate_first.new.conn }) c.migrate_first.ensures.crash
+    c.in_ok-conn.ensures.opened c.in_ok-conn.ensures.fresh refl)
