@@ -1,4 +1,3 @@
 pub mod NumberLemmas
 pub mod OfficeIsSimple
-pub mod TableLemmas
 pub mod WorkedLines

@@ -14,7 +14,8 @@ use Rattle.shop_types.specs.declared.request.OfficeAsk.{OfficeAsk}
 use Rattle.shop_types.specs.declared.request.OfficeAsk.TheVariants.{Sales, Custody, Transit, Audit}
 use Rattle.shop_types.specs.declared.line.LineAct.{LineAct}
 use Rattle.shop_types.specs.declared.line.LineAct.TheVariants as act
-use Rattle.office_words.specs.Given.{with_value, text_given, key_given, token_given, rating_given, features_given, rule_given}
+use Rattle.office_words.specs.Given.{key_given, rating_given, features_given, rule_given}
+use Rattle.word_tables.specs.Given.{with_value, text_given, token_given}
 use Rattle.office_words.specs.declared.acts.FilmFacts.{FilmFacts}
 use Rattle.office_words.specs.declared.acts.Contact.{Contact}
 use Rattle.office_words.specs.Given.{number_given, row_given, rate_given, replacement_given, period_given, minutes_given}

@@ -1,40 +1,12 @@
 -- The command line of head office, as the library `clap` sees it: `[--db FILE] SUBCOMMAND [OPTION]..`, without the program's name.
-use Rattle.std.specs.Prelude.{ℕ, Bool, true, List, [], ◌∷◌, ◌++◌, Some, codes, fold}
+use Rattle.std.specs.Prelude.{Bool, true, List, [], ◌∷◌, ◌++◌, codes, fold}
 use Rattle.std.specs.List.{list_any}
 use Rattle.std.specs.Str.{bytes_eq}
-use Rattle.clap.specs.Words.{App, Rule, Shape, Text, new_rule, with_subcommand}
+use Rattle.clap.specs.Words.{App, Rule, Shape, Text, with_subcommand}
 use Rattle.clap.specs.Simple.{new_shape}
-use Rattle.clap.specs.declared.builder.value_parser.ValueParser.TheVariants as parser
+use Rattle.word_tables.specs.Rules.{optional_rule, text_rule, default_rule, number_rule, optional_number_rule, default_number_rule, row_rule, word_shape}
 
 -- ---- options
-
--- `--NAME TEXT`, which may be left out
-abbrev pub optional_rule : Text → Rule
-optional_rule name = record (new_rule name) { long = Some name }
-
--- `--NAME TEXT`, which must be there
-abbrev pub text_rule : Text → Rule
-text_rule name = record (new_rule name) { long = Some name; required = true }
-
--- `--NAME TEXT`, which has a default
-abbrev pub default_rule : Text → Text → Rule
-default_rule name value = record (optional_rule name) { defaults = value ∷ [] }
-
--- `--NAME NUMBER`, of this range, which must be there
-abbrev pub number_rule : Text → ℕ → ℕ → Rule
-number_rule name low high = record (text_rule name) { parser = Some (parser.Unsigned low high) }
-
--- `--NAME NUMBER`, of this range, which may be left out
-abbrev pub optional_number_rule : Text → ℕ → ℕ → Rule
-optional_number_rule name low high = record (optional_rule name) { parser = Some (parser.Unsigned low high) }
-
--- `--NAME NUMBER`, of this range, which has a default
-abbrev pub default_number_rule : Text → ℕ → ℕ → Text → Rule
-default_number_rule name low high value = record (optional_number_rule name low high) { defaults = value ∷ [] }
-
--- the number of a row
-abbrev pub row_rule : Text → Rule
-row_rule name = number_rule name 1 4_294_967_295
 
 -- the names of a person
 abbrev pub person_rules : List Rule
@@ -46,12 +18,9 @@ contact_rules = text_rule (codes "address") ∷ text_rule (codes "postal") ∷ t
 
 -- ---- subcommands
 
-abbrev pub subcommand_shape : Text → List Rule → Shape
-subcommand_shape name rules = record (new_shape name) { rules = rules }
-
 -- a subcommand that changes the catalogue: it has a key
 abbrev pub keyed_shape : Text → List Rule → Shape
-keyed_shape name rules = subcommand_shape name (text_rule (codes "key") ∷ rules)
+keyed_shape name rules = word_shape name (text_rule (codes "key") ∷ rules)
 
 -- a subcommand that adds what has a name alone
 abbrev pub named_shape : Text → Shape
@@ -105,29 +74,29 @@ abbrev pub balance_rule_shape : Shape
 balance_rule_shape = keyed_shape (codes "balance-rule") (text_rule (codes "rule") ∷ [])
 
 abbrev pub init_shape : Shape
-init_shape = subcommand_shape (codes "init") (text_rule (codes "token") ∷ [])
+init_shape = word_shape (codes "init") (text_rule (codes "token") ∷ [])
 
 abbrev pub migrate_shape : Shape
-migrate_shape = subcommand_shape (codes "migrate") []
+migrate_shape = word_shape (codes "migrate") []
 
 abbrev pub serve_shape : Shape
-serve_shape = subcommand_shape (codes "serve")
+serve_shape = word_shape (codes "serve")
     (number_rule (codes "port") 1 65_535 ∷ number_rule (codes "connections") 1 1_000_000 ∷ [])
 
 abbrev pub replay_shape : Shape
-replay_shape = subcommand_shape (codes "replay") []
+replay_shape = word_shape (codes "replay") []
 
 abbrev pub sales_shape : Shape
-sales_shape = subcommand_shape (codes "sales") []
+sales_shape = word_shape (codes "sales") []
 
 abbrev pub custody_shape : Shape
-custody_shape = subcommand_shape (codes "custody") (row_rule (codes "branch") ∷ row_rule (codes "copy") ∷ [])
+custody_shape = word_shape (codes "custody") (row_rule (codes "branch") ∷ row_rule (codes "copy") ∷ [])
 
 abbrev pub transit_shape : Shape
-transit_shape = subcommand_shape (codes "transit") []
+transit_shape = word_shape (codes "transit") []
 
 abbrev pub audit_shape : Shape
-audit_shape = subcommand_shape (codes "audit") []
+audit_shape = word_shape (codes "audit") []
 
 -- ---- the whole line
 

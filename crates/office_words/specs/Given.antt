@@ -1,45 +1,24 @@
 -- What the options of a subcommand say, each as a value of its kind. An option that is missing or isn't of its kind gives none.
-use Rattle.std.specs.Prelude.{◌≡◌, ℕ, ◌^◌, ◌&&◌, ◌==◌, List, Option, Some, None}
-use Rattle.std.specs.Prelude.{Result, Ok, Err, option_and_then, option_map, codes, find, [], ◌∷◌, if◌then◌else◌, nat_lt, nat_le}
+use Rattle.std.specs.Prelude.{ℕ, ◌^◌, ◌&&◌, ◌==◌, List, Option, Some, None}
+use Rattle.std.specs.Prelude.{option_map, codes, find, [], ◌∷◌, if◌then◌else◌, nat_lt, nat_le}
 use Rattle.std.specs.Str.{bytes_eq}
 use Rattle.std.specs.Str.Parse.{digits_value, without_leading_plus}
 use Rattle.clap.specs.ValueTests.{is_numeral}
-use Rattle.clap.specs.Words.{Row, Text, first_of, one_of, found_of, rows_of}
-use Rattle.clap.specs.declared.parser.matches.ArgMatches.{ArgMatches}
+use Rattle.clap.specs.Words.{Row, Text, first_of, one_of}
 use Rattle.shop_model.specs.OfficeActs.{rule_name}
-use Rattle.shop_types.specs.Texts.{is_text, is_key, is_token}
+use Rattle.shop_types.specs.Texts.{is_key}
 use Rattle.shop_types.specs.declared.film.Rating.{Rating}
 use Rattle.shop_types.specs.declared.film.Features.{Features}
 use Rattle.shop_types.specs.declared.rule.Rule.{Rule}
 use Rattle.shop_types.specs.declared.rule.Rule.TheVariants as rule
-use Rattle.shop_types.specs.declared.line.Usage.{Usage}
-use Rattle.shop_types.specs.declared.line.Usage.TheVariants as usage
 use Rattle.shop_types.specs.Films.{rating_of, features_of}
 use Rattle.shop_types.specs.Seen.{seen_rule}
-
--- the values of the options
-abbrev pub values_of : ArgMatches → List Row
-values_of matches = rows_of (found_of matches)
-
--- a reading gives the value if there is one, and fails if there is none; it may also fail when out of memory
-abbrev pub Reads : {A : Type 0} → Result A Usage → Option A → Type 0
-Reads (Ok value) found = found ≡ Some value
-Reads (Err e) found = ¬ (e ≡ usage.Memory) → found ≡ None
-
--- what the function makes of the value, if there is one
-abbrev pub with_value : {A B : Type 0} → Option A → (A → Option B) → Option B
-with_value found f = option_and_then f found
+use Rattle.word_tables.specs.Given.{with_value}
 
 -- ---- texts
 
-abbrev pub text_given : ℕ → ℕ → Text → List Row → Option Text
-text_given low high id rows = with_value (first_of id rows) (λ text. if is_text low high text then Some text else None)
-
 abbrev pub key_given : List Row → Option Text
 key_given rows = with_value (first_of (codes "key") rows) (λ text. if is_key text then Some text else None)
-
-abbrev pub token_given : List Row → Option Text
-token_given rows = with_value (first_of (codes "token") rows) (λ text. if is_token text then Some text else None)
 
 abbrev pub rating_given : List Row → Option Rating
 rating_given rows = with_value (first_of (codes "rating") rows) rating_of

@@ -4,7 +4,7 @@ use Rattle.clap.specs.Words.{Row, Text, first_of, matches_of, subcommand_of, fau
 use Rattle.clap.specs.Walk.{is_empty}
 use Rattle.shop_types.specs.Lines.{LineValue}
 use Rattle.office_words.specs.CommandLine.{office_app}
-use Rattle.office_words.specs.Given.{with_value}
+use Rattle.word_tables.specs.Given.{with_value}
 use Rattle.office_words.specs.Acts.{act_of}
 
 -- the values before the subcommand, its name and its values

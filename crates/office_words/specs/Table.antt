@@ -1,8 +1,7 @@
 -- What the program's own table of subcommands and options says to the library `clap`.
 use Rattle.std.specs.Prelude.{map}
-use Rattle.std.specs.Borrow.{Bor}
 use Rattle.clap.specs.Words.{Rule, Shape, Text}
-use Rattle.office_words.specs.CommandLine.{text_rule, default_rule, number_rule, optional_number_rule, default_number_rule, row_rule, subcommand_shape}
+use Rattle.word_tables.specs.Rules.{option_rule, text_rule, default_rule, number_rule, optional_number_rule, default_number_rule, row_rule, word_shape}
 use Rattle.office_words.specs.declared.options.Kind.{Kind}
 use Rattle.office_words.specs.declared.options.Kind.TheVariants as kind
 use Rattle.office_words.specs.declared.commands.Subcommand.{Subcommand}
@@ -16,10 +15,6 @@ kind_rule name (kind.OptionalNumber low high) = optional_number_rule name low hi
 kind_rule name (kind.DefaultNumber low high value) = default_number_rule name low high value.now
 kind_rule name kind.Row = row_rule name
 
--- an option of the table
-abbrev pub option_rule : Bor Text × Kind → Rule
-option_rule entry = kind_rule entry.0.now entry.1
-
 -- a subcommand of the table
 abbrev pub table_shape : Subcommand → Shape
-table_shape s = subcommand_shape s.name.now (map option_rule s.options.now)
+table_shape s = word_shape s.name.now (map (option_rule kind_rule) s.options.now)

@@ -1,5 +1,5 @@
 ghost use Rattle.std.specs.Prelude.{◌≡◌};
-ghost use Rattle.office_words.specs.Given.{values_of, Reads};
+ghost use Rattle.word_tables.specs.Given.{values_of, Reads};
 ghost use Rattle.office_words.specs.Acts.{city_of, actor_of, facts_of, film_of, contact_of, branch_of};
 ghost use Rattle.office_words.specs.Acts.{person_of, staff_of, plain_act_of, place_act_of, office_act_of, command_of, serve_of, custody_of, reading_of, act_of};
 
@@ -10,6 +10,7 @@ use shop_types::{
     Minutes, OfficeAct, OfficeAsk, OfficeCommand, Period, Person, Rate, Rating, Staff, T128, Usage,
 };
 use std::alloc::Global;
+use word_tables::unread;
 
 /// What is wrong with a name that no subcommand has.
 pub(crate) const NO_COMMAND: &str = "a subcommand has to be named; --help lists them";
@@ -162,7 +163,7 @@ fn plain_act(alloc: Global, name: &str, given: &ArgMatches<'_>) -> Result<Office
             staff: given::row(alloc, given, "staff")?,
         }),
         "balance-rule" => Ok(OfficeAct::Rule(given::rule(alloc, given)?)),
-        _ => Err(given::unread(alloc, NO_COMMAND)),
+        _ => Err(unread(alloc, NO_COMMAND)),
     }
 }
 

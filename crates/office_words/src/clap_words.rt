@@ -3,14 +3,15 @@ ghost use Rattle.clap.specs.Words.{found_of, rows_of, first_of, kind_of, fault_o
 ghost use Rattle.shop_types.specs.Lines.{seen_line};
 ghost use Rattle.shop_types.specs.declared.line.Usage.TheVariants as usage;
 ghost use Rattle.office_words.specs.CommandLine.{office_app};
-ghost use Rattle.office_words.specs.Given.{values_of};
+ghost use Rattle.word_tables.specs.Given.{values_of};
 ghost use Rattle.office_words.specs.Line.{line_of, line_from};
 
-use crate::{acts, commands, given};
+use crate::{acts, commands};
 use clap::error::ErrorKind;
 use clap::{ArgMatches, Error};
 use shop_types::{Line, OfficeWords, Usage};
 use std::alloc::Global;
+use word_tables::{owned, str_of, unread};
 
 /// Head office's words as `clap` reads them.
 #[derive(Clone, Copy)]
@@ -46,8 +47,8 @@ fn file(alloc: Global, given: &ArgMatches<'_>) -> Result<Option<String>, Usage>
     ensures ok { IfOk result (λ db. option_map string_bytes db ≡ first_of (codes "db") (values_of given.now)) }
     ensures memory { IfErr result (λ e. e ≡ usage.Memory) }
 {
-    match given::str_of(given, "db") {
-        Some(name) => Ok(Some(given::owned(alloc, name)?)),
+    match str_of(given, "db") {
+        Some(name) => Ok(Some(owned(alloc, name)?)),
         None => Ok(None),
     }
 }
@@ -81,7 +82,7 @@ pub fn read_words(alloc: Global, words: &[String]) -> Result<Line, Usage>
         Err(error) => return Err(refused(alloc, &error)),
     };
     let Some((name, inner)) = matches.subcommand() else {
-        return Err(given::unread(alloc, acts::NO_COMMAND));
+        return Err(unread(alloc, acts::NO_COMMAND));
     };
     line(alloc, &matches, name, inner)
 }

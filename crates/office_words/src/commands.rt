@@ -7,9 +7,10 @@ ghost use Rattle.office_words.specs.CommandLine as line;
 ghost use Rattle.office_words.specs.CommandLine.{is_reading};
 ghost use Rattle.office_words.specs.Table.{table_shape};
 
-use crate::options::{Kind, optional, with_options};
+use crate::options::Kind;
 use clap::Command;
 use std::alloc::{AllocError, Global};
+use word_tables::{optional, with_options};
 
 /// A subcommand: its name and its options.
 #[derive(Clone, Copy)]

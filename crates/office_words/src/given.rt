@@ -1,7 +1,8 @@
 ghost use Rattle.std.specs.Prelude.{◌≡◌, Some, None, IfOk, IfErr, option_map, string_bytes, codes};
 ghost use Rattle.clap.specs.Words.{first_of};
 ghost use Rattle.shop_types.specs.declared.line.Usage.TheVariants as usage;
-ghost use Rattle.office_words.specs.Given.{values_of, Reads, text_given, key_given, token_given, rating_given, features_given, rule_of, rule_given};
+ghost use Rattle.office_words.specs.Given.{key_given, rating_given, features_given, rule_of, rule_given};
+ghost use Rattle.word_tables.specs.Given.{values_of, Reads, text_given, token_given};
 ghost use Rattle.office_words.specs.Given.{number_given, row_given, rate_given, replacement_given, period_given, minutes_given};
 
 use clap::ArgMatches;
@@ -9,6 +10,7 @@ use shop_types::{
     Amount, Features, Key, Minutes, Period, Rate, Rating, RowNumber, Rule, Text, Token, Usage,
 };
 use std::alloc::Global;
+use word_tables::{owned, str_of};
 
 // ---- what the options take, as their errors say it
 
@@ -32,14 +34,6 @@ const REPLACEMENT: &str = "a price in cents, 0 to 99999";
 const PERIOD: &str = "days, 1 to 255";
 
 const LENGTH: &str = "minutes, 1 to 65535";
-
-/// Makes the error of words that are no line. The text says what is wrong with the words.
-pub(crate) fn unread(alloc: Global, why: &str) -> Usage {
-    match String::from_str(alloc, why) {
-        Ok(text) => Usage::Words(text),
-        Err(_) => Usage::Memory,
-    }
-}
 
 /// Makes the error of an option whose value isn't of its kind. The text names the option and says what it takes.
 fn misgiven(alloc: Global, id: &str, takes: &str) -> Usage {
@@ -67,23 +61,7 @@ fn misgiven_text(alloc: Global, id: &str, low: usize, high: usize) -> Usage {
     }
 }
 
-pub(crate) fn owned(alloc: Global, text: &str) -> Result<String, Usage>
-    ensures ok { IfOk result (λ copy. string_bytes copy ≡ text.now) }
-    ensures memory { IfErr result (λ e. e ≡ usage.Memory) }
-{
-    match String::from_str(alloc, text) {
-        Ok(copy) => Ok(copy),
-        Err(_) => Err(Usage::Memory),
-    }
-}
-
 // ---- as clap has them
-
-pub(crate) fn str_of<'a>(given: &ArgMatches<'a>, id: &str) -> Option<&'a str>
-    ensures { option_map (λ text. text.now) result ≡ first_of id.now (values_of given.now) }
-{
-    given.get_str(id)
-}
 
 fn u8_of(given: &ArgMatches<'_>, id: &str) -> Option<u8>
     ensures { result ≡ number_given 8 id.now (values_of given.now) }

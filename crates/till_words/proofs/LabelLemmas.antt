@@ -1,9 +1,9 @@
 -- A label's letter, cut off.
-use Rattle.std.proofs.Common.{◌≡◌, ◌≢◌, ◌==◌, ℕ, refl, ap, Bool, true, false, List, [], ◌∷◌, inl, inr}
+use Rattle.std.proofs.Common.{◌≡◌, ◌≢◌, ◌==◌, ℕ, refl, ap, true, false, [], ◌∷◌, inl, inr}
 use Rattle.shop_types.proofs.Common.{cases_Bool}
 use Rattle.std.proofs.lemmas.Bool.{eqb-true, eq-eqb}
 use Rattle.clap.specs.Words.{Text}
-use Rattle.till_words.specs.Labels.{is_number, is_labelled, unlabelled}
+use Rattle.till_words.specs.Labels.{is_number, unlabelled}
 
 same : (c : ℕ) → (c == c) ≡ true
 same c = eq-eqb c c refl

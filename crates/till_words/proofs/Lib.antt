@@ -4,7 +4,6 @@ pub mod LineLemmas
 pub mod NamedLemmas
 pub mod PromptLemmas
 pub mod ReadingLemmas
-pub mod TableLemmas
 pub mod TextLemmas
 pub mod UsageLemmas
 pub mod TillIsSimple

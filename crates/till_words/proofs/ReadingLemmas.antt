@@ -3,7 +3,7 @@ use Rattle.shop_types.proofs.Common.{◌≡◌, ◌∙◌, Option, Some, None, R
 use Rattle.shop_types.specs.declared.line.Usage.{Usage}
 use Rattle.shop_types.specs.declared.line.Usage.TheVariants.{Memory}
 use Rattle.std.specs.Prelude.{Ok, Err}
-use Rattle.till_words.specs.Given.{Reads}
+use Rattle.word_tables.specs.Given.{Reads}
 
 -- an error that is passed on
 pub handed_on : {A : Type 0} (e : Usage) (r : Result A Usage) (found : Option A) → IsErrAnd r (λ x. x ≡ e) → (¬ (e ≡ Memory) → found ≡ None) → Reads r found

@@ -4,7 +4,8 @@ use Rattle.shop_types.proofs.Common.{None, option_map, digit_value, digit_value_
 use Rattle.std.proofs.lemmas.List.{append-nil}
 use Rattle.std.proofs.Math.Nat.{pow-le-pow_right}
 use Rattle.clap.specs.Words.{Text}
-use Rattle.till_words.specs.Texts.{with_value, all_numbers}
+use Rattle.till_words.specs.Texts.{all_numbers}
+use Rattle.word_tables.specs.Given.{with_value}
 
 pub next_digit : (n i d : ℕ) → n < 10 ^ i → i < 5 → d < 10 → n * 10 + d < 10 ^ (i + 1)
 next_digit n i d p q r = rw add-one (omega arith)

@@ -14,8 +14,9 @@ use Rattle.till_words.specs.declared.words.TillLook.{TillLook}
 use Rattle.till_words.specs.declared.words.TillLook.TheVariants as look
 use Rattle.till_words.specs.declared.words.TillAct.{TillAct}
 use Rattle.till_words.specs.declared.words.TillAct.TheVariants as till
-use Rattle.till_words.specs.Texts.{with_value}
-use Rattle.till_words.specs.Given.{text_given, optional_text_given, lot_given, token_given, flag_given, row_given, optional_row_given, amount_given}
+use Rattle.word_tables.specs.Given.{with_value}
+use Rattle.till_words.specs.Given.{optional_text_given, lot_given, flag_given, row_given, optional_row_given, amount_given}
+use Rattle.word_tables.specs.Given.{text_given, token_given}
 use Rattle.till_words.specs.Given.{numbers_given}
 use Rattle.till_words.specs.Given.{any_numbers_given}
 use Rattle.till_words.specs.Days.{drawer_of}

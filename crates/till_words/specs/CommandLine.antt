@@ -1,45 +1,11 @@
 -- The command line of a till, as the library `clap` sees it, without the program's name:
 -- `[--book FILE] [--drawer N] [--json] [--staff N] [--yes] WORD [OPTION]..`.
-use Rattle.std.specs.Prelude.{true, List, [], ◌∷◌, Some, codes, fold}
-use Rattle.clap.specs.Words.{App, Rule, Shape, Text, new_rule, with_subcommand}
+use Rattle.std.specs.Prelude.{true, List, [], ◌∷◌, codes, fold}
+use Rattle.clap.specs.Words.{App, Rule, Shape, with_subcommand}
 use Rattle.clap.specs.Simple.{new_shape}
-use Rattle.clap.specs.declared.builder.action.ArgAction.TheVariants.{SetTrue}
-use Rattle.clap.specs.declared.builder.value_parser.ValueParser.TheVariants as parser
-
--- ---- options
-
--- `--NAME TEXT`, which may be left out
-abbrev pub optional_rule : Text → Rule
-optional_rule name = record (new_rule name) { long = Some name }
-
--- `--NAME TEXT`, which must be there
-abbrev pub text_rule : Text → Rule
-text_rule name = record (optional_rule name) { required = true }
-
--- `--NAME TEXT`, which has a default
-abbrev pub default_rule : Text → Text → Rule
-default_rule name value = record (optional_rule name) { defaults = value ∷ [] }
-
--- `--NAME NUMBER`, from 1 on, which may be left out
-abbrev pub optional_row_rule : Text → Rule
-optional_row_rule name = record (optional_rule name) { parser = Some (parser.Unsigned 1 4_294_967_295) }
-
--- `--NAME NUMBER`, from 1 on, which must be there
-abbrev pub row_rule : Text → Rule
-row_rule name = record (optional_row_rule name) { required = true }
-
--- `--NAME NUMBER`, from 1 on, which has a default
-abbrev pub default_row_rule : Text → Text → Rule
-default_row_rule name value = record (optional_row_rule name) { defaults = value ∷ [] }
-
--- `--NAME`, which is there or not
-abbrev pub flag_rule : Text → Rule
-flag_rule name = record (optional_rule name) { action = Some SetTrue }
+use Rattle.word_tables.specs.Rules.{optional_rule, text_rule, default_rule, row_rule, optional_row_rule, default_row_rule, flag_rule, word_shape}
 
 -- ---- words
-
-abbrev pub word_shape : Text → List Rule → Shape
-word_shape name rules = record (new_shape name) { rules = rules }
 
 abbrev pub customer_rules : List Rule
 customer_rules = row_rule (codes "customer") ∷ []

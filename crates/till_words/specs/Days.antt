@@ -3,7 +3,8 @@ use Rattle.std.specs.Prelude.{ℕ, List, Option, Some, None, option_map, codes}
 use Rattle.clap.specs.Words.{Row, Text, first_of}
 use Rattle.till_words.specs.declared.words.Drawer.{Drawer}
 use Rattle.till_words.specs.declared.words.Drawer.TheVariants as drawer
-use Rattle.till_words.specs.Texts.{with_value, cents_of}
+use Rattle.till_words.specs.Texts.{cents_of}
+use Rattle.word_tables.specs.Given.{with_value}
 use Rattle.till_words.specs.Given.{optional_text_given}
 
 abbrev pub counted_from : Option Text → Option (Option ℕ)

@@ -1,32 +1,16 @@
 -- The values of a word's options, each of its kind. A value is none if it is missing or isn't of its kind.
-use Rattle.std.specs.Prelude.{◌≡◌, ℕ, Bool, false, List, Option, Some, None, Result, Ok, Err, option_map, codes, if◌then◌else◌}
+use Rattle.std.specs.Prelude.{ℕ, Bool, false, List, Option, Some, None, option_map, codes, if◌then◌else◌}
 use Rattle.std.specs.Option.{option_map_or}
 use Rattle.std.specs.Str.{bytes_eq}
-use Rattle.clap.specs.Words.{Row, Text, first_of, found_of, rows_of}
-use Rattle.clap.specs.declared.parser.matches.ArgMatches.{ArgMatches}
+use Rattle.clap.specs.Words.{Row, Text, first_of}
 use Rattle.shop_types.specs.Numbers.{row_number_of}
-use Rattle.shop_types.specs.Texts.{is_text, is_key, is_token}
+use Rattle.shop_types.specs.Texts.{is_key}
 use Rattle.shop_types.specs.NumberLists.{is_number_list}
-use Rattle.shop_types.specs.declared.line.Usage.{Usage}
-use Rattle.shop_types.specs.declared.line.Usage.TheVariants as usage
-use Rattle.till_words.specs.Texts.{with_value, amount_of, numbers_of, any_numbers_of}
-
--- the values of the options
-abbrev pub values_of : ArgMatches → List Row
-values_of matches = rows_of (found_of matches)
-
--- a reading returns the value if there is one, and fails if there is none; it may also fail because there is no memory
-abbrev pub Reads : {A : Type 0} → Result A Usage → Option A → Type 0
-Reads (Ok value) found = found ≡ Some value
-Reads (Err e) found = ¬ (e ≡ usage.Memory) → found ≡ None
+use Rattle.till_words.specs.Texts.{amount_of, numbers_of, any_numbers_of}
+use Rattle.word_tables.specs.Given.{with_value}
+use Rattle.word_tables.specs.Given.{with_value, text_of}
 
 -- ---- texts
-
-abbrev pub text_of : ℕ → ℕ → Text → Option Text
-text_of low high text = if is_text low high text then Some text else None
-
-abbrev pub text_given : ℕ → ℕ → Text → List Row → Option Text
-text_given low high id rows = with_value (first_of id rows) (text_of low high)
 
 abbrev pub optional_text_from : ℕ → ℕ → Option Text → Option (Option Text)
 optional_text_from low high None = Some None
@@ -38,9 +22,6 @@ optional_text_given low high id rows = optional_text_from low high (first_of id 
 
 abbrev pub lot_given : List Row → Option Text
 lot_given rows = with_value (first_of (codes "lot") rows) (λ text. if is_key text then Some text else None)
-
-abbrev pub token_given : List Row → Option Text
-token_given rows = with_value (first_of (codes "token") rows) (λ text. if is_token text then Some text else None)
 
 -- whether the option is given
 abbrev pub flag_given : Text → List Row → Bool

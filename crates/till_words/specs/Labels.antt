@@ -1,5 +1,5 @@
 -- Labels of copies and customers, as a scanner reads them: `C17` is copy 17, and `K4` is customer 4.
-use Rattle.std.specs.Prelude.{ℕ, ◌==◌, ◌&&◌, Bool, false, List, [], ◌∷◌, is_some, codes, if◌then◌else◌}
+use Rattle.std.specs.Prelude.{ℕ, ◌==◌, ◌&&◌, Bool, false, [], ◌∷◌, is_some, codes, if◌then◌else◌}
 use Rattle.std.specs.Str.{bytes_eq}
 use Rattle.clap.specs.Words.{Text}
 use Rattle.shop_types.specs.Numbers.{row_number_of}

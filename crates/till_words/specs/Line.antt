@@ -6,7 +6,7 @@ use Rattle.till_words.specs.declared.words.TillLine.{TillLine}
 use Rattle.till_words.specs.declared.words.TillAct.{TillAct}
 use Rattle.till_words.specs.declared.words.TillAct.TheVariants as till
 use Rattle.till_words.specs.CommandLine.{till_app}
-use Rattle.till_words.specs.Texts.{with_value}
+use Rattle.word_tables.specs.Given.{with_value}
 use Rattle.till_words.specs.Given.{optional_text_given, flag_given, optional_row_given}
 use Rattle.till_words.specs.Acts.{act_of}
 use Rattle.till_words.specs.Places.{named_words, office_words}

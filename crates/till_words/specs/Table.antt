@@ -1,8 +1,7 @@
 -- How the program's own table describes words and options to the library `clap`.
 use Rattle.std.specs.Prelude.{map}
-use Rattle.std.specs.Borrow.{Bor}
 use Rattle.clap.specs.Words.{Rule, Shape, Text}
-use Rattle.till_words.specs.CommandLine.{text_rule, optional_rule, default_rule, row_rule, optional_row_rule, default_row_rule, flag_rule, word_shape}
+use Rattle.word_tables.specs.Rules.{option_rule, text_rule, optional_rule, default_rule, row_rule, optional_row_rule, default_row_rule, flag_rule, word_shape}
 use Rattle.till_words.specs.declared.options.Kind.{Kind}
 use Rattle.till_words.specs.declared.options.Kind.TheVariants as kind
 use Rattle.till_words.specs.declared.commands.Subcommand.{Subcommand}
@@ -17,10 +16,6 @@ kind_rule name kind.OptionalRow = optional_row_rule name
 kind_rule name (kind.DefaultRow value) = default_row_rule name value.now
 kind_rule name kind.Flag = flag_rule name
 
--- an option of the table
-abbrev pub option_rule : Bor Text × Kind → Rule
-option_rule entry = kind_rule entry.0.now entry.1
-
 -- a word of the table
 abbrev pub table_shape : Subcommand → Shape
-table_shape s = word_shape s.name.now (map option_rule s.options.now)
+table_shape s = word_shape s.name.now (map (option_rule kind_rule) s.options.now)

@@ -1,14 +1,11 @@
 -- Amounts in dollars and lists of numbers, as they are typed.
-use Rattle.std.specs.Prelude.{ℕ, ◌+◌, ◌*◌, ◌-◌, ◌==◌, ◌&&◌, Bool, List, [], ◌∷◌, length, take, drop, nat_le, Option, Some, None, option_and_then}
+use Rattle.std.specs.Prelude.{ℕ, ◌+◌, ◌*◌, ◌-◌, ◌==◌, ◌&&◌, Bool, List, [], ◌∷◌, length, take, drop, nat_le, Option, Some, None}
 use Rattle.std.specs.Prelude.{option_map, if◌then◌else◌, slice_index}
 use Rattle.std.specs.List.{slice_split}
 use Rattle.clap.specs.Words.{Text}
 use Rattle.shop_types.specs.Digits.{decimal_value}
 use Rattle.shop_types.specs.Numbers.{row_number_of}
-
--- the function's result for the value, if there is a value
-abbrev pub with_value : {A B : Type 0} → Option A → (A → Option B) → Option B
-with_value found f = option_and_then f found
+use Rattle.word_tables.specs.Given.{with_value}
 
 -- ---- amounts
 

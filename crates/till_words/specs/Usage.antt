@@ -1,6 +1,6 @@
 -- What a till says of a line that it doesn't take, and of one word: texts from the program's own table of words.
-use Rattle.std.specs.Prelude.{ℕ, ◌==◌, ◌&&◌, Bool, true, false, not, List, [], ◌∷◌, ◌++◌, length, map, filter, nat_eq, nat_le, Option, Some, None, is_some}
-use Rattle.std.specs.Prelude.{option_map, option_and_then, unwrap_or, drop, codes, if◌then◌else◌}
+use Rattle.std.specs.Prelude.{◌==◌, ◌&&◌, Bool, true, false, not, List, [], ◌∷◌, ◌++◌, length, map, filter, nat_eq, nat_le, Option, Some, None, is_some}
+use Rattle.std.specs.Prelude.{unwrap_or, drop, codes, if◌then◌else◌}
 use Rattle.std.specs.Borrow.{Bor}
 use Rattle.std.specs.Option.{option_or}
 use Rattle.std.specs.List.{list_any, join_by}

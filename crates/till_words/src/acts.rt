@@ -1,5 +1,6 @@
 ghost use Rattle.std.specs.Prelude.{◌≡◌, IfOk, IfErr, map, option_map, string_bytes, codes};
-ghost use Rattle.till_words.specs.Given.{values_of, Reads, row_given};
+ghost use Rattle.till_words.specs.Given.{row_given};
+ghost use Rattle.word_tables.specs.Given.{values_of, Reads};
 ghost use Rattle.till_words.specs.Acts as spec;
 ghost use Rattle.till_words.specs.Places as places;
 ghost use Rattle.till_words.specs.declared.words.TillLook.TheVariants as look;

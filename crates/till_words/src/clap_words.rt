@@ -2,7 +2,7 @@ ghost use Rattle.std.specs.Prelude.{◌≡◌, ◌⊎◌, true, Some, None, IfOk
 ghost use Rattle.clap.specs.Words.{found_of, rows_of, kind_of, fault_of, matches_of, subcommand_of, FailsBy, IsAmong, subcommand_rows_of};
 ghost use Rattle.shop_types.specs.declared.line.Usage.TheVariants as usage;
 ghost use Rattle.till_words.specs.CommandLine.{till_app};
-ghost use Rattle.till_words.specs.Given.{values_of, Reads};
+ghost use Rattle.word_tables.specs.Given.{values_of, Reads};
 ghost use Rattle.till_words.specs.Places.{office_words};
 ghost use Rattle.till_words.specs.Places as places;
 ghost use Rattle.till_words.specs.Line.{till_line_of, full_line_of, line_from, read_of, entered_act};

@@ -6,9 +6,10 @@ ghost use Rattle.clap.specs.declared.builder.command.Command.TheViews.{out-Comma
 ghost use Rattle.till_words.specs.CommandLine as line;
 ghost use Rattle.till_words.specs.Table.{table_shape};
 
-use crate::options::{Kind, with_options};
+use crate::options::Kind;
 use clap::Command;
 use std::alloc::{AllocError, Global};
+use word_tables::with_options;
 
 /// A word, its line of help, how it is said, an example of it, and its options.
 #[derive(Clone, Copy)]

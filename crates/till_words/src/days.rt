@@ -1,7 +1,7 @@
 //! What is asked of the drawer.
 
 ghost use Rattle.std.specs.Prelude.{◌≡◌};
-ghost use Rattle.till_words.specs.Given.{values_of, Reads};
+ghost use Rattle.word_tables.specs.Given.{values_of, Reads};
 ghost use Rattle.till_words.specs.Days.{counted_given, asked_of, drawer_of};
 
 use crate::words::{DayText, Drawer};
@@ -9,6 +9,7 @@ use crate::{given, texts};
 use clap::ArgMatches;
 use shop_types::Usage;
 use std::alloc::Global;
+use word_tables::str_of;
 
 /// The reason if the sum isn't one.
 const COUNTED: &str = "a sum is in dollars, from 0 to 99999.99: 412.50, 412 or 0.50";
@@ -20,7 +21,7 @@ const BOTH: &str = "say day, or day 2026-03-09, or day --count 412.50";
 fn counted(given: &ArgMatches<'_>) -> Option<Option<u32>>
     ensures { result ≡ counted_given (values_of given.now) }
 {
-    match given::str_of(given, "count") {
+    match str_of(given, "count") {
         Some(text) => Some(Some(texts::cents_of(text)?)),
         None => Some(None),
     }

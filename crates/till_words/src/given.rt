@@ -2,14 +2,16 @@ ghost use Rattle.std.specs.Prelude.{◌≡◌, Some, None, IfOk, IfErr, option_m
 ghost use Rattle.std.specs.Result.{IsErrAnd};
 ghost use Rattle.clap.specs.Words.{first_of};
 ghost use Rattle.shop_types.specs.declared.line.Usage.TheVariants as usage;
-ghost use Rattle.till_words.specs.Given.{values_of, Reads, text_of, text_given, optional_text_given, lot_given, token_given, flag_given};
+ghost use Rattle.till_words.specs.Given.{optional_text_given, lot_given, flag_given};
+ghost use Rattle.word_tables.specs.Given.{values_of, Reads, text_of, text_given, token_given};
 ghost use Rattle.till_words.specs.Given.{row_given, optional_row_given, amount_given, short_list, numbers_given, any_numbers_given};
-ghost use Rattle.till_words.specs.Texts.{with_value};
+ghost use Rattle.word_tables.specs.Given.{with_value};
 
 use crate::texts;
 use clap::ArgMatches;
 use shop_types::{Amount, LotName, Numbers, RowNumber, Text, Token, Usage};
 use std::alloc::{AllocError, Global};
+use word_tables::{owned, str_of, unread};
 
 // ---- the texts for values that aren't of their kinds
 
@@ -35,14 +37,6 @@ pub(crate) const ZONE: &str =
 pub(crate) const PAYMENT: &str =
     "a payment is of a customer, and in dollars, from 0 to 999.99: 4.99, 5 or 0.50";
 
-/// Returns the fault of words that aren't a till's, with the reason.
-pub(crate) fn unread(alloc: Global, why: &str) -> Usage {
-    match String::from_str(alloc, why) {
-        Ok(text) => Usage::Words(text),
-        Err(_) => Usage::Memory,
-    }
-}
-
 /// Returns the value, or fails with the reason if there is none.
 pub(crate) fn of_kind<T>(alloc: Global, value: Option<T>, why: &str) -> Result<T, Usage>
     ensures { Reads result value }
@@ -51,22 +45,6 @@ pub(crate) fn of_kind<T>(alloc: Global, value: Option<T>, why: &str) -> Result<T
         Some(value) => Ok(value),
         None => Err(unread(alloc, why)),
     }
-}
-
-fn owned(alloc: Global, text: &str) -> Result<String, Usage>
-    ensures ok { IfOk result (λ copy. string_bytes copy ≡ text.now) }
-    ensures memory { IfErr result (λ e. e ≡ usage.Memory) }
-{
-    match String::from_str(alloc, text) {
-        Ok(copy) => Ok(copy),
-        Err(_) => Err(Usage::Memory),
-    }
-}
-
-pub(crate) fn str_of<'a>(given: &ArgMatches<'a>, id: &str) -> Option<&'a str>
-    ensures { option_map (λ text. text.now) result ≡ first_of id.now (values_of given.now) }
-{
-    given.get_str(id)
 }
 
 // ---- texts

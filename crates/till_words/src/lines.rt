@@ -3,14 +3,14 @@
 ghost use Rattle.std.specs.Prelude.{◌≡◌, Some, None, IfOk, IfErr, OnOk, map, option_map, string_bytes, unwrap_or, []};
 ghost use Rattle.shop_types.specs.declared.line.Usage.TheVariants as usage;
 ghost use Rattle.till_words.specs.PromptLine as spec;
-ghost use Rattle.till_words.specs.Seen.{seen_reading};
+ghost use Rattle.till_words.specs.Seen.{seen_split};
 
 use shop_types::Usage;
 use std::alloc::{AllocError, Global};
 
 /// What was read of a line so far.
 #[derive(Drop)]
-struct Reading {
+struct LineSplit {
     words: Vec<String>,
     /// The word that is being read.
     word: Option<String>,
@@ -34,9 +34,9 @@ fn begun(alloc: Global, word: Option<String>) -> String
     }
 }
 
-impl Reading {
+impl LineSplit {
     fn end_word(&mut self) -> Result<(), AllocError>
-        ensures { OnOk result (seen_reading self.new ≡ spec.ended (seen_reading self.old)) }
+        ensures { OnOk result (seen_split self.new ≡ spec.ended (seen_split self.old)) }
     {
         if let Some(word) = self.word.take() {
             self.words.push(word)?;
@@ -45,7 +45,7 @@ impl Reading {
     }
 
     fn add(&mut self, alloc: Global, c: char) -> Result<(), AllocError>
-        ensures { OnOk result (seen_reading self.new ≡ spec.longer (seen_reading self.old) c) }
+        ensures { OnOk result (seen_split self.new ≡ spec.longer (seen_split self.old) c) }
     {
         let mut word = begun(alloc, self.word.take());
         word.push(c)?;
@@ -54,7 +54,7 @@ impl Reading {
     }
 
     fn turn(&mut self, alloc: Global)
-        ensures { seen_reading self.new ≡ spec.turned (seen_reading self.old) }
+        ensures { seen_split self.new ≡ spec.turned (seen_split self.old) }
     {
         let word = begun(alloc, self.word.take());
         self.word = Some(word);
@@ -62,7 +62,7 @@ impl Reading {
     }
 
     fn read(&mut self, alloc: Global, c: char) -> Result<(), AllocError>
-        ensures { OnOk result (seen_reading self.new ≡ spec.read_char (seen_reading self.old) c) }
+        ensures { OnOk result (seen_split self.new ≡ spec.read_char (seen_split self.old) c) }
     {
         if c == '"' {
             self.turn(alloc);
@@ -80,7 +80,7 @@ impl Reading {
 fn words_of(alloc: Global, line: &str) -> Result<Option<Vec<String>>, AllocError>
     ensures { IfOk result (λ found. option_map (λ words. map string_bytes words.items) found ≡ spec.words_of line.now) }
 {
-    let mut reading = Reading {
+    let mut reading = LineSplit {
         words: Vec::new(alloc),
         word: None,
         is_quoted: false,

@@ -1,7 +1,7 @@
 use Rattle.std.proofs.Common.{◌∙◌, refl}
 use Rattle.clap.specs.Words.{app_of, shape_of, with_subcommand}
 use Rattle.office_words.specs.Table.{table_shape}
-use Rattle.office_words.proofs.TableLemmas.{one_more}
+use Rattle.word_tables.proofs.TableLemmas.{one_more}
 use Rattle.office_words.proofs.commands.with_commands.Goals as goal
 
 pub loop-subcommand-preserved : goal.loop-subcommand-preserved

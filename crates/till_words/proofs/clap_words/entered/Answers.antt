@@ -1,6 +1,6 @@
 use Rattle.std.proofs.Common.{ap, subst, sym, map, string_bytes, Option, List}
 use Rattle.clap.specs.Words.{Row, Text}
-use Rattle.till_words.specs.Given.{Reads}
+use Rattle.word_tables.specs.Given.{Reads}
 use Rattle.till_words.specs.Places.{office_words}
 use Rattle.till_words.specs.Line.{entered_act}
 use Rattle.till_words.proofs.LineLemmas.{entered, not_entered}

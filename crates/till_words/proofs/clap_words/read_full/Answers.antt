@@ -1,5 +1,5 @@
 use Rattle.std.proofs.Common.{◌∙◌, ap, subst, map, string_bytes}
-use Rattle.till_words.specs.Given.{Reads}
+use Rattle.word_tables.specs.Given.{Reads}
 use Rattle.till_words.proofs.LineLemmas.{by_names}
 use Rattle.till_words.proofs.clap_words.read_full.Goals as goal
 

@@ -1,5 +1,5 @@
 use Rattle.std.proofs.Common.{subst, sym, map, string_bytes, inl, inr}
-use Rattle.till_words.specs.Given.{Reads}
+use Rattle.word_tables.specs.Given.{Reads}
 use Rattle.till_words.specs.Places.{office_words}
 use Rattle.till_words.specs.Line.{line_from, read_of}
 use Rattle.till_words.proofs.LineLemmas.{faulty, taken}

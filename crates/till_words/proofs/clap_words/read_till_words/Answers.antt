@@ -1,5 +1,5 @@
 use Rattle.std.proofs.Common.{◌∙◌, ap, subst, map, string_bytes}
-use Rattle.till_words.specs.Given.{Reads}
+use Rattle.word_tables.specs.Given.{Reads}
 use Rattle.till_words.proofs.LineLemmas.{by_spoken}
 use Rattle.till_words.proofs.ReadingLemmas.{reads_ok, reads_err}
 use Rattle.till_words.proofs.clap_words.read_till_words.Goals as goal

@@ -2,7 +2,7 @@
 use Rattle.shop_types.proofs.Common.{◌≡◌, ℕ, ◌+◌, ◌<◌, ◌∙◌, refl, sym, ap, List, [], ◌∷◌, ◌++◌, length, drop, get_or, map, append_assoc, fold, drop_more}
 use Rattle.std.proofs.lemmas.List.{append-nil}
 use Rattle.clap.specs.Words.{App, Rule, Text, new_app, with_rule}
-use Rattle.till_words.specs.CommandLine.{word_shape}
+use Rattle.word_tables.specs.Rules.{word_shape}
 
 -- a fold over what is left of a list, one step on
 pub one_more : {A B X : Type 0} (f : B → A → B) (g : X → A) (xs : List X) (i : ℕ) (d : X) (old new : B) (a : A) → i < length xs
