@@ -9,7 +9,7 @@ use Rattle.http_messages.specs.declared.messages.Fault.TheVariants.{BadHead, Too
 use Rattle.shop_model.specs.Refusals as named
 use Rattle.counter_http.specs.Exchanges.{Exchange, text_of, texts, GoesOn}
 use Rattle.counter_http.specs.Served.{IsEnd, IsServed, IsReadFault, IsWriteFault, IsFault, fault_text, fault_replies}
-use Rattle.counter_http.specs.Standings.{Line, opened, told_of, IsOfLast, GoesOrEnds, IsTurn, IsTurnFault}
+use Rattle.counter_http.specs.Phases.{ConnectionState, opened, told_of, IsOfLast, GoesOrEnds, IsTurn, IsTurnFault}
 use Rattle.counter_http.specs.Together.{TurnsServe}
 use Rattle.counter_http.specs.declared.connection.Served.{Served}
 use Rattle.counter_http.specs.declared.connection.ServeFault.{ServeFault}
@@ -30,7 +30,7 @@ opened_ends most end is = by_test (most == 0) refl is
     by_test true e is = (cc, eqb-true most 0 e)
     by_test false e is = absurd cc
 
-ended : (most : ℕ) (line : Line) (end first : End) (Ran : List Exchange → Type 0) (input left output written : Option (List ℕ))
+ended : (most : ℕ) (line : ConnectionState) (end first : End) (Ran : List Exchange → Type 0) (input left output written : Option (List ℕ))
     → (x : IsTurn (opened most) line Ran input left output written) → line.ending ≡ Some end → (opened most).ending ≡ Some first
     → IsEnd end most x.exchanges left line.inbox x.last
 ended most line end first Ran input left output written x ends is =
@@ -39,7 +39,7 @@ ended most line end first Ran input left output written x ends is =
     let same : end ≡ Limit = let e : Some end ≡ Some first = sym ends ∙ stop.4 in cc in
     rw (same, stop.2, stop.3, limit.1) (All-nil GoesOn, refl, refl)
 
-pub served_by : (most : ℕ) (line : Line) (end : End) (Ran : List Exchange → Type 0) (input left output written : Option (List ℕ))
+pub served_by : (most : ℕ) (line : ConnectionState) (end : End) (Ran : List Exchange → Type 0) (input left output written : Option (List ℕ))
     → IsTurn (opened most) line Ran input left output written → (line.unsent ≡ []) × (line.ending ≡ Some end)
     → IsServed (record { replies = line.replies + fault_replies end; end = end }) most Ran input left output written
 served_by most line end Ran input left output written x (empty, ends) = record {
@@ -79,13 +79,13 @@ opened_lives most some = by_test (most == 0) refl
     by_test true e = let none : most ≡ 0 = eqb-true most 0 e in absurd (omega arith)
     by_test false e = refl
 
-goes_by : (most : ℕ) (line : Line) (Ran : List Exchange → Type 0) (input left output written : Option (List ℕ)) → 0 < most
+goes_by : (most : ℕ) (line : ConnectionState) (Ran : List Exchange → Type 0) (input left output written : Option (List ℕ)) → 0 < most
     → (x : IsTurn (opened most) line Ran input left output written) → GoesOrEnds line.ending most x.exchanges left line.inbox x.last
 goes_by most line Ran input left output written some x =
     let all : most - 0 ≡ most = omega arith in
     rw all at (x.goes (opened_lives most some))
 
-pub read_fails : (most : ℕ) (line : Line) (Ran : List Exchange → Type 0) (input left output written : Option (List ℕ)) → 0 < most
+pub read_fails : (most : ℕ) (line : ConnectionState) (Ran : List Exchange → Type 0) (input left output written : Option (List ℕ)) → 0 < most
     → IsTurn (opened most) line Ran input left output written → IsTurnFault turn.Read line
     → IsReadFault line.replies most Ran input left output written
 read_fails most line Ran input left output written some x (empty, live, cut) =
@@ -153,7 +153,7 @@ told_before (Some Limit) most es left rest last is none replies = refl
 told_before (Some Asked) most es left rest last is none replies = refl
 told_before (Some StoreFailed) most es left rest last is none replies = refl
 
-pub write_fails : (most : ℕ) (line : Line) (Ran : List Exchange → Type 0) (input left output written : Option (List ℕ)) → 0 < most
+pub write_fails : (most : ℕ) (line : ConnectionState) (Ran : List Exchange → Type 0) (input left output written : Option (List ℕ)) → 0 < most
     → IsTurn (opened most) line Ran input left output written → IsTurnFault turn.Write line
     → IsWriteFault (told_of line.ending line.replies) most Ran input left output written
 write_fails most line Ran input left output written some x unfinished = by x.alone

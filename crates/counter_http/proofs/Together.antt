@@ -5,7 +5,7 @@ use Rattle.sqlite_trees.specs.declared.store.Store.{Ghosts}
 use Rattle.counter_routes.specs.Words.{Meaning}
 use Rattle.chain_requests.specs.Holding.{Chained}
 use Rattle.counter_http.specs.Exchanges.{Exchange, RunsOver}
-use Rattle.counter_http.specs.Standings.{Line, opened, IsTurn}
+use Rattle.counter_http.specs.Phases.{ConnectionState, opened, IsTurn}
 use Rattle.counter_http.specs.Together.{Till, IsTill, Mixes, comes, goes, nothing, AreServed, AreServedTogether, till_opened, till_then}
 use Rattle.counter_http.proofs.Turns.{opened_may_answer, turn_none, turn_then, turn_as}
 use Rattle.counter_http.proofs.Runs.{run_starts}
@@ -23,7 +23,7 @@ all_replaced P (z ∷ front) x y back all p =
 joined : (es more one two : List Exchange) → one ≡ es → two ≡ more → one ++ two ≡ es ++ more
 joined es more one two p q = ap (λ (l : List Exchange). l ++ two) p ∙ ap (λ (l : List Exchange). es ++ l) q
 
-till_turn : (till : Till) (line : Line) (Ran : List Exchange → Type 0) (left written : Option (List ℕ))
+till_turn : (till : Till) (line : ConnectionState) (Ran : List Exchange → Type 0) (left written : Option (List ℕ))
     → IsTill till → (x : IsTurn till.line line Ran till.left left till.written written) → IsTill (till_then till x.exchanges line left written)
 till_turn till line Ran left written is x =
     turn_then is (turn_as {Ran' = λ es. es ≡ x.exchanges} x refl) (λ one two p q. joined till.exchanges x.exchanges one two p q)
@@ -41,7 +41,7 @@ served_comes {S} {g} {meaning} {old} {new} tills most input output served =
     }
 
 pub served_then : {S : Type 0} {g : Ghosts S} {meaning : Meaning} {old mid new : Chained S} (front : List Till) (till : Till) (back : List Till)
-    (line : Line) (left written : Option (List ℕ))
+    (line : ConnectionState) (left written : Option (List ℕ))
     → AreServed g meaning old mid (front ++ till ∷ back)
     → (x : IsTurn till.line line (RunsOver g meaning mid new) till.left left till.written written)
     → AreServed g meaning old new (front ++ till_then till x.exchanges line left written ∷ back)

@@ -12,7 +12,7 @@ use Rattle.http_messages.specs.declared.messages.Reading.TheVariants.{Refused as
 use Rattle.http_messages.proofs.StreamLemmas.{HasMessages-append}
 use Rattle.counter_http.specs.Exchanges.{Exchange, text_of, texts, messages_of, GoesOn, HasRun}
 use Rattle.counter_http.specs.Served.{EndsWith, IsRefused, fault_text}
-use Rattle.counter_http.specs.Standings.{Line, opened, IsOfLast, GoesOrEnds, IsTurn}
+use Rattle.counter_http.specs.Phases.{ConnectionState, opened, IsOfLast, GoesOrEnds, IsTurn}
 use Rattle.counter_http.specs.declared.inbox.TheConstants.{ROOM}
 use Rattle.counter_http.specs.declared.machine.After.{After}
 use Rattle.counter_http.specs.declared.machine.After.TheVariants.{Asks, Fails}
@@ -20,7 +20,7 @@ use Rattle.counter_http.specs.declared.connection.End.{End}
 use Rattle.counter_http.specs.declared.connection.End.TheVariants.{Closed, Cut, Asked, Limit, Refused, StoreFailed}
 
 -- a connection that goes on may answer another request, and what it has read has room
-abbrev pub MayAnswer : Line → Type 0
+abbrev pub MayAnswer : ConnectionState → Type 0
 MayAnswer line = (line.ending ≡ None → line.replies < line.most) × (length line.inbox ≤ ROOM)
 
 pub opened_may_answer : (most : ℕ) → MayAnswer (opened most)
@@ -48,7 +48,7 @@ drop_near n xs near = omega (arith, length-drop n xs)
 -- ---- one step
 
 -- bytes were written, or nothing was done
-pub turn_sent : (old : Line) (unsent : List ℕ) (Ran : List Exchange → Type 0) (input output written : Option (List ℕ)) (sent : List ℕ)
+pub turn_sent : (old : ConnectionState) (unsent : List ℕ) (Ran : List Exchange → Type 0) (input output written : Option (List ℕ)) (sent : List ℕ)
     → MayAnswer old → Appends output written sent → old.unsent ≡ sent ++ unsent → Ran []
     → IsTurn old (record old { unsent = unsent }) Ran input input output written
 turn_sent old unsent Ran input output written sent may appends parts start = record {
@@ -69,12 +69,12 @@ turn_sent old unsent Ran input output written sent may appends parts start = rec
   kept = refl;
 }
 
-pub turn_none : (line : Line) (Ran : List Exchange → Type 0) (input output : Option (List ℕ))
+pub turn_none : (line : ConnectionState) (Ran : List Exchange → Type 0) (input output : Option (List ℕ))
     → MayAnswer line → Ran [] → IsTurn line line Ran input input output output
 turn_none line Ran input output may start = turn_sent line line.unsent Ran input output output [] may (Appends-nil output) refl start
 
 -- bytes were read, and they may be the last
-pub turn_read : (old : Line) (inbox : List ℕ) (ending : Option End) (Ran : List Exchange → Type 0) (input left output : Option (List ℕ)) (more : List ℕ)
+pub turn_read : (old : ConnectionState) (inbox : List ℕ) (ending : Option End) (Ran : List Exchange → Type 0) (input left output : Option (List ℕ)) (more : List ℕ)
     → old.ending ≡ None → Consumes input left more → inbox ≡ old.inbox ++ more → length inbox ≤ ROOM
     → GoesOrEnds ending (old.most - old.replies) [] left inbox [] → Ran []
     → IsTurn old (record old { inbox = inbox; ending = ending }) Ran input left output output
@@ -97,7 +97,7 @@ turn_read old inbox ending Ran input left output more live consumes grown near g
 }
 
 -- bytes were read, and more may come
-pub turn_grown : (old : Line) (inbox : List ℕ) (Ran : List Exchange → Type 0) (input left output : Option (List ℕ)) (more : List ℕ)
+pub turn_grown : (old : ConnectionState) (inbox : List ℕ) (Ran : List Exchange → Type 0) (input left output : Option (List ℕ)) (more : List ℕ)
     → MayAnswer old → old.ending ≡ None → Consumes input left more → inbox ≡ old.inbox ++ more → length inbox ≤ ROOM → Ran []
     → IsTurn old (record old { inbox = inbox }) Ran input left output output
 turn_grown old inbox Ran input left output more may live consumes grown near start =
@@ -105,7 +105,7 @@ turn_grown old inbox Ran input left output more may live consumes grown near sta
     (let lt = may.0 live in rw live (All-nil GoesOn, omega arith, refl)) start
 
 -- one more message was answered, and nothing was left to write before
-pub turn_answer : (old new : Line) (Ran : List Exchange → Type 0) (input output : Option (List ℕ)) (e : Exchange)
+pub turn_answer : (old new : ConnectionState) (Ran : List Exchange → Type 0) (input output : Option (List ℕ)) (e : Exchange)
     → old.unsent ≡ [] → old.ending ≡ None → HasMessage old.inbox e.message new.inbox → length new.inbox ≤ ROOM → new.unsent ≡ text_of e.answer
     → new.replies ≡ old.replies + 1 → new.most ≡ old.most → GoesOrEnds new.ending (old.most - old.replies) (e ∷ []) input new.inbox [] → Ran (e ∷ [])
     → IsTurn old new Ran input input output output
@@ -128,7 +128,7 @@ turn_answer old new Ran input output e empty live has near told one same goes ra
 }
 
 -- a text that is no message was refused
-pub turn_refusal : (old : Line) (Ran : List Exchange → Type 0) (input output : Option (List ℕ)) (fault : Fault)
+pub turn_refusal : (old : ConnectionState) (Ran : List Exchange → Type 0) (input output : Option (List ℕ)) (fault : Fault)
     → MayAnswer old → old.unsent ≡ [] → old.ending ≡ None → IsRefused fault old.inbox → Ran []
     → IsTurn old (record old { unsent = fault_text fault; ending = Some Refused }) Ran input input output output
 turn_refusal old Ran input output fault may empty live refused start = record {
@@ -226,7 +226,7 @@ alone_then es more last behind mid sent unsent parts order x y = by order y
     by (inl none) (inr (inr (part, is))) = inr (inr (part, ap (λ (l : List ℕ). l ++ behind) none ∙ is))
 
 -- two turns one after another: what both read, answered and wrote
-pub turn_then : {old mid new : Line} {First Second Both : List Exchange → Type 0} {input left after output written later : Option (List ℕ)}
+pub turn_then : {old mid new : ConnectionState} {First Second Both : List Exchange → Type 0} {input left after output written later : Option (List ℕ)}
     → IsTurn old mid First input left output written → IsTurn mid new Second left after written later
     → ((es more : List Exchange) → First es → Second more → Both (es ++ more))
     → IsTurn old new Both input after output later
@@ -307,7 +307,7 @@ turn_then {old} {mid} {new} {First} {Second} {Both} {input} {left} {after} {outp
 
 -- a turn, with another statement on its exchanges
 pub turn_as :
-    {old new : Line} {Ran Ran' : List Exchange → Type 0} {input left output written : Option (List ℕ)} (x : IsTurn old new Ran input left output written)
+    {old new : ConnectionState} {Ran Ran' : List Exchange → Type 0} {input left output written : Option (List ℕ)} (x : IsTurn old new Ran input left output written)
     → Ran' x.exchanges → IsTurn old new Ran' input left output written
 turn_as {old} {new} {Ran} {Ran'} {input} {left} {output} {written} x ran = record {
   read = x.read;
@@ -328,7 +328,7 @@ turn_as {old} {new} {Ran} {Ran'} {input} {left} {output} {written} x ran = recor
 }
 
 -- a turn, and after it another in which nothing was answered
-pub turn_on : {old mid new : Line} {Ran : List Exchange → Type 0} {input left after output written later : Option (List ℕ)}
+pub turn_on : {old mid new : ConnectionState} {Ran : List Exchange → Type 0} {input left after output written later : Option (List ℕ)}
     → IsTurn old mid Ran input left output written → IsTurn mid new (λ es. es ≡ []) left after written later → IsTurn old new Ran input after output later
 turn_on {old} {mid} {new} {Ran} x y =
     turn_then x y (λ es more ran none. subst Ran (sym (append-nil es) ∙ ap (λ (l : List Exchange). es ++ l) (sym none)) ran)

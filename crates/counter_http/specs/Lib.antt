@@ -5,5 +5,5 @@ pub mod Connections
 pub mod Served
 pub mod Reads
 pub mod Unsent
-pub mod Standings
+pub mod Phases
 pub mod Together

@@ -5,14 +5,14 @@ use Rattle.counter_routes.specs.Words.{Meaning}
 use Rattle.chain_requests.specs.Holding.{Chained}
 use Rattle.counter_http.specs.Exchanges.{Exchange, RunsOver}
 use Rattle.counter_http.specs.Served.{IsServed, fault_replies}
-use Rattle.counter_http.specs.Standings.{Line, opened, IsTurn}
+use Rattle.counter_http.specs.Phases.{ConnectionState, opened, IsTurn}
 use Rattle.counter_http.specs.declared.connection.End.{End}
 
 -- A connection, as it was at first and as it is now. `exchanges` is what was answered of it so far. The rest is what its reader and its writer held at first,
 -- and what they hold now.
 pub record Till : Type 0 where
-  pub first : Line
-  pub line : Line
+  pub first : ConnectionState
+  pub line : ConnectionState
   pub exchanges : List Exchange
   pub input : Option (List ℕ)
   pub left : Option (List ℕ)
@@ -51,7 +51,7 @@ till_opened most input output = record {
 }
 
 -- the connection after one more turn
-abbrev pub till_then : Till → List Exchange → Line → Option (List ℕ) → Option (List ℕ) → Till
+abbrev pub till_then : Till → List Exchange → ConnectionState → Option (List ℕ) → Option (List ℕ) → Till
 till_then till es line left written = record {
   first = till.first;
   line = line;
@@ -68,7 +68,7 @@ pub record AreServedTogether {S : Type 0} (g : Ghosts S) : Type 0 where
   pub none : (meaning : Meaning) (chain : Chained S) → AreServed g meaning chain chain []
   pub comes : (meaning : Meaning) (old new : Chained S) (tills : List Till) (most : ℕ) (input output : Option (List ℕ))
       → AreServed g meaning old new tills → AreServed g meaning old new (tills ++ till_opened most input output ∷ [])
-  pub goes : (meaning : Meaning) (old mid new : Chained S) (front : List Till) (till : Till) (back : List Till) (line : Line) (left written : Option (List ℕ))
+  pub goes : (meaning : Meaning) (old mid new : Chained S) (front : List Till) (till : Till) (back : List Till) (line : ConnectionState) (left written : Option (List ℕ))
       → AreServed g meaning old mid (front ++ till ∷ back)
       → (turn : IsTurn till.line line (RunsOver g meaning mid new) till.left left till.written written)
       → AreServed g meaning old new (front ++ till_then till turn.exchanges line left written ∷ back)
@@ -76,6 +76,6 @@ pub record AreServedTogether {S : Type 0} (g : Ghosts S) : Type 0 where
 -- A connection that ended by turns, with nothing left to write, was served as `serve` promises for a connection that is served alone.
 abbrev pub TurnsServe : {S : Type 0} → Ghosts S → Type 0
 TurnsServe {S} g =
-    (meaning : Meaning) (old new : Chained S) (most : ℕ) (line : Line) (end : End) (input left output written : Option (List ℕ))
+    (meaning : Meaning) (old new : Chained S) (most : ℕ) (line : ConnectionState) (end : End) (input left output written : Option (List ℕ))
     → IsTurn (opened most) line (RunsOver g meaning old new) input left output written → line.unsent ≡ [] → line.ending ≡ Some end
     → IsServed (record { replies = line.replies + fault_replies end; end = end }) most (RunsOver g meaning old new) input left output written

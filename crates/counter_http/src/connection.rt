@@ -4,7 +4,7 @@ ghost use Rattle.std.specs.Io.KnownBytes.{Keeps};
 ghost use Rattle.counter_http.specs.Exchanges.{RunsOver};
 ghost use Rattle.counter_http.specs.Served.{IsServed, IsFault, fault_replies};
 
-use crate::machine::{Connection, Standing, Switchboard, TurnFault};
+use crate::machine::{Connection, Phase, Switchboard, TurnFault};
 use chain_engine::Chain;
 use shop_types::OfficeWords;
 use sqlite::Alter;
@@ -89,13 +89,13 @@ pub fn serve<R: Read, W: Write, O: OfficeWords, S: Alter>(
     drop(connection);
     drop(board);
     match turn {
-        Ok(Standing::Ended(end)) => Ok(Served {
+        Ok(Phase::Ended(end)) => Ok(Served {
             replies: replies + refusals(end),
             end,
         }),
-        Ok(Standing::Reads) => Err(ServeFault::Read { replies }),
-        Ok(Standing::Writes) => Err(ServeFault::Write { replies: told }),
-        Ok(Standing::Ready) => unreachable!(),
+        Ok(Phase::Reads) => Err(ServeFault::Read { replies }),
+        Ok(Phase::Writes) => Err(ServeFault::Write { replies: told }),
+        Ok(Phase::Ready) => unreachable!(),
         Err(TurnFault::Read) => Err(ServeFault::Read { replies }),
         Err(TurnFault::Write) => Err(ServeFault::Write { replies: told }),
     }

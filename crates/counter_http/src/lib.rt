@@ -16,5 +16,5 @@ pub use laws::{
     branches_are_sent_the_same, connections_are_one_history, connections_are_served_together,
     turns_serve_alike,
 };
-pub use machine::{Connection, Standing, Switchboard, TurnFault};
+pub use machine::{Connection, Phase, Switchboard, TurnFault};
 pub use reply::reply_bytes;

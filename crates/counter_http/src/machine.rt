@@ -9,7 +9,7 @@ ghost use Rattle.shop_types.specs.Replies.{seen_reply};
 ghost use Rattle.counter_http.specs.declared.inbox.TheConstants.{ROOM};
 ghost use Rattle.counter_http.specs.Exchanges.{Exchange, text_of, RunsOver};
 ghost use Rattle.counter_http.specs.Served.{IsAfter, fault_text};
-ghost use Rattle.counter_http.specs.Standings.{Line, opened, told_of, GoesOrEnds, IsTurn, IsStanding, IsTurnFault};
+ghost use Rattle.counter_http.specs.Phases.{ConnectionState, opened, told_of, GoesOrEnds, IsTurn, IsPhase, IsTurnFault};
 
 use crate::answer::answer;
 use crate::connection::End;
@@ -26,7 +26,7 @@ use std::marker::Model;
 
 /// What a connection waits for after a turn.
 #[derive(Clone, Copy)]
-pub enum Standing {
+pub enum Phase {
     /// More bytes: there is no whole request, each reply is written, and the reader would wait.
     Reads,
     /// Its peer: the writer would wait with bytes of a reply left. No further request is answered before.
@@ -75,7 +75,7 @@ pub struct Connection {
 }
 
 impl Model for Connection {
-    ghost Value = { Line };
+    ghost Value = { ConnectionState };
 
     ghost view = { λ c. record { inbox = c.inbox; unsent = c.unsent; replies = c.replies; most = c.most; ending = c.ending } };
 
@@ -276,11 +276,11 @@ impl Connection {
         board: &Switchboard,
         words: &O,
         most: u32,
-    ) -> Result<Standing, TurnFault>
+    ) -> Result<Phase, TurnFault>
         ensures turn { IsTurn self.old self.new (RunsOver S.Store (O.meaning words.now) chain.old chain.new)
             (R.remaining reader.old) (R.remaining reader.new) (W.contents writer.old) (W.contents writer.new) }
         ensures few { self.new.replies ≤ self.old.replies + most }
-        ensures standing { IfOk result (λ standing. IsStanding standing most self.old self.new) }
+        ensures phase { IfOk result (λ phase. IsPhase phase most self.old self.new) }
         ensures fault { IfErr result (λ fault. IsTurnFault fault self.new) }
     {
         let first = self.replies;
@@ -289,20 +289,20 @@ impl Connection {
                 return Err(TurnFault::Write);
             };
             if !all {
-                return Ok(Standing::Writes);
+                return Ok(Phase::Writes);
             }
             if let Some(end) = self.ending {
-                return Ok(Standing::Ended(end));
+                return Ok(Phase::Ended(end));
             }
             if self.replies - first >= most {
-                return Ok(Standing::Ready);
+                return Ok(Phase::Ready);
             }
             if !self.answer_next(alloc, chain, board, words) {
                 let Ok(more) = self.read_more(reader) else {
                     return Err(TurnFault::Read);
                 };
                 if !more {
-                    return Ok(Standing::Reads);
+                    return Ok(Phase::Reads);
                 }
             }
         }

@@ -3,7 +3,7 @@ ghost use Rattle.std.specs.Prelude.{List};
 ghost use Rattle.counter_http.specs.Exchanges.{Exchange, RunsOver};
 
 use chain_engine::Chain;
-use counter_http::{Connection, Standing, Switchboard, TurnFault};
+use counter_http::{Connection, Phase, Switchboard, TurnFault};
 use shop_types::OfficeWords;
 use sqlite::Alter;
 use std::alloc::AllocGlobal;
@@ -41,7 +41,7 @@ enum Asker {
 
 /// Whether a peer is answered, is being disconnected, or is gone.
 #[derive(Clone, Copy)]
-enum Phase {
+enum Presence {
     /// It is answered.
     Served,
     /// It has its last reply. At most so many pieces that it still sends are read and dropped. Closing a socket with
@@ -88,7 +88,7 @@ pub(crate) struct Peer {
     pub(crate) token: usize,
     stream: TcpStream,
     connection: Connection,
-    phase: Phase,
+    presence: Presence,
     /// Whether the connection can go on without waiting, as far as is known.
     pub(crate) is_ready: bool,
     /// Whether, at the last look, the peer had sent nothing since its last whole reply, or since it came.
@@ -109,7 +109,7 @@ impl Peer {
             token,
             stream,
             connection,
-            phase: Phase::Served,
+            presence: Presence::Served,
             is_ready: true,
             is_silent: false,
             asker: Asker::Unheard,
@@ -118,12 +118,12 @@ impl Peer {
     }
 
     pub(crate) fn is_gone(&self) -> bool {
-        matches!(self.phase, Phase::Gone)
+        matches!(self.presence, Presence::Gone)
     }
 
     /// Reports whether the peer is still answered.
     pub(crate) fn is_served(&self) -> bool {
-        matches!(self.phase, Phase::Served)
+        matches!(self.presence, Presence::Served)
     }
 
     /// Reports whether the peer can go on without waiting and is still answered.
@@ -180,24 +180,24 @@ impl Peer {
 
     /// Returns when the peer began to be disconnected, if it isn't gone yet.
     pub(crate) fn leaves_since(&self) -> Option<Duration> {
-        match self.phase {
-            Phase::Leaving(_) => Some(self.since),
-            Phase::Served | Phase::Gone => None,
+        match self.presence {
+            Presence::Leaving(_) => Some(self.since),
+            Presence::Served | Presence::Gone => None,
         }
     }
 
     /// Drops the peer without waiting for it.
     pub(crate) fn let_go(&mut self) {
-        self.phase = Phase::Gone;
+        self.presence = Presence::Gone;
     }
 
     /// Returns when the peer's time is up. A peer that is answered gets `patience`, one that is being disconnected at
     /// most a second.
     pub(crate) fn deadline(&self, patience: Duration) -> Duration {
-        let wait = match self.phase {
-            Phase::Served => patience,
-            Phase::Leaving(_) => Duration::from_secs(1).min(patience),
-            Phase::Gone => Duration::ZERO,
+        let wait = match self.presence {
+            Presence::Served => patience,
+            Presence::Leaving(_) => Duration::from_secs(1).min(patience),
+            Presence::Gone => Duration::ZERO,
         };
         self.since.saturating_add(wait)
     }
@@ -206,9 +206,9 @@ impl Peer {
     /// side first, so that the peer sees the end.
     pub(crate) fn expire(&mut self, now: Duration, patience: Duration) {
         if !self.is_ready && now >= self.deadline(patience) {
-            match self.phase {
-                Phase::Served => self.begin_to_leave(now),
-                Phase::Leaving(_) | Phase::Gone => self.phase = Phase::Gone,
+            match self.presence {
+                Presence::Served => self.begin_to_leave(now),
+                Presence::Leaving(_) | Presence::Gone => self.presence = Presence::Gone,
             }
         }
     }
@@ -223,9 +223,9 @@ impl Peer {
     fn begin_to_leave(&mut self, now: Duration) {
         self.since = now;
         self.is_ready = true;
-        self.phase = match self.stream.shutdown(Shutdown::Write) {
-            Ok(()) => Phase::Leaving(MOST_DROPPED),
-            Err(_) => Phase::Gone,
+        self.presence = match self.stream.shutdown(Shutdown::Write) {
+            Ok(()) => Presence::Leaving(MOST_DROPPED),
+            Err(_) => Presence::Gone,
         };
     }
 
@@ -238,14 +238,14 @@ impl Peer {
                 Ok(0) => break,
                 Ok(_) => {}
                 Err(e) if e.kind() == ErrorKind::WouldBlock => {
-                    self.phase = Phase::Leaving(pieces - dropped);
+                    self.presence = Presence::Leaving(pieces - dropped);
                     self.is_ready = false;
                     return;
                 }
                 Err(_) => break,
             }
         }
-        self.phase = Phase::Gone;
+        self.presence = Presence::Gone;
     }
 
     /// Answers what has come, up to the end of a turn. Returns what the connection then waits for, whether its peer has
@@ -256,7 +256,7 @@ impl Peer {
         chain: &mut Chain<S>,
         board: &Switchboard,
         words: &O,
-    ) -> (Result<Standing, TurnFault>, bool, Asker)
+    ) -> (Result<Phase, TurnFault>, bool, Asker)
         ensures { (exchanges : List Exchange) × RunsOver S.Store (O.meaning words.now) chain.old chain.new exchanges }
     {
         let mut outlet = Outlet {
@@ -266,9 +266,9 @@ impl Peer {
         };
         let begun = time(rt, self.since);
         let end = begun.saturating_add(Duration::from_millis(LONGEST_TURN));
-        let mut standing = Ok(Standing::Ready);
+        let mut phase = Ok(Phase::Ready);
         'requests: for _ in 0..MOST_IN_A_TURN {
-            standing = self.connection.advance(
+            phase = self.connection.advance(
                 rt.alloc(),
                 &mut &self.stream,
                 &mut outlet,
@@ -277,11 +277,11 @@ impl Peer {
                 words,
                 1,
             );
-            if !matches!(standing, Ok(Standing::Ready)) || time(rt, begun) >= end {
+            if !matches!(phase, Ok(Phase::Ready)) || time(rt, begun) >= end {
                 break;
             }
         }
-        (standing, outlet.has_taken, outlet.asker)
+        (phase, outlet.has_taken, outlet.asker)
     }
 
     /// Answers what has come, and notes what the connection then waits for.
@@ -295,17 +295,17 @@ impl Peer {
         ensures { (exchanges : List Exchange) × RunsOver S.Store (O.meaning words.now) chain.old chain.new exchanges }
     {
         let before = self.connection.replies();
-        let (standing, has_taken, asker) = self.answer_some(rt, chain, board, words);
+        let (phase, has_taken, asker) = self.answer_some(rt, chain, board, words);
         self.asker = asker;
         let now = time(rt, self.since);
         if has_taken || self.connection.replies() != before {
             self.since = now;
         }
-        self.is_silent = matches!(standing, Ok(Standing::Reads)) && self.connection.is_between();
-        match standing {
-            Ok(Standing::Reads | Standing::Writes) => self.is_ready = false,
-            Ok(Standing::Ready) => {}
-            Ok(Standing::Ended(_)) | Err(_) => self.begin_to_leave(now),
+        self.is_silent = matches!(phase, Ok(Phase::Reads)) && self.connection.is_between();
+        match phase {
+            Ok(Phase::Reads | Phase::Writes) => self.is_ready = false,
+            Ok(Phase::Ready) => {}
+            Ok(Phase::Ended(_)) | Err(_) => self.begin_to_leave(now),
         }
     }
 
@@ -319,10 +319,10 @@ impl Peer {
     )
         ensures { (exchanges : List Exchange) × RunsOver S.Store (O.meaning words.now) chain.old chain.new exchanges }
     {
-        match self.phase {
-            Phase::Served => self.answer(rt, chain, board, words),
-            Phase::Leaving(pieces) => self.leave(pieces),
-            Phase::Gone => {}
+        match self.presence {
+            Presence::Served => self.answer(rt, chain, board, words),
+            Presence::Leaving(pieces) => self.leave(pieces),
+            Presence::Gone => {}
         }
     }
 }

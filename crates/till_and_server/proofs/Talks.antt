@@ -12,7 +12,7 @@ use Rattle.http_messages.specs.declared.messages.Fault.TheVariants.{BadHead, Too
 use Rattle.http_messages.proofs.StreamLemmas.{HasMessage-unique, HasMessage-not-bad, HasMessage-not-long, IsBadHead-append, IsTooLong-append}
 use Rattle.counter_http.specs.Exchanges.{Exchange, text_of, texts, messages_of, HasRun}
 use Rattle.counter_http.specs.Served.{IsEnd, IsRefused, fault_text}
-use Rattle.counter_http.specs.Standings.{Line, opened, GoesOrEnds}
+use Rattle.counter_http.specs.Phases.{ConnectionState, opened, GoesOrEnds}
 use Rattle.counter_http.specs.declared.connection.End.{End}
 use Rattle.counter_http.specs.declared.connection.End.TheVariants.{Closed, Cut, Asked, Limit, Refused, StoreFailed}
 use Rattle.counter_http.specs.declared.connection.ServeFault.TheVariants.{Read, Write, Memory}
@@ -65,7 +65,7 @@ same_kept None written x = tt
 same_kept (Some xs) None x = absurd x
 same_kept (Some xs) (Some ys) x = x ∙ sym (append-nil xs)
 
-turn_refused : (most : ℕ) (line : Line) (server : Streams) (mine : List Exchange) (x : ServesThese (Turns line) most mine server)
+turn_refused : (most : ℕ) (line : ConnectionState) (server : Streams) (mine : List Exchange) (x : ServesThese (Turns line) most mine server)
     → (x.last ≡ []) ⊎ ((fault : Fault) × IsRefused fault line.inbox)
 turn_refused most line server mine x = by_ending (opened most).ending refl
   where

@@ -5,7 +5,7 @@ use Rattle.std.specs.Io.KnownBytes.{Appends, Consumes}
 use Rattle.shop_model.specs.Answers.{Answer}
 use Rattle.counter_http.specs.Exchanges.{Exchange, answers_of}
 use Rattle.counter_http.specs.Served.{IsServed, IsFault}
-use Rattle.counter_http.specs.Standings.{Line, opened, IsTurn}
+use Rattle.counter_http.specs.Phases.{ConnectionState, opened, IsTurn}
 use Rattle.counter_http.specs.declared.connection.Served.{Served}
 use Rattle.counter_http.specs.declared.connection.ServeFault.{ServeFault}
 use Rattle.till_client.specs.Replies.{answer_bytes}
@@ -45,7 +45,7 @@ pub record IsWritten (request : List ℕ) (output written : Option (List ℕ)) :
 pub data Serving : Type 0 where
   Ends : Served → Serving
   Breaks : ServeFault → Serving
-  Turns : Line → Serving
+  Turns : ConnectionState → Serving
 
 -- The contract of `serve` for a connection that ended or failed, or of `Connection::advance` for the turns of a new connection. `Ran` holds for the exchanges.
 abbrev pub Serves : Serving → ℕ → (List Exchange → Type 0) → Streams → Type 0

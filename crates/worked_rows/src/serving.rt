@@ -3,7 +3,7 @@
 use crate::values::Values;
 use chain_engine::Chain;
 use counter_http::{
-    Connection, End, ServeFault, Standing, Switchboard, TurnFault, reply_bytes, serve,
+    Connection, End, Phase, ServeFault, Switchboard, TurnFault, reply_bytes, serve,
 };
 use office_words::ClapWords;
 use row_player::{Come, How, Pieces, Texts, Tills};
@@ -43,19 +43,19 @@ fn serve_by_turns<S: Alter>(
     };
     let words = ClapWords { alloc };
     let mut pieces = Pieces::new(input, how);
-    let mut last = Ok(Standing::Ready);
+    let mut last = Ok(Phase::Ready);
     // (a turn answers at least one request, or is the last)
     for _ in 0..=how.most {
         last = connection.advance(alloc, &mut pieces, told, chain, &board, &words, turns);
-        let Ok(Standing::Ready) = last else {
+        let Ok(Phase::Ready) = last else {
             break;
         };
     }
     let answered = connection.replies();
     let (word, replies) = match last {
         // (the reply to a text that is no message counts too)
-        Ok(Standing::Ended(End::Refused)) => ("refused", answered.saturating_add(1)),
-        Ok(Standing::Ended(end)) => (word_of(end), answered),
+        Ok(Phase::Ended(End::Refused)) => ("refused", answered.saturating_add(1)),
+        Ok(Phase::Ended(end)) => (word_of(end), answered),
         Err(TurnFault::Read) => ("read", answered),
         // (the reply to the last request isn't wholly written)
         Err(TurnFault::Write) => ("write", answered.saturating_sub(1)),

@@ -1,6 +1,6 @@
 use Rattle.shop_types.proofs.Common.{refl, arith, rules, Keeps-refl}
-use Rattle.counter_http.specs.Standings.{IsStanding, IsTurnFault}
-use Rattle.counter_http.specs.declared.machine.Standing.TheVariants.{Ended}
+use Rattle.counter_http.specs.Phases.{IsPhase, IsTurnFault}
+use Rattle.counter_http.specs.declared.machine.Phase.TheVariants.{Ended}
 use Rattle.counter_http.specs.declared.machine.TurnFault.TheVariants.{Read, Write}
 use Rattle.counter_http.proofs.Serving.{served_none, served_by, read_fails, write_fails}
 use Rattle.counter_http.proofs.Runs.{run_starts}
@@ -20,7 +20,7 @@ returns-in_default-new-clause-fault g c = (run_starts, Keeps-refl _, Keeps-refl 
 
 pub returns-in-Ok-Ended-clause-served : goal.returns-in-Ok-Ended-clause-served
 returns-in-Ok-Ended-clause-served g c =
-    let ended : IsStanding (Ended c.in-Ok-Ended.end) c.args.max_requests c.in-Ok.connection c.advance-turn.new.self = search rules in
+    let ended : IsPhase (Ended c.in-Ok-Ended.end) c.args.max_requests c.in-Ok.connection c.advance-turn.new.self = search rules in
     rw (c.replies-replies.ensures, c.refusals.ensures) (served_by _ _ _ _ _ _ _ _ (rw c.in-Ok.ensures at c.advance-turn.ensures.turn) ended)
 
 pub returns-in-Ok-Reads-clause-fault : goal.returns-in-Ok-Reads-clause-fault

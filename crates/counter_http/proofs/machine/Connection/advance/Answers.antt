@@ -1,5 +1,5 @@
 use Rattle.std.proofs.Common.{ap, arith}
-use Rattle.counter_http.specs.Standings.{Line}
+use Rattle.counter_http.specs.Phases.{ConnectionState}
 use Rattle.counter_http.proofs.Following.{run_follows}
 use Rattle.counter_http.proofs.Runs.{run_starts}
 use Rattle.counter_http.proofs.Turns.{turn_none, turn_then, turn_on}
@@ -13,8 +13,8 @@ turn-init g c = record {
 
 pub turn-preserved-else-not-more : goal.turn-preserved-else-not-more
 turn-preserved-else-not-more g c =
-    let first = ap (λ (l : Line). l.replies) c.self.view_is in
-    let before = ap (λ (l : Line). l.replies) c.self-in-turn.view_is in
+    let first = ap (λ (l : ConnectionState). l.replies) c.self.view_is in
+    let before = ap (λ (l : ConnectionState). l.replies) c.self-in-turn.view_is in
     record {
       turns =
           turn_on (turn_then (turn_on c.turn.invariant.turns (c.send.ensures.turn _)) (c.answer_next.ensures.turn _ _) (λ es more x y. run_follows es more x y))
@@ -24,8 +24,8 @@ turn-preserved-else-not-more g c =
 
 pub turn-preserved : goal.turn-preserved
 turn-preserved g c =
-    let first = ap (λ (l : Line). l.replies) c.self.view_is in
-    let before = ap (λ (l : Line). l.replies) c.self-in-turn.view_is in
+    let first = ap (λ (l : ConnectionState). l.replies) c.self.view_is in
+    let before = ap (λ (l : ConnectionState). l.replies) c.self-in-turn.view_is in
     record {
       turns = turn_then (turn_on c.turn.invariant.turns (c.send.ensures.turn _)) (c.answer_next.ensures.turn _ _) (λ es more x y. run_follows es more x y);
       few = omega (arith, c.send.ensures.same, c.answer_next.ensures.one);

@@ -1,6 +1,6 @@
 use Rattle.std.proofs.Common.{◌+◌, ◌-◌, ◌*◌, ◌≤◌, length}
 use Rattle.counter_http.specs.Exchanges.{RunsOver}
-use Rattle.counter_http.specs.Standings.{IsTurn}
+use Rattle.counter_http.specs.Phases.{IsTurn}
 use Rattle.counter_http.proofs.Turns.{live}
 use Rattle.counter_http.proofs.machine.Connection.advance.Given as goal
 
