@@ -8,13 +8,18 @@ use std::io::{self, Write};
 use std::marker::Model;
 use std::mem;
 
+/// The first word of a line in which a till says that a refused entry was done.
+const SURE: &str = "Entry ";
+
 /// What was sent, answered or written; what was written to standard error; and how it ended: `closed 1`, or `status 2`
-/// of a program. Keeps also the first fault.
+/// of a program or a till's words. Keeps also the first fault, and the whole row's lines about entries that a till made
+/// sure of. Such a line may be printed after later words.
 #[derive(Drop)]
 pub struct Texts {
     pub out: Vec<u8>,
     pub err: Vec<u8>,
     end: Vec<u8>,
+    sure: Vec<u8>,
     /// How many replies are in `out`, if they are put there one by one.
     replies: u32,
     /// How many bytes a connection's writer has room for in `out`.
@@ -26,9 +31,14 @@ pub struct Texts {
 impl Model for Texts {
     ghost use Rattle.std.specs.Prelude.{ℕ, List};
 
-    ghost Value = { List ℕ × List ℕ × List ℕ };
+    ghost Value = { List ℕ × List ℕ × List ℕ × List ℕ };
 
-    ghost view = { λ it. (it.out.items, it.end.items, it.err.items) };
+    ghost view = { λ it. (it.out.items, it.end.items, it.err.items, it.sure.items) };
+}
+
+/// Adds the line and its end. Reports whether there was memory.
+fn put_line(text: &mut Vec<u8>, line: &str) -> bool {
+    text.extend_from_slice(line.as_bytes()).is_ok() && text.extend_from_slice(b"\n").is_ok()
 }
 
 impl Texts {
@@ -37,13 +47,14 @@ impl Texts {
             out: Vec::new(alloc),
             err: Vec::new(alloc),
             end: Vec::new(alloc),
+            sure: Vec::new(alloc),
             replies: 0,
             room: usize::MAX,
             fault: Fault::Nothing,
         }
     }
 
-    /// Empties the texts, and sets the room of a connection's writer. Keeps the fault.
+    /// Empties the texts, and sets the room of a connection's writer. Keeps the fault and the lines about entries.
     pub fn clear(&mut self, room: usize) {
         self.out.clear();
         self.err.clear();
@@ -79,6 +90,12 @@ impl Texts {
         self.err.as_slice()
     }
 
+    pub fn sure(&self) -> &[u8]
+        ensures { result.now ≡ self.now.3 }
+    {
+        self.sure.as_slice()
+    }
+
     /// Adds what was sent or written (`out`), or what was written to standard error (`err`). With another word,
     /// replaces how it ended.
     pub fn puts(&mut self, word: &str, bytes: &[u8]) {
@@ -101,6 +118,30 @@ impl Texts {
         self.out.truncate(self.room);
         self.needs(is_put, "this is no status");
         self.ends("closed", replies);
+    }
+
+    /// Adds a line that a till printed.
+    fn prints(&mut self, line: &str) {
+        let is_put = if line.starts_with(SURE) {
+            put_line(&mut self.sure, line)
+        } else {
+            put_line(&mut self.out, line)
+        };
+        self.needs(is_put, "no memory");
+    }
+
+    /// Puts the status of a till's words, and the lines that the till printed.
+    pub fn printed(&mut self, status: u8, lines: &str) {
+        self.clear(usize::MAX);
+        self.ends("status", u32::from(status));
+        for line in lines.lines() {
+            self.prints(line);
+        }
+    }
+
+    /// Swaps what was sent with the lines about entries.
+    fn turn(&mut self) {
+        mem::swap(&mut self.out, &mut self.sure);
     }
 
     /// Swaps what was sent with `out`.
@@ -161,6 +202,10 @@ pub enum Kind {
     Audit,
     Connection,
     Program,
+    /// Words at a till.
+    Words,
+    /// Words at a till, and nobody sees what is printed. Lines say what is wanted, and nothing is compared.
+    Unseen,
 }
 
 /// What was asked last, with the texts to compare.
@@ -171,6 +216,8 @@ pub struct Asked {
     pub wanted: Texts,
     /// How many exchanges the row has had.
     pub count: u32,
+    /// The line that was played last.
+    pub at: usize,
 }
 
 impl Asked {
@@ -180,6 +227,7 @@ impl Asked {
             told: Texts::new(alloc),
             wanted: Texts::new(alloc),
             count: 0,
+            at: 0,
         }
     }
 
@@ -193,25 +241,27 @@ impl Asked {
 
     /// Reads a line that says more of what is wanted. For a connection it is a reply, with the word as its status, or
     /// `end`. For a program it is `out`, `err`, `status` or `usage`. `usage` wants status 2 and some text on standard
-    /// error.
+    /// error. For a till's words it is `status` or `|`.
     pub fn wants(&mut self, alloc: Global, word: &str, line: &str) {
         let kind = self.kind;
         let told = &mut self.told;
         let wanted = &mut self.wanted;
         let mut bytes = Vec::new(alloc);
-        put_bytes(alloc, line, &mut bytes, told);
+        if word != "|" {
+            put_bytes(alloc, line, &mut bytes, told);
+        }
         match (kind, word) {
-            (Kind::Nothing | Kind::Audit, _) => told.needs(false, "a reply has no request"),
-            (Kind::Connection, "end") | (Kind::Program, "out" | "err") => {
-                wanted.puts(word, bytes.as_slice());
-            }
-            (Kind::Connection, _) => wanted.replies(word, bytes.as_slice()),
-            (Kind::Program, "status") => {
+            (Kind::Words | Kind::Unseen, "|") => wanted.prints(line),
+            (Kind::Program | Kind::Words | Kind::Unseen, "status") => {
                 told.needs(wanted.end().is_empty(), "two lines say the status");
                 let status = number(line, told);
                 wanted.ends("status", status);
             }
-            (Kind::Program, _) => {
+            (Kind::Connection, "end") | (Kind::Program, "out" | "err") => {
+                wanted.puts(word, bytes.as_slice());
+            }
+            (Kind::Connection, _) => wanted.replies(word, bytes.as_slice()),
+            (Kind::Program, "usage") => {
                 told.needs(line.is_empty(), "the usage's text isn't compared");
                 told.needs(wanted.end().is_empty(), "two lines say the status");
                 wanted.ends("status", 2);
@@ -220,6 +270,7 @@ impl Asked {
                     wanted.puts("err", b"?");
                 }
             }
+            _ => told.needs(false, "a reply has no request"),
         }
         let fault = wanted.fault();
         told.fails(fault);
@@ -243,6 +294,28 @@ impl Asked {
         Ok(())
     }
 
+    /// Succeeds only if the whole row's lines about entries are the wanted ones, in all bytes.
+    pub fn settle_sure(&self) -> Result<(), Fault>
+        ensures { OnOk result (self.now.told.3 ≡ self.now.wanted.3) }
+    {
+        if self.told.sure() != self.wanted.sure() {
+            return Err(Fault::Out);
+        }
+        Ok(())
+    }
+
+    /// Compares the whole row's lines about entries, unless there is a fault. Records a difference as a fault.
+    pub fn compare_sure(&mut self) {
+        if !self.told.is_well() {
+            return;
+        }
+        if let Err(fault) = self.settle_sure() {
+            self.told.turn();
+            self.wanted.turn();
+            self.told.fails(fault);
+        }
+    }
+
     /// Compares what was asked last, unless there is a fault or a line with this first word says more of it. Records a
     /// difference as a fault.
     pub fn compare(&mut self, word: &str) {
@@ -250,10 +323,14 @@ impl Asked {
         if matches!(kind, Kind::Nothing) || says_more(word) || !self.told.is_well() {
             return;
         }
-        if matches!(kind, Kind::Connection) && self.wanted.end().is_empty() {
-            self.told.needs(false, "a request has no reply");
-        }
         self.kind = Kind::Nothing;
+        let is_said = !self.wanted.end().is_empty();
+        match kind {
+            Kind::Unseen => return,
+            Kind::Words if !is_said => self.wanted.ends("status", 0),
+            Kind::Connection => self.told.needs(is_said, "a request has no reply"),
+            _ => {}
+        }
         if let Err(fault) = self.settle() {
             self.told.fails(fault);
         }

@@ -1,6 +1,7 @@
 //! The chain of the row that is played, and what a row does with it.
 use crate::asked::Texts;
-use crate::stage::{Calls, Deed, Image, MANY, NEVER, Opening, Stage, WHOLE};
+use crate::ram::{Calls, Image, MANY, NEVER};
+use crate::stage::{Deed, Opening, Stage, WHOLE};
 use crate::stops::{flip, resume_at_each, sweep, trial};
 use crate::texts::number;
 use std::alloc::Global;

@@ -1,4 +1,6 @@
 //! What is wrong with a line.
+use std::alloc::AllocError;
+use std::io;
 
 /// Why a row stops at a line.
 #[derive(Clone, Copy)]
@@ -15,4 +17,16 @@ pub enum Fault {
     End,
     /// The program wrote something else to its standard error.
     Err,
+}
+
+impl From<AllocError> for Fault {
+    fn from(_: AllocError) -> Fault {
+        Fault::Line("no memory")
+    }
+}
+
+impl From<io::Error> for Fault {
+    fn from(_: io::Error) -> Fault {
+        Fault::Line("the input or the output failed")
+    }
 }

@@ -1,11 +1,11 @@
 //! Files of rows, one after another.
 use crate::asked::Asked;
 use crate::fault::Fault;
-use crate::row::Row;
-use crate::stage::Stage;
+use crate::row::{Player, Row};
 use std::fs::read_to_string;
 use std::marker::Model;
 use std::process::ExitCode;
+use std::{env, io};
 
 /// The outcome of all rows so far.
 #[derive(Drop)]
@@ -102,8 +102,8 @@ impl Sum {
 }
 
 /// Ends the row that was played, if there is one, and prints its outcome. `rounds` without `done` is a fault.
-fn end<S: Stage>(rt: &HostRuntime, row: &mut Row<'_, S>, playing: &Playing<'_>, sum: &mut Sum) {
-    let mut line = row.at;
+fn end<P: Player>(rt: &HostRuntime, row: &mut Row<'_, P>, playing: &Playing<'_>, sum: &mut Sum) {
+    let mut line = row.asked.at;
     if row.asked.told.is_well() {
         if playing.name.is_empty() {
             return;
@@ -118,9 +118,9 @@ fn end<S: Stage>(rt: &HostRuntime, row: &mut Row<'_, S>, playing: &Playing<'_>, 
 }
 
 /// Plays the next line, if there is one.
-fn play_next<S: Stage>(
+fn play_next<P: Player>(
     rt: &HostRuntime,
-    row: &mut Row<'_, S>,
+    row: &mut Row<'_, P>,
     playing: &mut Playing<'_>,
     sum: &mut Sum,
 ) -> bool {
@@ -138,7 +138,7 @@ fn play_next<S: Stage>(
             playing.is_wrong = word == "wrong";
             playing.left = 0;
             row.clear();
-            row.at = playing.line;
+            row.asked.at = playing.line;
             sum.see(rest, &mut row.asked);
         }
         "rounds" if playing.left == 0 => {
@@ -162,9 +162,9 @@ fn play_next<S: Stage>(
 }
 
 /// Plays the lines of a file.
-fn play_lines<S: Stage>(
+fn play_lines<P: Player>(
     rt: &HostRuntime,
-    row: &mut Row<'_, S>,
+    row: &mut Row<'_, P>,
     path: &str,
     text: &str,
     sum: &mut Sum,
@@ -190,8 +190,8 @@ fn play_lines<S: Stage>(
 }
 
 /// Plays the files in this order, and prints the outcome of each row and of all.
-pub fn play_all<S: Stage>(rt: &HostRuntime, stage: S, paths: &[String]) -> ExitCode {
-    let mut row = Row::new(rt, stage);
+fn play_files<P: Player>(rt: &HostRuntime, player: P, paths: &[String]) -> ExitCode {
+    let mut row = Row::new(rt, player);
     let mut sum = Sum {
         rows: 0,
         wrong: 0,
@@ -212,4 +212,13 @@ pub fn play_all<S: Stage>(rt: &HostRuntime, stage: S, paths: &[String]) -> ExitC
     let (rows, exchanges, wrong, is_well) = (sum.rows, sum.exchanges, sum.wrong, sum.is_well);
     let told = println!(rt; "{rows} rows, {exchanges} exchanges, {wrong} rows are wrong");
     ExitCode::from(if is_well && told.is_ok() { 0 } else { 1 })
+}
+
+/// Plays the files that the program's arguments name.
+pub fn play_all<P: Player>(rt: &HostRuntime, player: P) -> io::Result<ExitCode> {
+    let mut paths = Vec::new(rt.alloc());
+    for path in env::args(rt)?.skip(1) {
+        paths.push(path)?;
+    }
+    Ok(play_files(rt, player, paths.as_slice()))
 }

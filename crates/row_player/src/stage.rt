@@ -1,10 +1,9 @@
 //! What rows are played on: the product's chain and its program, by the few calls that rows need.
 use crate::asked::Texts;
+use crate::ram::{Calls, Image};
 use crate::tills::Tills;
 use std::alloc::Global;
 use std::io::{self, ErrorKind, Read};
-use std::marker::Model;
-use std::mem;
 
 /// How requests come and are answered.
 #[derive(Clone, Copy)]
@@ -69,95 +68,6 @@ impl Read for Pieces<'_> {
         Ok(n)
     }
 }
-
-/// What the files of a chain hold, and what was put there before. After `Stage::close` these are what the closed chain
-/// left, and what a crash leaves of it.
-#[derive(Drop)]
-pub struct Image {
-    log: Vec<u8>,
-    db: Vec<u8>,
-    log_before: Vec<u8>,
-    db_before: Vec<u8>,
-}
-
-/// Says nothing of the value. So its holder isn't checked over its parts.
-impl Model for Image {
-    ghost use Rattle.std.specs.Prelude.{⊤};
-
-    ghost Value = { ⊤ };
-
-    ghost view = { λ _. tt };
-}
-
-impl Image {
-    /// Makes files with nothing in them.
-    pub fn new(alloc: Global) -> Image {
-        Image {
-            log: Vec::new(alloc),
-            db: Vec::new(alloc),
-            log_before: Vec::new(alloc),
-            db_before: Vec::new(alloc),
-        }
-    }
-
-    pub fn log(&self) -> &[u8] {
-        self.log.as_slice()
-    }
-
-    pub fn db(&self) -> &[u8] {
-        self.db.as_slice()
-    }
-
-    /// Swaps what the files hold with what was put before.
-    pub fn turn(&mut self) {
-        mem::swap(&mut self.log, &mut self.log_before);
-        mem::swap(&mut self.db, &mut self.db_before);
-    }
-
-    /// Puts these bytes into the files. Keeps what they held as what was put before.
-    pub fn put(&mut self, log: &[u8], db: &[u8], told: &mut Texts) {
-        self.turn();
-        self.log.clear();
-        self.db.clear();
-        let is_put = self.log.extend_from_slice(log).is_ok()
-            && self.db.extend_from_slice(db).is_ok();
-        told.needs(is_put, "no memory");
-    }
-
-    /// Puts the byte at the place in the database's file, and returns the byte that was there.
-    pub(crate) fn swap_byte(&mut self, place: usize, byte: u8) -> u8 {
-        match self.db.get_mut(place) {
-            Some(it) => mem::replace(it, byte),
-            None => byte,
-        }
-    }
-
-    pub(crate) fn is_same(&self, other: &Image) -> bool {
-        self.log.as_slice() == other.log.as_slice() && self.db.as_slice() == other.db.as_slice()
-    }
-}
-
-/// After how many calls the disk of each file fails, or how many calls it had.
-#[derive(Clone, Copy)]
-pub struct Calls {
-    pub log: u64,
-    pub db: u64,
-}
-
-/// The disks never fail.
-pub const NEVER: Calls = Calls {
-    log: u64::MAX,
-    db: u64::MAX,
-};
-
-/// More calls of a disk than an opening and a connection take.
-pub const MOST_CALLS: u64 = 4000;
-
-/// The disks fail only after more calls than are made.
-pub(crate) const MANY: Calls = Calls {
-    log: MOST_CALLS,
-    db: MOST_CALLS,
-};
 
 /// How the player gets a chain in files.
 #[derive(Clone, Copy)]

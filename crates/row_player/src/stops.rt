@@ -1,7 +1,8 @@
 //! Connections, openings, migrations and the making of a chain, stopped at each call of the disks in turn, in copies of
 //! a chain's files; and a changed byte.
 use crate::asked::Texts;
-use crate::stage::{Calls, Image, MANY, MOST_CALLS, NEVER, Opening, Stage, WHOLE};
+use crate::ram::{Calls, Image, MANY, MOST_CALLS, NEVER, failing_after};
+use crate::stage::{Opening, Stage, WHOLE};
 use std::alloc::Global;
 
 /// Head office asks for the audit.
@@ -30,18 +31,6 @@ struct Stopped<'t> {
     input: &'t [u8],
     /// What is sent back if nothing is stopped.
     wanted: &'t [u8],
-}
-
-/// Makes one file's disk fail after so many calls. The other file's disk never fails.
-fn behind(is_log: bool, calls: u64) -> Calls {
-    if is_log {
-        Calls {
-            log: calls,
-            ..NEVER
-        }
-    } else {
-        Calls { db: calls, ..NEVER }
-    }
 }
 
 /// Opens a chain in copies of the files, sends it the input, and closes it. Returns how many calls were made.
@@ -138,7 +127,7 @@ fn stop_at_each<S: Stage>(
     told: &mut Texts,
 ) {
     for last in 1..=made {
-        let calls = behind(is_log, made.saturating_sub(last));
+        let calls = failing_after(is_log, made.saturating_sub(last));
         if !stop(alloc, stage, stopped, files, calls, told) {
             return;
         }
@@ -194,7 +183,7 @@ pub fn resume_at_each<S: Stage>(
 ) {
     for calls in 0..MOST_CALLS {
         told.clear(usize::MAX);
-        if S::resume(alloc, input, files, behind(is_log, calls), told) {
+        if S::resume(alloc, input, files, failing_after(is_log, calls), told) {
             let before = str::from_utf8(told.out()).unwrap_or("no text");
             let is_first = told
                 .err()
@@ -205,7 +194,7 @@ pub fn resume_at_each<S: Stage>(
             told.needs(is_put, "no memory");
             told.needs(
                 is_first && is_same,
-                "another reply before a stop or behind it",
+                "another reply before a stop or after it",
             );
             if is_whole || !told.is_well() {
                 return;

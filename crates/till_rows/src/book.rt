@@ -1,11 +1,9 @@
 //! Types words at a till's book in files in memory.
-use crate::disks::{Calls, Image, InMemory, NEVER, closed, crashed, disks, image_of};
-use crate::fault::Fault;
 use crate::kit::Kit;
 use crate::line::Counter;
-use crate::texts::Texts;
 use crate::word::{Typist, type_at};
 use crate::world::World;
+use row_player::{Calls, Fault, Image, InMemory, NEVER, Texts, crash, disks};
 use sqlite::{Alter, Connection, FileStore, Files};
 use std::alloc::{AllocError, Global};
 use std::marker::Model;
@@ -15,9 +13,24 @@ use till_files::{close_book, create_book, open_book, restart_book};
 
 pub const NO_BOOK: Fault = Fault::Line("no book is opened");
 
+/// Closes the connection. Returns what the files hold then, all of it in the database's own file.
+pub fn closed<D: InMemory>(alloc: Global, conn: Connection<FileStore<D>>) -> Result<Image, Fault> {
+    match conn.close_files() {
+        Ok(files) => {
+            let image = Image::of(alloc, &files);
+            drop(files);
+            Ok(image)
+        }
+        Err((_, store)) => {
+            drop(store);
+            Err(Fault::Line("the log isn't copied"))
+        }
+    }
+}
+
 /// Returns what the files of a new book hold.
 pub fn new_book<D: InMemory>(alloc: Global) -> Result<Image, Fault> {
-    match create_book::<D>(alloc, disks(alloc, &Image::new(alloc), NEVER)?) {
+    match create_book::<D>(alloc, disks(alloc, &Image::new(alloc), NEVER)) {
         Ok(conn) => closed(alloc, conn),
         Err((_, files)) => {
             drop(files);
@@ -30,22 +43,22 @@ pub fn new_book<D: InMemory>(alloc: Global) -> Result<Image, Fault> {
 fn opened<D: InMemory>(alloc: Global, files: Files<D>) -> (Option<Connection<FileStore<D>>>, u32) {
     match open_book(alloc, files) {
         Ok(conn) => (Some(conn), 0),
-        Err((_, files)) => (open_book(alloc, crashed(files)).ok(), 1),
+        Err((_, mut files)) => {
+            crash(&mut files);
+            (open_book(alloc, files).ok(), 1)
+        }
     }
 }
 
 /// Opens the book that the image has, if it has one.
 fn book_of<D: InMemory>(alloc: Global, image: &Image) -> Option<Connection<FileStore<D>>> {
-    match disks(alloc, image, NEVER) {
-        Ok(files) => open_book(alloc, files).ok(),
-        Err(_) => None,
-    }
+    open_book(alloc, disks(alloc, image, NEVER)).ok()
 }
 
 /// Closes the book. Returns what its files hold then, also what wasn't synced.
-fn left<D: InMemory>(alloc: Global, conn: Connection<FileStore<D>>) -> Result<Image, AllocError> {
+fn left<D: InMemory>(alloc: Global, conn: Connection<FileStore<D>>) -> Image {
     let files = close_book(conn);
-    let image = image_of(alloc, &files);
+    let image = Image::of(alloc, &files);
     drop(files);
     image
 }
@@ -59,33 +72,8 @@ fn stopped<D: InMemory>(
     if loses {
         return restart_book(alloc, conn).ok();
     }
-    match left(alloc, conn) {
-        Ok(image) => book_of(alloc, &image),
-        Err(_) => None,
-    }
-}
-
-/// Counts the rows.
-fn count_of(rows: &BookRows) -> usize {
-    let sent = rows.replies.as_slice().len();
-    let settled = rows.settled.as_slice().len();
-    let entered = rows.entries.as_slice().len();
-    entered.saturating_add(sent).saturating_add(settled)
-}
-
-/// Counts the rows of the book, if the book can be read.
-fn count_in<S: Alter>(alloc: Global, conn: &mut Connection<S>) -> Option<usize> {
-    if !conn.is_autocommit() {
-        return None;
-    }
-    match read_book(alloc, conn) {
-        Ok(rows) => {
-            let count = count_of(&rows);
-            drop(rows);
-            Some(count)
-        }
-        Err(_) => None,
-    }
+    let image = left(alloc, conn);
+    book_of(alloc, &image)
 }
 
 fn put_reply(text: &mut Vec<u8>, reply: &BookReply) -> Result<(), AllocError> {
@@ -140,15 +128,15 @@ pub struct Book<D: InMemory> {
     conn: Option<Connection<FileStore<D>>>,
     /// Whether a stop loses what wasn't synced.
     loses: bool,
-    /// How many rows the book had after the last word.
-    rows: usize,
+    /// How many bytes all rows of the book had after the last word.
+    size: usize,
     /// The last copy of the book's files.
     copy: Image,
     /// How often the book's disk has failed.
     stops: u32,
 }
 
-/// The model is trivial, as for `Image`.
+/// The model is trivial, as for `Days`.
 impl<D: InMemory> Model for Book<D> {
     ghost use Rattle.std.specs.Prelude.{⊤};
 
@@ -159,16 +147,16 @@ impl<D: InMemory> Model for Book<D> {
 
 impl<D: InMemory> Book<D> {
     /// Opens the image's book, on disks that fail after so many calls.
-    pub fn new(alloc: Global, image: &Image, calls: Calls, loses: bool) -> Result<Book<D>, Fault> {
-        let (conn, stops) = opened(alloc, disks(alloc, image, calls)?);
-        Ok(Book {
+    pub fn new(alloc: Global, image: &Image, calls: Calls, loses: bool) -> Book<D> {
+        let (conn, stops) = opened(alloc, disks(alloc, image, calls));
+        Book {
             alloc,
             conn,
             loses,
-            rows: 0,
+            size: 0,
             copy: Image::new(alloc),
             stops,
-        })
+        }
     }
 
     /// Returns how often the book's disk has failed.
@@ -176,12 +164,12 @@ impl<D: InMemory> Book<D> {
         self.stops
     }
 
-    /// Counts the rows of the book, if the book can be read.
+    /// Counts the bytes of all rows of the book, if the book can be read.
     fn count(&mut self) -> Option<usize> {
-        let alloc = self.alloc;
-        match &mut self.conn {
-            Some(conn) => count_in(alloc, conn),
-            None => None,
+        let mut text = Vec::new(self.alloc);
+        match self.put_text(&mut text) {
+            Ok(()) => Some(text.len()),
+            Err(_) => None,
         }
     }
 
@@ -224,8 +212,8 @@ impl<D: InMemory> Book<D> {
     ) -> Result<bool, Fault> {
         let is_heard = self.does(world, kit, typist, words, told)?;
         match self.count() {
-            Some(rows) if is_heard => {
-                self.rows = rows;
+            Some(size) if is_heard => {
+                self.size = size;
                 Ok(true)
             }
             _ => Ok(false),
@@ -242,7 +230,7 @@ impl<D: InMemory> Book<D> {
         words: &str,
         told: &mut Texts,
     ) -> Result<bool, Fault> {
-        let before = self.rows;
+        let before = self.size;
         self.restart()?;
         if self.count() == Some(before) {
             return self.tries(world, kit, typist, words, told);
@@ -285,7 +273,7 @@ impl<D: InMemory> Book<D> {
         let Some(conn) = self.conn.take() else {
             return Err(NO_BOOK);
         };
-        self.copy = left(alloc, conn)?;
+        self.copy = left(alloc, conn);
         self.puts_back()
     }
 
@@ -294,8 +282,8 @@ impl<D: InMemory> Book<D> {
         let conn = book_of(self.alloc, &self.copy);
         drop(mem::replace(&mut self.conn, conn));
         match self.count() {
-            Some(rows) => {
-                self.rows = rows;
+            Some(size) => {
+                self.size = size;
                 Ok(())
             }
             None => Err(NO_BOOK),

@@ -1,16 +1,14 @@
-//! Plays a file from its first line to its last, disturbed or not.
-ghost use Rattle.std.specs.Prelude.{◌≡◌, OnOk};
-
-use crate::disks::{Calls, InMemory, NEVER, Ram};
-use crate::fault::Fault;
+//! A till's day: plays its lines, disturbed or not.
+use crate::book::Book;
 use crate::kit::Kit;
 use crate::line::{Counter, Cut};
-use crate::play::Play;
 use crate::shop::Shop;
-use crate::texts::Texts;
+use crate::word::{Typist, window_of};
 use crate::world::World;
+use crate::zones::HEAD_OFFICE;
+use row_player::{Asked, Calls, Fault, InMemory, Kind, NEVER, put_request, says_more};
 use std::alloc::Global;
-use std::marker::Model;
+use std::mem;
 
 /// The disturbances of a day.
 #[derive(Clone, Copy)]
@@ -36,162 +34,140 @@ pub const QUIET: Trouble = Trouble {
     repeats: false,
 };
 
-/// The outcome of a day.
-#[derive(Clone, Copy)]
-pub struct Day {
-    /// How many words and requests there were.
-    pub count: u32,
-    /// How often something was stopped, cut or sent once more.
-    pub stops: u32,
-}
-
-/// The line at which a day went wrong, and the reason. The line is 0 if no line is at fault, as when the book is
-/// another one.
-#[derive(Clone, Copy)]
-pub struct Wrong {
-    pub line: usize,
-    pub fault: Fault,
-}
-
-/// What is left of the last day.
+/// A day as it is played.
 #[derive(Drop)]
-pub struct Left {
+pub struct Day<'w, D: InMemory, C: Counter> {
     alloc: Global,
-    /// The last text that was printed or replied.
-    told: Texts,
-    /// All rows of the book.
-    book: Vec<u8>,
+    world: &'w World,
+    kit: Kit<C>,
+    book: Book<D>,
+    /// Where the first connection of each word breaks.
+    cut: Cut,
+    /// Whether the window stops before it gets the answer to the next word.
+    is_lost: bool,
 }
 
-/// The model is the book alone.
-impl Model for Left {
-    ghost use Rattle.std.specs.Prelude.{ℕ, List};
-
-    ghost Value = { List ℕ };
-
-    ghost view = { λ it. it.book.items };
+/// Begins a day with a server of its own, on disks of type `D`.
+pub fn begin<'w, D: InMemory>(
+    alloc: Global,
+    world: &'w World,
+    trouble: &Trouble,
+) -> Day<'w, D, Shop<D>> {
+    let shop = Shop::new(alloc, &world.chain, trouble.server);
+    Day::new(alloc, world, shop, trouble)
 }
 
-impl Left {
-    pub fn new(alloc: Global) -> Left {
-        Left {
+impl<'w, D: InMemory, C: Counter> Day<'w, D, C> {
+    /// Begins a day on a line to that server.
+    fn new(alloc: Global, world: &'w World, counter: C, trouble: &Trouble) -> Day<'w, D, C> {
+        Day {
             alloc,
-            told: Texts::new(alloc),
-            book: Vec::new(alloc),
+            world,
+            kit: Kit::new(alloc, counter, trouble.repeats),
+            book: Book::new(alloc, &world.book, trouble.book, trouble.loses),
+            cut: trouble.cut,
+            is_lost: false,
         }
     }
 
-    pub fn alloc(&self) -> Global {
-        self.alloc
+    /// Returns how often something was stopped, cut or sent once more.
+    pub fn stops(&mut self) -> u32 {
+        let cuts = self.kit.wire.get_mut().stops();
+        cuts.saturating_add(self.book.stops())
     }
 
-    pub fn told(&self) -> &[u8] {
-        self.told.text()
+    /// Puts all rows of the book.
+    pub fn put_book(&mut self, text: &mut Vec<u8>) -> Result<(), Fault> {
+        self.book.put_text(text)
     }
 
-    pub fn book(&self) -> &[u8]
-        ensures { result.now ≡ self.now }
-    {
-        self.book.as_slice()
+    /// Types words.
+    fn types(&mut self, asked: &mut Asked, typist: Typist, words: &str) {
+        asked.begin(Kind::Words, usize::MAX);
+        let cut = self.cut;
+        let before = self.kit.wire.get_mut().cuts_next(cut);
+        let is_lost = mem::replace(&mut self.is_lost, false);
+        let told = &mut asked.told;
+        match self.book.types(self.world, &self.kit, typist, words, told) {
+            Ok(true) if !is_lost => {}
+            Ok(_) => asked.kind = Kind::Unseen,
+            Err(fault) => told.fails(fault),
+        }
+        self.kit.wire.get_mut().come_again(before);
     }
 
-    /// Puts the last text, and all rows of the book if nothing is wrong yet.
-    fn puts<D: InMemory, C: Counter>(
-        &mut self,
-        play: &mut Play<'_, D, C>,
-        played: Result<(), Fault>,
-    ) -> Result<(), Fault> {
-        play.swap_told(&mut self.told);
-        self.book.clear();
-        match played {
-            Ok(()) => play.put_book(&mut self.book),
-            Err(fault) => Err(fault),
+    /// Sends somebody else's request.
+    fn asks(&mut self, asked: &mut Asked, who: &str, line: &str) {
+        asked.begin(Kind::Connection, usize::MAX);
+        let told = &mut asked.told;
+        let mut sent = Vec::new(self.alloc);
+        put_request(self.alloc, &mut sent, who, line, told);
+        told.puts("out", self.kit.wire.get_mut().ask(sent.as_slice()));
+        told.ends("closed", 1);
+    }
+
+    /// Does what happens to the line. Reports whether that was it.
+    fn befalls(&mut self, what: &str) -> bool {
+        let wire = self.kit.wire.get_mut();
+        match what {
+            "down" => wire.is_down = true,
+            "up" => wire.is_down = false,
+            "other" => wire.is_other = true,
+            "own" => wire.is_other = false,
+            "keep" => wire.keeps = true,
+            "late" => wire.come_late(),
+            _ => return false,
+        }
+        true
+    }
+
+    /// Does what happens to the clock, the sheet, the book or the line.
+    fn happens(&mut self, what: &str, text: &str) -> Result<(), Fault> {
+        match what {
+            "at" => self.kit.sets(text),
+            "sheet" => self.kit.lays(self.alloc, text),
+            "office" => {
+                let world = self.world;
+                let number = world.zones.number_of(HEAD_OFFICE)?;
+                self.kit.zone.set(number);
+                Ok(())
+            }
+            "lost" => {
+                self.is_lost = true;
+                Ok(())
+            }
+            "copy" => self.book.copies(),
+            "back" => self.book.puts_back(),
+            _ if self.befalls(what) => Ok(()),
+            _ => Err(Fault::Line("this line isn't read")),
         }
     }
 
-    /// Fails unless the book is that one, in all bytes.
-    fn settle(&self, book: &[u8]) -> Result<(), Fault>
-        ensures { OnOk result (self.now ≡ book.now) }
-    {
-        if self.book() != book {
-            return Err(Fault::Line("another book"));
+    /// Plays a line, given by its first word and the text after that word.
+    pub fn play(&mut self, asked: &mut Asked, word: &str, rest: &str) {
+        match word {
+            "says" => self.types(asked, Typist::Till, rest),
+            "window" => {
+                let (staff, words) = rest.split_once(' ').unwrap_or((rest, ""));
+                match window_of(staff) {
+                    Some(typist) => self.types(asked, typist, words),
+                    None => asked.told.needs(false, "a member of staff is wanted"),
+                }
+            }
+            _ if says_more(word) => asked.wants(self.alloc, word, rest),
+            _ if word.len() == 1 => self.asks(asked, word, rest),
+            _ => {
+                if let Err(fault) = self.happens(word, rest) {
+                    asked.told.fails(fault);
+                }
+            }
         }
-        Ok(())
     }
-}
 
-/// Plays the lines up to the first wrong one.
-fn lines<D: InMemory, C: Counter>(play: &mut Play<'_, D, C>, script: &str) -> Result<(), Fault> {
-    for line in script.lines() {
-        play.plays(line)?;
-    }
-    play.ends()
-}
-
-/// Plays the file on a line to a server.
-fn on_line<D: InMemory, C: Counter>(
-    world: &World,
-    kit: &Kit<C>,
-    script: &str,
-    trouble: &Trouble,
-    left: &mut Left,
-) -> Result<Day, Wrong> {
-    let mut play: Play<'_, D, C> = match Play::new(left.alloc(), world, kit, trouble) {
-        Ok(play) => play,
-        Err(fault) => return Err(Wrong { line: 0, fault }),
-    };
-    let played = lines(&mut play, script);
-    let put = left.puts(&mut play, played);
-    let (line, count, stops) = (play.line(), play.count(), play.stops());
-    drop(play);
-    match put {
-        Ok(()) => Ok(Day { count, stops }),
-        Err(fault) => Err(Wrong { line, fault }),
-    }
-}
-
-/// Plays the file with a server of its own, on disks of type `D`.
-fn on_disks<D: InMemory>(
-    world: &World,
-    script: &str,
-    trouble: &Trouble,
-    left: &mut Left,
-) -> Result<Day, Wrong> {
-    let alloc = left.alloc();
-    match Shop::<D>::new(alloc, world.chain(), trouble.server) {
-        Ok(shop) => {
-            let kit = Kit::new(alloc, shop, trouble.repeats);
-            let day = on_line::<D, Shop<D>>(world, &kit, script, trouble, left);
-            drop(kit);
-            day
+    /// Ends the day. If the till was never stopped, compares all lines about settled entries.
+    pub fn end(&mut self, asked: &mut Asked) {
+        if self.book.stops() == 0 {
+            asked.compare_sure();
         }
-        Err(fault) => Err(Wrong { line: 0, fault }),
-    }
-}
-
-/// Plays the file with a server of its own.
-pub fn play_day(
-    world: &World,
-    script: &str,
-    trouble: &Trouble,
-    left: &mut Left,
-) -> Result<Day, Wrong> {
-    on_disks::<Ram>(world, script, trouble, left)
-}
-
-/// Plays a disturbed day, and fails unless its book is that one. Returns how often the day was disturbed.
-pub fn disturbed(
-    world: &World,
-    script: &str,
-    book: &[u8],
-    trouble: &Trouble,
-    left: &mut Left,
-) -> Result<u32, Wrong>
-    ensures { OnOk result (left.new ≡ book.now) }
-{
-    let day = play_day(world, script, trouble, left)?;
-    match left.settle(book) {
-        Ok(()) => Ok(day.stops),
-        Err(fault) => Err(Wrong { line: 0, fault }),
     }
 }

@@ -96,11 +96,11 @@ pub struct Wire<C: Counter> {
     alloc: Global,
     counter: C,
     /// Whether no server is there.
-    is_down: bool,
+    pub is_down: bool,
     /// Whether the server has another file.
-    is_other: bool,
+    pub is_other: bool,
     /// Whether the next message is held back, and its connection breaks.
-    keeps: bool,
+    pub keeps: bool,
     /// Where the next connection breaks whose message isn't held back.
     cut: Cut,
     /// How many connections were cut, and how many messages came once more.
@@ -115,7 +115,7 @@ pub struct Wire<C: Counter> {
     come: Vec<Vec<u8>>,
 }
 
-/// The model is trivial, as for `Image`.
+/// The model is trivial, as for `Days`.
 impl<C: Counter> Model for Wire<C> {
     ghost use Rattle.std.specs.Prelude.{⊤};
 
@@ -146,21 +146,6 @@ impl<C: Counter> Wire<C> {
     /// Returns how often a connection was cut, a message came once more, or the server was stopped.
     pub fn stops(&self) -> u32 {
         self.breaks.saturating_add(self.counter.stops())
-    }
-
-    /// Sets whether no server is there from now on.
-    pub fn goes_down(&mut self, is_down: bool) {
-        self.is_down = is_down;
-    }
-
-    /// Sets whether the server has another file from now on.
-    pub fn has_other_file(&mut self, is_other: bool) {
-        self.is_other = is_other;
-    }
-
-    /// Holds the next message back.
-    pub fn keeps_next(&mut self) {
-        self.keeps = true;
     }
 
     /// Sets where the next connection breaks whose message isn't held back. Returns how many messages have come that

@@ -14,7 +14,7 @@ pub struct Hands {
     seconds: Cell<u64>,
 }
 
-/// The model is trivial, as for `Image`.
+/// The model is trivial, as for `Days`.
 impl Model for Hands {
     ghost use Rattle.std.specs.Prelude.{⊤};
 
@@ -70,7 +70,7 @@ pub struct Board {
     lists: RefCell<Vec<List>>,
 }
 
-/// The model is trivial, as for `Image`.
+/// The model is trivial, as for `Days`.
 impl Model for Board {
     ghost use Rattle.std.specs.Prelude.{⊤};
 

@@ -1,11 +1,11 @@
 //! The server: a chain in files in memory. The chain is opened anew if its disks crash.
-use crate::disks::{Calls, Image, InMemory, NEVER, closed, crashed, disks};
-use crate::fault::Fault;
+use crate::book::closed;
 use crate::line::Counter;
 use chain_engine::{Chain, restart};
 use chain_files::{FirstRows, connect, create};
 use counter_http::serve;
 use office_words::ClapWords;
+use row_player::{Calls, Fault, Image, InMemory, NEVER, crash, disks};
 use shop_types::Limits;
 use sqlite::{Alter, Connection, FileStore, Files};
 use std::alloc::Global;
@@ -19,7 +19,7 @@ fn fill<S: Alter>(conn: &mut Connection<S>) -> bool {
 
 /// Returns what the files of a chain with the opening rows hold.
 pub fn new_chain<D: InMemory>(alloc: Global) -> Result<Image, Fault> {
-    match connect::<D>(alloc, disks(alloc, &Image::new(alloc), NEVER)?) {
+    match connect::<D>(alloc, disks(alloc, &Image::new(alloc), NEVER)) {
         Ok(mut conn) => {
             if fill(&mut conn) {
                 return closed(alloc, conn);
@@ -36,7 +36,10 @@ fn opened<D: InMemory>(alloc: Global, files: Files<D>) -> (Option<Chain<FileStor
     let limits = Limits::default();
     match Chain::open_files(alloc, files, limits) {
         Ok(chain) => (Some(chain), 0),
-        Err((_, files)) => (Chain::open_files(alloc, crashed(files), limits).ok(), 1),
+        Err((_, mut files)) => {
+            crash(&mut files);
+            (Chain::open_files(alloc, files, limits).ok(), 1)
+        }
     }
 }
 
@@ -60,7 +63,7 @@ pub struct Shop<D: InMemory> {
     stops: u32,
 }
 
-/// The model is trivial, as for `Image`.
+/// The model is trivial, as for `Days`.
 impl<D: InMemory> Model for Shop<D> {
     ghost use Rattle.std.specs.Prelude.{⊤};
 
@@ -71,13 +74,13 @@ impl<D: InMemory> Model for Shop<D> {
 
 impl<D: InMemory> Shop<D> {
     /// Makes a server of the image's chain, on disks that fail after so many calls.
-    pub fn new(alloc: Global, image: &Image, calls: Calls) -> Result<Shop<D>, Fault> {
-        let (chain, stops) = opened(alloc, disks(alloc, image, calls)?);
-        Ok(Shop {
+    pub fn new(alloc: Global, image: &Image, calls: Calls) -> Shop<D> {
+        let (chain, stops) = opened(alloc, disks(alloc, image, calls));
+        Shop {
             alloc,
             chain,
             stops,
-        })
+        }
     }
 
     /// Crashes the server's disks, and opens the chain that they hold.

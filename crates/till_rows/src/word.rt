@@ -2,12 +2,11 @@
 ghost use Rattle.std.specs.Prelude.{◌≡◌, false};
 
 use crate::book::NO_BOOK;
-use crate::fault::Fault;
 use crate::kit::Kit;
 use crate::line::{Counter, Line};
 use crate::shelf::{Board, Hands};
-use crate::texts::Texts;
 use crate::world::World;
+use row_player::{Fault, Texts};
 use shop_types::{Act, LotName, NewCustomer, Person, StaffNo, StockFile};
 use sqlite::{Alter, Connection};
 use std::alloc::Global;
@@ -18,9 +17,12 @@ use till_cashier::{
 use till_requests::Zone;
 use till_words::{PersonIn, TillAct, TillLine, read_till_words, split_line};
 
+/// The stock file that is imported, whatever name is typed.
+const STOCK: &[u8] = b"film_id,copies\n1,3\n2,1\n";
+
 /// Returns the import of the stock file as a lot of that name.
-fn import(alloc: Global, stock: &[u8], lot: LotName) -> Result<TillAct, Fault> {
-    match StockFile::new(Vec::from_slice(alloc, stock)?) {
+fn import(alloc: Global, lot: LotName) -> Result<TillAct, Fault> {
+    match StockFile::new(Vec::from_slice(alloc, STOCK)?) {
         Some(file) => Ok(TillAct::Do(Act::Import { lot, file })),
         None => Err(Fault::Line("the stock file is too large")),
     }
@@ -43,12 +45,12 @@ fn join_in(alloc: Global, sheet: &[u8], who: PersonIn) -> Result<TillAct, Fault>
 }
 
 /// Replaces the name of the stock file by the file, if the act is an import, and a city's name by its number.
-fn completed(alloc: Global, act: TillAct, stock: &[u8], sheet: &[u8]) -> Result<TillAct, Fault> {
+fn completed(alloc: Global, act: TillAct, sheet: &[u8]) -> Result<TillAct, Fault> {
     match act {
         TillAct::JoinIn(who) => join_in(alloc, sheet, who),
         TillAct::Import { file, lot } => {
             drop(file);
-            import(alloc, stock, lot)
+            import(alloc, lot)
         }
         other => Ok(other),
     }
@@ -113,9 +115,9 @@ struct Typed {
 /// Returns the number of the zone in which a word is done: the one that the word sets, or else the till's.
 fn zone_in<C: Counter>(world: &World, kit: &Kit<C>, act: &TillAct) -> Result<usize, Fault> {
     if let TillAct::Zone(name) = act {
-        return world.zones().number_of(name.as_str());
+        return world.zones.number_of(name.as_str());
     }
-    Ok(kit.zone())
+    Ok(kit.zone.get())
 }
 
 /// Returns what the words ask for, with the stock file instead of its name.
@@ -138,14 +140,14 @@ fn read_input<C: Counter>(
     drop(book);
     let (own, line) = match typist {
         Typist::Till => (None, till_cashier::Line::Open),
-        Typist::Window(staff) => (Some(staff), kit.line()),
+        Typist::Window(staff) => (Some(staff), kit.line.get()),
     };
     let zone = zone_in(world, kit, &act)?;
     let drawer = match drawer {
         Some(drawer) => drawer.get(),
         None => 0,
     };
-    let act = completed(alloc, act, world.stock(), sheet)?;
+    let act = completed(alloc, act, sheet)?;
     Ok(Typed {
         act,
         staff: staff.or(own),
@@ -193,8 +195,8 @@ fn done<S: Alter, C: Counter>(
 /// Notes what a word showed of the line to the server, as the program does.
 fn note<C: Counter>(kit: &Kit<C>, is_send: bool, said: &Result<Said, TillFault>) {
     match said {
-        Ok(_) if is_send => kit.notes(till_cashier::Line::Open),
-        Err(fault) if fault.is_unanswered() => kit.notes(till_cashier::Line::Down),
+        Ok(_) if is_send => kit.line.set(till_cashier::Line::Open),
+        Err(fault) if fault.is_unanswered() => kit.line.set(till_cashier::Line::Down),
         Ok(_) | Err(_) => {}
     }
 }
@@ -202,20 +204,18 @@ fn note<C: Counter>(kit: &Kit<C>, is_send: bool, said: &Result<Said, TillFault>)
 /// Puts the fault of a word into `told`, as it is printed.
 fn tell_fault(alloc: Global, fault: TillFault, told: &mut Texts) -> Result<(), Fault> {
     let text = format!(in alloc; "{fault}\n")?;
-    told.begin(u16::from(fault.status()), text.as_str())
+    told.printed(fault.status(), text.as_str());
+    Ok(())
 }
 
 /// Puts what a word prints into `told`. Returns false if the book's disk has failed.
 fn tell(alloc: Global, said: Result<Said, TillFault>, told: &mut Texts) -> Result<bool, Fault> {
-    let is_told = match said {
-        Ok(said) => told.begin(u16::from(said.status), said.text.as_str()),
+    match said {
+        Ok(said) => told.printed(said.status, said.text.as_str()),
         Err(TillFault::Book) => return Ok(false),
-        Err(fault) => tell_fault(alloc, fault, told),
-    };
-    match is_told {
-        Ok(()) => Ok(true),
-        Err(fault) => Err(fault),
+        Err(fault) => tell_fault(alloc, fault, told)?,
     }
+    Ok(true)
 }
 
 /// Does a word at a desk in its zone, and puts what is printed into `told`. A zone that is accepted is the till's from
@@ -240,13 +240,13 @@ fn at_desk<'d, 'x, S: Alter, C: Counter>(
         line,
         zone,
     } = typed;
-    let till = world.zones().at(zone)?;
+    let till = world.zones.at(zone)?;
     let desk = Desk {
         alloc,
-        clock: kit.clock(),
+        clock: &kit.clock,
         server,
-        shelf: kit.shelf(),
-        routes: world.routes(),
+        shelf: &kit.shelf,
+        routes: &world.routes,
         settings: till.settings(),
         sheet,
         wall: till.wall(),
@@ -255,14 +255,14 @@ fn at_desk<'d, 'x, S: Alter, C: Counter>(
         drawer,
         is_json: false,
         is_sure,
-        said_day: said_day(alloc, kit.shelf()),
+        said_day: said_day(alloc, &kit.shelf),
     };
     let is_send = matches!(act, TillAct::Send);
-    let before = world.zones().at(kit.zone())?;
+    let before = world.zones.at(kit.zone.get())?;
     let said = done(&desk, conn, act, &before.settings().zone);
     note(kit, is_send, &said);
     if said.is_ok() {
-        kit.sets_zone(zone);
+        kit.zone.set(zone);
     }
     tell(alloc, said, told)
 }
@@ -280,9 +280,9 @@ pub fn type_at<'x, S: Alter, C: Counter>(
     if !conn.is_autocommit() {
         return Err(NO_BOOK);
     }
-    let sheet = read_sheet(alloc, kit.shelf());
+    let sheet = read_sheet(alloc, &kit.shelf);
     let typed = read_input(alloc, world, kit, typist, words, sheet.as_slice())?;
-    let server = Line { wire: kit.wire() };
+    let server = Line { wire: &kit.wire };
     at_desk(
         alloc,
         &*world,

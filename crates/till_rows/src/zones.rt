@@ -1,6 +1,6 @@
 //! The zones that a row's till may have.
-use crate::fault::Fault;
 use jiff_tz::{TimeZone, posix};
+use row_player::Fault;
 use std::alloc::{AllocError, Global};
 use std::marker::Model;
 use till_requests::{Settings, read_settings};
@@ -24,7 +24,7 @@ pub struct TillZone {
     rules: posix::TimeZone,
 }
 
-/// The model is trivial, as for `Image`.
+/// The model is trivial, as for `Days`.
 impl Model for TillZone {
     ghost use Rattle.std.specs.Prelude.{⊤};
 
@@ -73,7 +73,7 @@ pub struct Zones {
     zones: Vec<TillZone>,
 }
 
-/// The model is trivial, as for `Image`.
+/// The model is trivial, as for `Days`.
 impl Model for Zones {
     ghost use Rattle.std.specs.Prelude.{⊤};
 

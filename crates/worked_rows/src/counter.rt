@@ -1,12 +1,13 @@
 //! What the rows are played on: a chain in two files on disks in memory, and the whole program.
 use crate::calls::call;
-use crate::disks::{InMemory, calls_of, disks};
 use crate::serving::{listen, put_replies, serve_as};
 use crate::tables::work;
 use crate::values::Values;
 use chain_engine::{Chain, OpenFault, over_a_stop};
 use chain_files::connect;
-use row_player::{Calls, Deed, How, Image, NEVER, Opening, Stage, Texts, Tills};
+use row_player::{
+    Calls, Deed, How, Image, InMemory, NEVER, Opening, Stage, Texts, Tills, calls_of, crash, disks,
+};
 use sakila_office::run;
 use shop_types::{Limits, Token};
 use sql_files::close;
@@ -111,14 +112,13 @@ impl<D: InMemory> Stage for Counter<D> {
             Held::Closed(disks) => disks,
             Held::Gone => return NEVER,
         };
-        files.put(disks.log.held(), disks.db.held(), told);
+        files.take(&disks, told);
         let made = Calls {
             log: calls_of(&mut disks.log),
             db: calls_of(&mut disks.db),
         };
-        disks.log.crash();
-        disks.db.crash();
-        files.put(disks.log.held(), disks.db.held(), told);
+        crash(&mut disks);
+        files.take(&disks, told);
         files.turn();
         self.held = Held::Closed(disks);
         made
@@ -155,13 +155,13 @@ impl<D: InMemory> Stage for Counter<D> {
         };
         if let Deed::CopyIn = deed {
             match conn.close_files() {
-                Ok(disks) => files.put(disks.log.held(), disks.db.held(), told),
+                Ok(disks) => files.take(&disks, told),
                 Err((_, _store)) => told.needs(false, "the log isn't copied"),
             }
         } else {
             work(alloc, deed, &mut conn, told);
             let disks = close(conn);
-            files.put(disks.log.held(), disks.db.held(), told);
+            files.take(&disks, told);
         }
     }
 
