@@ -121,7 +121,7 @@ err_then (Err e) P Q is to = to e is
 
 -- ---- the first row
 
--- a reader that fails only at a row that is none of these doesn't fail at the first row that is shown, if all are such
+-- if all rows that are shown are such, a reader that fails only at other rows doesn't fail at the first one
 pub first_met :
     {Fails : Row → StoreFault → Type 0} (Is : Row → Type 0) (schema : Schema) (sql : List ℕ)
     (q : Query) (params : Row) (fine : IsFine schema sql q params) (old new : State)
