@@ -10,6 +10,7 @@ pub mod ListTexts
 pub mod ListLines
 pub mod TransitOrder
 pub mod TransitTexts
+pub mod ListFaults
 pub mod ParcelLemmas
 pub mod ParcelSteps
 pub mod Custody

@@ -43,24 +43,24 @@ module _ (tests : List Term) (params : sql.Row) (p : Consignment → Bool) where
 
 -- ---- the consignments that have the branch in one column, which is `of` of a consignment; the premises are `refl`
 
-module _ (at : ℕ) (of : Consignment → ℕ) (b : ℕ) where
-  abbrev pub of_branch : List Term
-  of_branch = are_equal (col 1 at) (col 0 0) ∷ []
+abbrev pub of_branch : ℕ → List Term
+of_branch at = are_equal (col 1 at) (col 0 0) ∷ []
 
+module _ (at : ℕ) (of : Consignment → ℕ) (b : ℕ) where
   abbrev pub own : Consignment → Bool
   own it = of it == b
 
-  pub shows_own : (text : List ℕ) → Selects shop_schema text (list_query of_branch place_order)
+  pub shows_own : (text : List ℕ) → Selects shop_schema text (list_query (of_branch at) place_order)
       → ((db : Trees) (it : Consignment) (r2 : sql.Row)
-      → shown_of (list_query of_branch place_order) (overlay db []) end ((number_value b ∷ []) ∷ (Null ∷ consignment_columns it) ∷ r2 ∷ [])
+      → shown_of (list_query (of_branch at) place_order) (overlay db []) end ((number_value b ∷ []) ∷ (Null ∷ consignment_columns it) ∷ r2 ∷ [])
       ≡ cond (is_true (binary (Compare Eq Binary) (number_value (of it)) (number_value b)) && true)
       ((place_keys it (column r2 4), shown_by it (column r2 4) (column r2 5)) ∷ []) [])
-      → ReadsColumns of_branch place_order (number_value b ∷ []) own place_keys
+      → ReadsColumns (of_branch at) place_order (number_value b ∷ []) own place_keys
       → (old new : State) (rows : List sql.Row) (books : Books) → IsShop old
       → Shown text (number_value b ∷ []) old new rows → StandsFor old.now.trees books → IsHeld books
       → rows ≡ map shown_line (list_lines (filter own books.consignments))
   shows_own text means given =
-      shows_by_place of_branch (number_value b ∷ []) own text means
+      shows_by_place (of_branch at) (number_value b ∷ []) own text means
       (λ db it r2.
       given db it r2
       ∙ ap (λ t. cond t ((place_keys it (column r2 4), shown_by it (column r2 4) (column r2 5)) ∷ []) []) (one_tested _ (number_tested (of it) b)))
@@ -69,22 +69,28 @@ pub arrivals_ask : IsQuery SELECT_ARRIVALS.now
 unfolding everything
 arrivals_ask = is_query SELECT_ARRIVALS.now (record { parsed = _; is = refl; selects = refl; untimed = refl })
 
+pub arrivals_mean : Selects shop_schema SELECT_ARRIVALS.now (list_query (of_branch 2) place_order)
+unfolding understood everything
+arrivals_mean = record { names = _; is = refl; plain = (refl, refl); unlisted = refl }
+
 pub shows_arrivals : (old new : State) (b : ℕ) (rows : List sql.Row) (books : Books) → IsShop old
     → Shown SELECT_ARRIVALS.now (number_value b ∷ []) old new rows → StandsFor old.now.trees books → IsHeld books
     → rows ≡ map shown_line (list_lines (filter (λ (it : Consignment). it.addressee == b) books.consignments))
 unfolding understood everything
 shows_arrivals old new b =
-    shows_own 2 (λ it. it.addressee) b SELECT_ARRIVALS.now
-    (record { names = _; is = refl; plain = (refl, refl); unlisted = refl }) (λ db it r2. refl) (λ db r. refl) old new
+    shows_own 2 (λ it. it.addressee) b SELECT_ARRIVALS.now arrivals_mean (λ db it r2. refl) (λ db r. refl) old new
 
 pub sent_asks : IsQuery SELECT_SENT.now
 unfolding everything
 sent_asks = is_query SELECT_SENT.now (record { parsed = _; is = refl; selects = refl; untimed = refl })
+
+pub sent_mean : Selects shop_schema SELECT_SENT.now (list_query (of_branch 1) place_order)
+unfolding understood everything
+sent_mean = record { names = _; is = refl; plain = (refl, refl); unlisted = refl }
 
 pub shows_sent : (old new : State) (b : ℕ) (rows : List sql.Row) (books : Books) → IsShop old
     → Shown SELECT_SENT.now (number_value b ∷ []) old new rows → StandsFor old.now.trees books → IsHeld books
     → rows ≡ map shown_line (list_lines (filter (λ (it : Consignment). it.source == b) books.consignments))
 unfolding understood everything
 shows_sent old new b =
-    shows_own 1 (λ it. it.source) b SELECT_SENT.now
-    (record { names = _; is = refl; plain = (refl, refl); unlisted = refl }) (λ db it r2. refl) (λ db r. refl) old new
+    shows_own 1 (λ it. it.source) b SELECT_SENT.now sent_mean (λ db it r2. refl) (λ db r. refl) old new

@@ -27,7 +27,7 @@ keys it line = number_value it.source ∷ number_value it.addressee ∷ number_v
 abbrev pub is_open : Consignment → Bool
 is_open it = not it.received
 
-transit_means : Selects shop_schema SELECT_TRANSIT.now (list_query transit_tests key_order)
+pub transit_means : Selects shop_schema SELECT_TRANSIT.now (list_query transit_tests key_order)
 unfolding understood everything
 transit_means = record { names = _; is = refl; plain = (refl, refl); unlisted = refl }
 

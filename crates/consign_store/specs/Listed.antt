@@ -1,5 +1,5 @@
 -- Defines lists of consignments: what a join shows of consignments, and which consignments its rows make. Neighbouring rows belong to one consignment.
-use Rattle.std.specs.Prelude.{◌≡◌, ◌==◌, ℕ, Bool, true, not, if◌then◌else◌, List, [], ◌∷◌, ◌++◌, map, filter, flat_map, Option, Some, None, option_map}
+use Rattle.std.specs.Prelude.{◌≡◌, ◌==◌, ℕ, Bool, true, not, if◌then◌else◌, List, [], ◌∷◌, ◌++◌, map, filter, flat_map, Option, Some, None, IfSome, option_map}
 use Rattle.serde_json.specs.Data.{Data}
 use Rattle.sqlite.specs.Values.{or_null}
 use Rattle.sqlite_value.specs.Order as sql
@@ -11,6 +11,8 @@ use Rattle.shop_model.specs.Office.{goes_before}
 use Rattle.shop_model.specs.Books.{Books, Line, Consignment}
 use Rattle.shop_views.specs.Consignments.{Listed, seen_listed, arrival_data, arrival_text, sent_data, sent_text, transit_data, transit_text}
 use Rattle.shop_views.specs.Page.{HasTexts}
+use Rattle.shop_schema.specs.RowValues.{IsNumber}
+use Rattle.consign_store.specs.declared.lists.ListedLine.{ListedLine}
 use Rattle.consign_store.specs.declared.lists.ListKind.{ListKind}
 use Rattle.consign_store.specs.declared.lists.ListKind.TheVariants as kind
 use Rattle.consign_store.specs.declared.lists.ConsignmentPage.{ConsignmentPage}
@@ -25,6 +27,19 @@ abbrev pub shown_line : ListLine → sql.Row
 shown_line line =
     number_value line.0.source ∷ number_value line.0.addressee ∷ number_value line.0.number ∷ flag_value line.0.received
     ∷ or_null (λ (l : ℕ × Line). number_value l.0) line.1 ∷ or_null (λ (l : ℕ × Line). number_value l.1.film) line.1 ∷ []
+
+-- the program can hold what is shown
+pub record IsListLine (it : ListLine) : Type 0 where
+  pub source : IsNumber it.0.source
+  pub addressee : IsNumber it.0.addressee
+  pub number : IsNumber it.0.number
+  pub line : IfSome it.1 (λ l. IsNumber l.0 × IsNumber l.1.film)
+
+-- the columns that were read of a row
+abbrev pub read_columns : ListedLine → sql.Row
+read_columns it =
+    number_value it.source ∷ number_value it.addressee ∷ number_value it.number ∷ flag_value it.received
+    ∷ or_null number_value it.line ∷ or_null number_value it.film ∷ []
 
 -- one row for each line, or one row if there is no line
 abbrev pub lines_of : Consignment → List (ℕ × Line) → List ListLine

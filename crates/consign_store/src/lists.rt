@@ -1,28 +1,31 @@
 //! Reads the lists of consignments row by row, outside any transaction. Neighbouring rows of one join belong to one
 //! consignment, and a first line begins the next consignment.
 
-ghost use Rattle.std.specs.Prelude.{◌≡◌, List, [], ◌∷◌, ◌++◌, Option, Some, IfOk, OnOk, map, option_map, string_bytes};
+ghost use Rattle.std.specs.Prelude.{⊤, ◌≡◌, List, [], ◌∷◌, ◌++◌, Option, Some, IfOk, OnOk, map, option_map, string_bytes};
 ghost use Rattle.serde_json.specs.View.{view};
 ghost use Rattle.sqlite.specs.Held.{state};
 ghost use Rattle.sqlite.specs.State.{HasCleanDisk};
 ghost use Rattle.sql_rows.specs.Calls.{StaysSame};
+ghost use Rattle.sql_rows.specs.Causes.{FailsAtRest};
 ghost use Rattle.shop_model.specs.Json.{array};
 ghost use Rattle.shop_model.specs.Values.{Text};
 ghost use Rattle.shop_model.specs.Books.{Books, shop_of};
 ghost use Rattle.shop_model.specs.Machine.{ArrivalsAre, SentAre, TransitIs};
 ghost use Rattle.shop_model.specs.Answers.{shown_text};
 ghost use Rattle.shop_schema.specs.Shop.{Holds};
+ghost use Rattle.shop_schema.specs.Asked.{HoldsBooks};
 ghost use Rattle.shop_schema.specs.Held.{IsHeld};
 ghost use Rattle.shop_views.specs.Consignments.{Listed, seen_listed};
 ghost use Rattle.shop_views.specs.Lists.{IsRow};
 ghost use Rattle.shop_views.specs.Page.{HasTexts};
-ghost use Rattle.consign_store.specs.Listed.{under_way, ListLine, shown_line, is_first, films_of, begun, with_film, take_line, closed, data_of, text_of, HasConsignments};
+ghost use Rattle.shop_store.specs.Asked.{IsNoneOf};
+ghost use Rattle.consign_store.specs.Listed.{under_way, ListLine, IsListLine, shown_line, read_columns, is_first, films_of, begun, with_film, take_line, closed, data_of, text_of, HasConsignments};
 
 use serde_json::Value;
-use shop_schema::{row_number_at, row_number_or_null_at};
-use shop_types::{BranchNo, FilmNo, LineNo};
+use shop_schema::read_cells;
+use shop_types::{BranchNo, ConsignmentNo, FilmNo, LineNo};
 use shop_views::{ListPage, ListedConsignment, arrival_row, sent_row, transit_row};
-use sql_rows::{StoreFault, TakesRows, each_row, flag_at};
+use sql_rows::{StoreFault, Stored, TakesRows, each_row};
 use sqlite::types::ToSql;
 use sqlite::{Alter, Connection, Row};
 use std::alloc::{AllocError, Global};
@@ -35,43 +38,86 @@ pub(crate) enum ListKind {
     Transit,
 }
 
-/// Returns whether the row begins a consignment, which is so if the row has the first line or no line.
-fn is_first(row: &Row) -> Result<bool, StoreFault>
-    ensures { IfOk result (λ is. (line : ListLine) → row.now ≡ shown_line line → is ≡ is_first line.1) }
-{
-    let line: Option<LineNo> = row_number_or_null_at(row, 4)?;
-    match line {
-        Some(number) => Ok(number.get() == 1),
-        None => Ok(true),
+/// The columns of the lists' join.
+type ListCells = (
+    BranchNo,
+    (
+        BranchNo,
+        (
+            ConsignmentNo,
+            (bool, (Option<LineNo>, (Option<FilmNo>, ()))),
+        ),
+    ),
+);
+
+/// A consignment with one of its lines, or with no line, as the join shows them.
+#[derive(Drop)]
+pub(crate) struct ListedLine {
+    source: BranchNo,
+    addressee: BranchNo,
+    number: ConsignmentNo,
+    received: bool,
+    line: Option<LineNo>,
+    film: Option<FilmNo>,
+}
+
+impl Stored for ListedLine {
+    ghost columns = { read_columns };
+
+    ghost fits = { λ _. ⊤ };
+
+    ghost refuses = { IsNoneOf IsListLine shown_line };
+
+    fn read(row: &Row) -> Result<ListedLine, StoreFault> {
+        let cells = match read_cells::<ListCells>(row) {
+            Ok(cells) => cells,
+            Err(fault) => return Err(fault),
+        };
+        let (source, (addressee, (number, (received, (line, (film, ())))))) = cells;
+        Ok(ListedLine {
+            source,
+            addressee,
+            number,
+            received,
+            line,
+            film,
+        })
     }
 }
 
-/// Reads the consignment of the row, with no film.
-fn bare(alloc: Global, row: &Row) -> Result<ListedConsignment, StoreFault>
-    ensures bare { IfOk result (λ it. (line : ListLine) → row.now ≡ shown_line line
-        → record (seen_listed it) { films = films_of line.1 } ≡ begun line) }
-    ensures none { IfOk result (λ it. it.films.items ≡ []) }
+/// Returns whether the row begins a consignment, which is so if the row has the first line or no line.
+fn is_first(row: &ListedLine) -> bool
+    ensures { (line : ListLine) → read_columns row.now ≡ shown_line line → result ≡ is_first line.1 }
 {
-    Ok(ListedConsignment {
-        source: row_number_at(row, 0)?,
-        addressee: row_number_at(row, 1)?,
-        number: row_number_at(row, 2)?,
-        received: flag_at(row, 3)?,
+    match row.line {
+        Some(number) => number.get() == 1,
+        None => true,
+    }
+}
+
+/// Makes the consignment of the row, with no film.
+fn bare(alloc: Global, row: &ListedLine) -> ListedConsignment
+    ensures bare { (line : ListLine) → read_columns row.now ≡ shown_line line
+        → record (seen_listed result) { films = films_of line.1 } ≡ begun line }
+    ensures none { result.films.items ≡ [] }
+{
+    ListedConsignment {
+        source: row.source,
+        addressee: row.addressee,
+        number: row.number,
+        received: row.received,
         films: Vec::new(alloc),
-    })
+    }
 }
 
 /// Adds the row's film to the consignment.
-fn with_film(it: ListedConsignment, row: &Row) -> Result<ListedConsignment, StoreFault>
-    ensures { IfOk result (λ now. (line : ListLine) → row.now ≡ shown_line line
+fn with_film(it: ListedConsignment, row: &ListedLine) -> Result<ListedConsignment, AllocError>
+    ensures { IfOk result (λ now. (line : ListLine) → read_columns row.now ≡ shown_line line
         → seen_listed now ≡ with_film (seen_listed it) line.1) }
 {
     let mut it = it;
-    let film: Option<FilmNo> = row_number_or_null_at(row, 5)?;
-    if let Some(film) = film
-        && it.films.push(film).is_err()
-    {
-        return Err(StoreFault::Memory);
+    if let Some(film) = row.film {
+        it.films.push(film)?;
     }
     Ok(it)
 }
@@ -107,20 +153,20 @@ fn next(
     alloc: Global,
     kind: ListKind,
     it: Option<ListedConsignment>,
-    row: &Row,
+    row: &ListedLine,
     page: &mut ListPage,
-) -> Result<ListedConsignment, StoreFault>
-    ensures { IfOk result (λ now. (line : ListLine) (done : List Listed) → row.now ≡ shown_line line
+) -> Result<ListedConsignment, AllocError>
+    ensures { IfOk result (λ now. (line : ListLine) (done : List Listed) → read_columns row.now ≡ shown_line line
         → HasTexts page.old (map (text_of kind) done)
         → HasTexts page.new (map (text_of kind) (take_line (done, option_map seen_listed it) line).0)
         × (Some (seen_listed now) ≡ (take_line (done, option_map seen_listed it) line).1)) }
 {
     let Some(it) = it else {
-        return with_film(bare(alloc, row)?, row);
+        return with_film(bare(alloc, row), row);
     };
-    if is_first(row)? {
+    if is_first(row) {
         add(alloc, kind, it, page)?;
-        with_film(bare(alloc, row)?, row)
+        with_film(bare(alloc, row), row)
     } else {
         with_film(it, row)
     }
@@ -138,9 +184,15 @@ pub(crate) struct ConsignmentPage {
 impl TakesRows for ConsignmentPage {
     ghost took = { HasConsignments };
 
+    ghost refuses = { λ _. IsNoneOf IsListLine shown_line };
+
     fn take(&mut self, row: &Row) -> Result<(), StoreFault> {
+        let line = match ListedLine::read(row) {
+            Ok(line) => line,
+            Err(fault) => return Err(fault),
+        };
         let it = self.consignment.take();
-        self.consignment = Some(next(self.alloc, self.kind, it, row, &mut self.page)?);
+        self.consignment = Some(next(self.alloc, self.kind, it, &line, &mut self.page)?);
         Ok(())
     }
 }
@@ -190,10 +242,13 @@ pub fn arrivals<S: Alter>(
     ensures text { HasCleanDisk (state S.Store conn.new)
         → IfOk result (λ s. (books : Books) → Holds (state S.Store conn.old) books → IsHeld books → string_bytes s
         ≡ shown_text (ArrivalsAre (shop_of branch books).arrivals)) }
+    ensures fails { FailsAtRest S.Store conn.old conn.new result HoldsBooks }
     ensures same { StaysSame S.Store conn.old conn.new result }
 {
     let mut taker = empty(alloc, ListKind::Arrivals);
-    each_row(conn, SELECT_ARRIVALS, &[branch.get().to_sql()], &mut taker)?;
+    if let Err(fault) = each_row(conn, SELECT_ARRIVALS, &[branch.get().to_sql()], &mut taker) {
+        return Err(fault);
+    }
     Ok(finish(taker)?)
 }
 
@@ -210,10 +265,13 @@ pub fn sent<S: Alter>(
     ensures text { HasCleanDisk (state S.Store conn.new)
         → IfOk result (λ s. (books : Books) → Holds (state S.Store conn.old) books → IsHeld books → string_bytes s
         ≡ shown_text (SentAre (shop_of branch books).sent)) }
+    ensures fails { FailsAtRest S.Store conn.old conn.new result HoldsBooks }
     ensures same { StaysSame S.Store conn.old conn.new result }
 {
     let mut taker = empty(alloc, ListKind::Sent);
-    each_row(conn, SELECT_SENT, &[branch.get().to_sql()], &mut taker)?;
+    if let Err(fault) = each_row(conn, SELECT_SENT, &[branch.get().to_sql()], &mut taker) {
+        return Err(fault);
+    }
     Ok(finish(taker)?)
 }
 
@@ -226,9 +284,12 @@ pub fn transit<S: Alter>(alloc: Global, conn: &mut Connection<S>) -> Result<Stri
     ensures text { HasCleanDisk (state S.Store conn.new)
         → IfOk result (λ s. (books : Books) → Holds (state S.Store conn.old) books → IsHeld books → string_bytes s
         ≡ shown_text (TransitIs (under_way books))) }
+    ensures fails { FailsAtRest S.Store conn.old conn.new result HoldsBooks }
     ensures same { StaysSame S.Store conn.old conn.new result }
 {
     let mut taker = empty(alloc, ListKind::Transit);
-    each_row(conn, SELECT_TRANSIT, &[], &mut taker)?;
+    if let Err(fault) = each_row(conn, SELECT_TRANSIT, &[], &mut taker) {
+        return Err(fault);
+    }
     Ok(finish(taker)?)
 }

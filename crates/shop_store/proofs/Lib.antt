@@ -14,3 +14,4 @@ pub mod WithTerms
 pub mod Common
 pub mod TokenFaults
 pub mod FindFaults
+pub mod EachFits

@@ -25,6 +25,7 @@ pub mod Tells
 pub mod Upserts
 pub mod Drops
 pub mod TextLemmas
+pub mod EachFaults
 pub mod EachLemmas
 pub mod Joins
 pub mod Fills
