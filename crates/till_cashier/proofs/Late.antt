@@ -3,9 +3,11 @@ use Rattle.std.proofs.Common.{◌≡◌, ◌∙◌, ◌++◌, ◌∷◌, ◌+◌
 use Rattle.std.proofs.Common.{Option, Some, None, IfSome, IfNone, inl, inr}
 use Rattle.std.specs.Prelude.{option_and_then}
 use Rattle.std.specs.List.{All, Contains}
-use Rattle.std.proofs.lemmas.List.{map_push, take_all, take_more}
+use Rattle.std.proofs.lemmas.List.{get_or-map, length-map, map_push, take_all, take_more}
 use Rattle.std.proofs.lemmas.List.Elements.{All-append, All-contains, All-same}
 use Rattle.serde_json.specs.Data.{Data}
+use Rattle.serde_json.specs.View.{view}
+use Rattle.serde_json.specs.declared.value.Value.{Value}
 use Rattle.sqlite.specs.State.{State}
 use Rattle.shop_model.specs.Answers.{Answer}
 use Rattle.shop_model.specs.Values.{Text, Ask}
@@ -13,7 +15,7 @@ use Rattle.till_book.specs.Steps as book
 use Rattle.till_shows.specs.Bodies.{body_of, each, rows_in}
 use Rattle.till_shows.specs.Lines.{Table}
 use Rattle.till_cashier.specs.declared.overdue.Late.{Late}
-use Rattle.till_cashier.specs.Late.{AreLateRows, IsKnown, IsLateRow, IsRentalOf, TablesLate, late_of, lates_in, seen_late}
+use Rattle.till_cashier.specs.Late.{AreLateRows, IsKnown, IsLateRow, IsRentalOf, IsRowOf, TablesLate, late_of, lates_in, seen_late}
 use Rattle.till_cashier.specs.Listing.{with_row}
 use Rattle.till_cashier.specs.Looking.{AddsLate, AddsLook, SaysLooked, ShowsLate}
 
@@ -36,9 +38,31 @@ all_added P (Some b) old more new added same all others = All-same P new (old ++
 all_added P None old more new added same all others = All-same P new old same all
 
 -- one of a list, if it is found, is as all of them are
-pub all_found : {A B : Type 0} (P : A → Type 0) (f : B → A) (o : Option B) (xs : List A) → All P xs → IfSome o (λ b. Contains xs (f b)) → IfSome o (λ b. P (f b))
+pub all_found : {A B : Type 0} (P : A → Type 0) (f : B → A) (o : Option B) (xs : List A)
+    → All P xs → IfSome o (λ b. Contains xs (f b)) → IfSome o (λ b. P (f b))
 all_found P f (Some b) xs all there = All-contains P xs (f b) all there
 all_found P f None xs all there = tt
+
+-- ---- the rental's customer
+
+-- one value of a list, and what it is mapped to
+pub contains_mapped : {A B : Type 0} (f : A → B) (xs : List A) (x : A) → Contains xs x → Contains (map f xs) (f x)
+contains_mapped f xs x there = (
+  there.0,
+  subst (λ (n : ℕ). there.0 < n) (sym (length-map xs f)) there.1,
+  get_or-map f xs there.0 x (f x) there.1 ∙ ap f there.2,
+)
+
+-- a row among the rows of a list
+pub row_listed : {B : Type 0} (list : Data) (rows : List Value) (f : B → Value) (o : Option B) → Some (map view rows) ≡ rows_in list
+    → IfSome o (λ b. Contains rows (f b)) → IfSome o (λ b. IsRowOf list (view (f b)))
+row_listed list rows f (Some b) listed there = (map view rows, sym listed, contains_mapped view rows (f b) there)
+row_listed list rows f None listed there = tt
+
+-- both hold of what is found
+pub both_found : {B : Type 0} (o : Option B) (P Q : B → Type 0) → IfSome o P → IfSome o Q → IfSome o (λ b. P b × Q b)
+both_found (Some b) P Q one two = (one, two)
+both_found None P Q one two = tt
 
 -- ---- rows
 
@@ -89,13 +113,13 @@ module _ (Asks : Ask → Answer → Type 0) (s t : State) (stays : book.Stays s 
   rentals_before copy who (Some rental) is = rental_before copy who rental is
   rentals_before copy who None is = tt
 
-  known_before : (copy rental : Option ℕ) → IsKnown Asks t sheet copy rental → IsKnown Asks s sheet copy rental
-  known_before None None is = tt
-  known_before None (Some rental) is = absurd is
-  known_before (Some copy) rental is = (is.0, is.1, rentals_before copy is.0 rental is.2)
+  known_before : (late : List Text) (copy rental : Option ℕ) → IsKnown Asks t sheet late copy rental → IsKnown Asks s sheet late copy rental
+  known_before late None None is = tt
+  known_before late None (Some rental) is = absurd is
+  known_before late (Some copy) rental is = (is.0, is.1, is.2, rentals_before copy is.0 rental is.3)
 
   pub row_before : (late row : List Text) → IsLateRow Asks t sheet late row → IsLateRow Asks s sheet late row
-  row_before late row is = (is.0, is.1, known_before is.0 is.1 is.2, is.3)
+  row_before late row is = (is.0, is.1, known_before late is.0 is.1 is.2, is.3)
 
   pub table_before : (lates : List (List Text)) (table : Table) → TablesLate Asks t sheet lates table → TablesLate Asks s sheet lates table
   table_before lates table is = (is.0, late_rows_as (IsLateRow Asks t sheet) (IsLateRow Asks s sheet) row_before lates is.0 is.1, is.2)

@@ -22,3 +22,4 @@ pub mod Stocked
 pub mod Looking
 pub mod Listing
 pub mod Showing
+pub mod Parts

@@ -9,7 +9,8 @@ use Rattle.till_shows.specs.Lists.{named_in}
 use Rattle.till_shows.specs.Looks.{holder_in, holder_text}
 use Rattle.till_cashier.specs.declared.stock.Whereabouts.{Whereabouts}
 use Rattle.till_cashier.specs.Saying.{AddsAll, IsNoRefusal, SaysAll, ended}
-use Rattle.till_cashier.specs.Looking.{Adds, AddsLook, AddsNobody, AddsPlace, AddsWhere, IsLines, IsNamed, IsPlace, SaysLooked, SaysPlace, ShowsHolder, ShowsLines}
+use Rattle.till_cashier.specs.Looking.{Adds, AddsLook, AddsNobody, AddsPlace, AddsWhere, IsLines, IsNamed, IsPlace, SaysLooked, SaysPlace, ShowsHolder}
+use Rattle.till_cashier.specs.Looking.{ShowsLines}
 use Rattle.till_cashier.specs.Looking.{name_end, status_with}
 use Rattle.till_cashier.specs.Whereabouts.{whereabouts_text}
 

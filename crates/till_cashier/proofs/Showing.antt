@@ -104,7 +104,7 @@ module _ (Exchanged : List ℕ → Answer → Type 0) (wall : TimeZone) (offset 
     entered : (words : List Text) (place after : Place) (old mid new : State) (text : Text) (status : ℕ) → IsPlaceOf place old → book.Stays old mid
         → SaysInTurn Exchanged mark token json words place mid after new text status
         → SaysEntered Exchanged mark token json words old new text status
-    entered words place after old mid new text status is stays (inl two) = inl two
+    entered words place after old mid new text status is stays (inl none) = inl none
     entered words place after old mid new text status is stays (inr (inl fault)) = inr (inl fault)
     entered words place after old mid new text status is stays (inr (inr says)) = inr (inr (
       says.0,

@@ -24,3 +24,5 @@ pub mod Late
 pub mod Looking
 pub mod Listing
 pub mod Showing
+pub mod Telling
+pub mod ZoneText

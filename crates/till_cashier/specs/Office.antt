@@ -9,7 +9,7 @@ use Rattle.till_book.specs.Ends.{last_accepted}
 use Rattle.till_book.specs.Journal.{Journal}
 use Rattle.till_book.specs.Marks.{is_reply_to}
 use Rattle.till_book.specs.Steps.{Rests}
-use Rattle.till_requests.specs.Requests.{SaysOffice, with_key}
+use Rattle.till_requests.specs.Requests.{IsNoLine, SaysOffice, with_key}
 use Rattle.till_work.specs.Desk.{HasPlace, Extends}
 use Rattle.till_work.specs.declared.place.Place.{Place}
 
@@ -42,6 +42,10 @@ HasOpenKey n s = (journal : Journal) → Rests s journal → n ≡ open_key jour
 abbrev pub SaysUnder : Text → Text → List Text → ℕ → List ℕ → Type 0
 SaysUnder mark token words n request =
     (command : OfficeCommand) × SaysOffice request token (with_key (key_of mark n) words) command × (command.key ≡ key_of mark n)
+
+-- under the till's first key the words are no line of head office
+abbrev pub IsNoCommand : Text → List Text → Type 0
+IsNoCommand mark words = IsNoLine (with_key (key_of mark 1) words)
 
 -- The request was entered after so many entries, and each of them had its reply. It says the words under the key that was open then.
 pub record IsInTurn (mark token : Text) (words : List Text) (replies : List Answer) (i : ℕ) (request : List ℕ) : Type 0 where

@@ -16,7 +16,7 @@ use Rattle.till_words.specs.declared.words.TillAct.TheVariants as typed
 use Rattle.till_cashier.specs.declared.fault.TillFault.{TillFault}
 use Rattle.till_cashier.specs.declared.word.Plan.{Plan}
 use Rattle.till_cashier.specs.declared.word.Plan.TheVariants as plan
-use Rattle.till_requests.specs.Requests.{is_reading}
+use Rattle.till_requests.specs.Requests.{IsNoLine, is_reading}
 use Rattle.till_cashier.specs.Asking.{IsOwing, IsReadOut}
 use Rattle.till_cashier.specs.Drawers.{SaysDay}
 use Rattle.till_cashier.specs.Following.{SaysAct}
@@ -34,10 +34,10 @@ GivesSaying Exchanged Answers shows mark token giver json sheet act customer bef
     (answer : Answer) × Gives Exchanged shows mark token giver act answer before old after new
     × SaysAct (IsOwing Answers token) json sheet act customer answer text status
 
--- What is printed of words of head office that only read is of some answer to them. Or it says how they are used, and the status is 2.
+-- What is printed of words of head office that only read is of some answer to them. Or the words are none, and it says how words are given, with status 2.
 abbrev pub SaysReading : (List ℕ → Answer → Type 0) → Text → Bool → List Text → Text → ℕ → Type 0
 SaysReading Answers token json words text status =
-    (status ≡ 2)
+    ((status ≡ 2) × IsNoLine words)
     ⊎ ((answer : Answer) × IsReadOut Answers token words answer × SaysOfficeAnswer json answer text × (status ≡ status_of answer.status))
 
 -- What a plan prints: the answer that an act got, some answer to a look or a reading, a drawer's sums, and that a usage is one. Of what other plans print

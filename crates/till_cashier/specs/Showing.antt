@@ -19,7 +19,7 @@ use Rattle.till_cashier.specs.Again.{AreLeftIn, GivesLeft}
 use Rattle.till_cashier.specs.Faults.{SaysFault}
 use Rattle.till_cashier.specs.Following.{AddsWaited}
 use Rattle.till_cashier.specs.Listing.{OfBook, OfEach, ShowsEntries, ShowsLast, ShowsSent, ShowsWaiting}
-use Rattle.till_cashier.specs.Office.{AnswersInTurn, HasAnswered}
+use Rattle.till_cashier.specs.Office.{AnswersInTurn, HasAnswered, IsNoCommand}
 use Rattle.till_cashier.specs.Saying.{SaysOfficeAnswer, ended, status_of}
 use Rattle.till_cashier.specs.Today.{SaysToday}
 use Rattle.till_cashier.specs.Word.{IsPlaceOf}
@@ -36,18 +36,18 @@ pub record SaysTurn (json : Bool) (answer : Answer) (text : Text) (status : ℕ)
   pub whole : text ≡ behind ++ more
   pub done : status ≡ status_of answer.status
 
--- The words were entered in turn, and the reply to the last of their entries is printed, also if it refuses. Or it says a fault, or with status 2 how the words
--- are used.
+-- The words were entered in turn, and the reply to the last of their entries is printed, also if it refuses. Or it says a fault. Or the words are no command,
+-- and it says how words are given, with status 2.
 abbrev pub SaysInTurn : (List ℕ → Answer → Type 0) → Text → Text → Bool → List Text → Place → State → Place → State → Text → ℕ → Type 0
 SaysInTurn Exchanged mark token json words before old after new text status =
-    (status ≡ 2)
+    ((status ≡ 2) × IsNoCommand mark words)
     ⊎ (SaysFault text status
     ⊎ ((answer : Answer) × AnswersInTurn Exchanged mark token words answer before old after new × SaysTurn json answer text status))
 
 -- so of a book
 abbrev pub SaysEntered : (List ℕ → Answer → Type 0) → Text → Text → Bool → List Text → State → State → Text → ℕ → Type 0
 SaysEntered Exchanged mark token json words old new text status =
-    (status ≡ 2)
+    ((status ≡ 2) × IsNoCommand mark words)
     ⊎ (SaysFault text status
     ⊎ ((answer : Answer) × OfEach old (λ journal. (place : Place) × HasAnswered Exchanged mark token words answer place new journal)
     × SaysTurn json answer text status))

@@ -27,6 +27,7 @@ use crate::fault::TillFault;
 use crate::lists_of_entries::entries_after;
 use crate::refused::{Repeat, repeats_in};
 use crate::said::Said;
+use crate::telling::fault_line;
 use sqlite::{Alter, Connection};
 use std::alloc::Global;
 use till_work::{Server, Watch};
@@ -138,7 +139,7 @@ fn stopped_said(alloc: Global, said: Said, fault: TillFault) -> Result<Said, Til
     ensures text { IfOk result (λ it. AddsMore (string_bytes said.text) (string_bytes it.text) it.status) }
 {
     let mut said = said;
-    let line = format!(in alloc; "{fault}")?;
+    let line = fault_line(alloc, fault)?;
     said.line(line.as_str())?;
     let Said { text, .. } = said;
     Ok(Said {

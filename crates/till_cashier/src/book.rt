@@ -16,7 +16,7 @@ use sqlite::{Alter, Connection};
 use std::alloc::Global;
 use till_book::{BookEnd, read_end};
 use till_client::{NotSealed, command_of};
-use till_requests::Mark;
+use till_requests::TillMark;
 use till_work::Place;
 
 /// How far an open book goes now, and what its last entry shows.
@@ -48,14 +48,14 @@ fn has_mark(mark: &[u8], key: &[u8]) -> bool
 }
 
 /// Tests whether the command's key begins with the mark and a hyphen.
-fn is_marked(mark: &Mark, command: &Command) -> bool
+fn is_marked(mark: &TillMark, command: &Command) -> bool
     ensures { result ≡ has_mark mark.now command.now.key }
 {
     has_mark(mark.as_bytes().as_slice(), command.key.as_str().as_bytes())
 }
 
 /// Tests whether the mark is anywhere in the bytes.
-fn is_in(mark: &Mark, bytes: &[u8]) -> bool {
+fn is_in(mark: &TillMark, bytes: &[u8]) -> bool {
     let letters = mark.as_bytes().as_slice();
     bytes.windows(letters.len()).any(|piece| piece == letters)
 }
@@ -65,7 +65,7 @@ fn is_in(mark: &Mark, bytes: &[u8]) -> bool {
 fn shown_by(
     alloc: Global,
     routes: &Routes,
-    mark: &Mark,
+    mark: &TillMark,
     request: &[u8],
 ) -> Result<LastEntry, TillFault>
     ensures marked { IfOk result (λ it. TellsLastMark mark.now it.is_own (Some request.now)) }
@@ -89,7 +89,7 @@ fn shown_by(
 fn shown_at(
     alloc: Global,
     routes: &Routes,
-    mark: &Mark,
+    mark: &TillMark,
     end: &BookEnd,
 ) -> Result<LastEntry, TillFault>
     ensures marked { IfOk result (λ it. TellsLastMark mark.now it.is_own end.now.last) }
@@ -111,7 +111,7 @@ impl Book {
     pub fn read<S: Alter>(
         alloc: Global,
         routes: &Routes,
-        mark: &Mark,
+        mark: &TillMark,
         conn: &mut Connection<S>,
     ) -> Result<Book, TillFault>
         requires { conn.old.in_transaction ≡ false }

@@ -13,7 +13,7 @@ ghost use Rattle.till_cashier.specs.Looking.{IsNowBehind};
 use crate::caches::Shelf;
 use crate::clock::WallClock;
 use crate::fault::TillFault;
-use crate::line::Line;
+use crate::line::Link;
 use crate::wall::on_wall;
 use counter_routes::Routes;
 use jiff_tz::TimeZone;
@@ -42,7 +42,7 @@ pub struct Desk<'d, K: WallClock, V: Server, L: Shelf> {
     /// The zone of the clock on the wall, by which moments are shown.
     pub wall: TimeZone<'d>,
     /// Whether the server answers, as far as is known.
-    pub line: Line,
+    pub line: Link,
     /// Who gives the word, where it isn't whose till it is.
     pub staff: Option<StaffNo>,
     /// The drawer at which the word is given, or 0 if it is the book's own.

@@ -4,9 +4,9 @@ ghost use Rattle.std.specs.Prelude.{◌≡◌, ◌<◌, ◌↔◌, IsTrue};
 ghost use Rattle.till_cashier.specs.Faults.{HasNoReply, fault_status, fault_text, told_fault};
 
 use std::alloc::{AllocError, AllocFailed};
-use std::{fmt, io};
+use std::io;
 use till_files::BookFault;
-use till_requests::{NoSettings, NotBuilt, moment_at};
+use till_requests::{NoSettings, NotBuilt};
 use till_shows::NotShown;
 use till_work::DeskFault;
 
@@ -223,54 +223,6 @@ impl TillFault {
                 "The branch's sheet has no member of staff of that name. Say the member's number.",
         }
     }
-}
-
-impl fmt::Display for TillFault {
-    fn fmt<W: fmt::Write>(&self, f: &mut fmt::Formatter<W>) -> fmt::Result {
-        f.write_str((*self).sentences())?;
-        if let TillFault::Ahead(seconds) = self {
-            return write!(f, " Wait {seconds} seconds, and say the word again.");
-        }
-        if let TillFault::Joined(number) = self {
-            return write_joined(f, *number);
-        }
-        if let TillFault::OtherDay { clock, said } = self {
-            return write_days(f, *clock, *said);
-        }
-        Ok(())
-    }
-}
-
-/// Writes which customer has the name and phone, and what to do.
-fn write_joined<W: fmt::Write>(f: &mut fmt::Formatter<W>, number: u64) -> fmt::Result {
-    write!(
-        f,
-        " It is customer {number}: if this is somebody else, say --yes before the word."
-    )
-}
-
-/// Writes a day as `2026-03-09`, by its number.
-fn write_day<W: fmt::Write>(f: &mut fmt::Formatter<W>, day: i32) -> fmt::Result {
-    let Some(at) = moment_at(u64::from(day.unsigned_abs()) * 86_400) else {
-        return Ok(());
-    };
-    let text = at.text();
-    let Some(date) = text.as_slice().get(..10) else {
-        return Ok(());
-    };
-    match std::str::from_utf8(date) {
-        Ok(date) => f.write_str(date),
-        Err(_) => Ok(()),
-    }
-}
-
-/// Writes what to do if the date that was said isn't the clock's.
-fn write_days<W: fmt::Write>(f: &mut fmt::Formatter<W>, clock: i32, said: i32) -> fmt::Result {
-    f.write_str(" It says ")?;
-    write_day(f, clock)?;
-    f.write_str(", not ")?;
-    write_day(f, said)?;
-    f.write_str(". Mend the clock, or the zone, or say the date again.")
 }
 
 impl From<AllocError> for TillFault {

@@ -94,7 +94,7 @@ fn list_kept<K: WallClock, V: Server, L: Shelf>(
 }
 
 /// Asks the server for the list, and puts it on the shelf. The reply may be a refusal.
-fn fetched<K: WallClock, V: Server, L: Shelf>(
+pub(crate) fn fetched<K: WallClock, V: Server, L: Shelf>(
     desk: &Desk<'_, K, V, L>,
     list: List,
 ) -> Result<Answer, TillFault>

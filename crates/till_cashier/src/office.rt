@@ -1,6 +1,6 @@
 //! Head office's words at a till, over a running server.
 
-ghost use Rattle.std.specs.Prelude.{◌≡◌, ◌<◌, ℕ, List, Err, true, false, map, string_bytes, IfOk};
+ghost use Rattle.std.specs.Prelude.{◌≡◌, ◌<◌, ℕ, List, Err, true, false, map, string_bytes, IfErr, IfOk};
 ghost use Rattle.sqlite.specs.Held.{state};
 ghost use Rattle.sqlite.specs.State.{HasCleanDisk};
 ghost use Rattle.shop_model.specs.Refusals.{Decision, KeyUsed};
@@ -9,6 +9,8 @@ ghost use Rattle.till_book.specs.Journal.{Journal};
 ghost use Rattle.till_book.specs.Marks.{is_reply_to};
 ghost use Rattle.till_book.specs.Steps.{Rests};
 ghost use Rattle.till_client.specs.Replies.{seen_answer};
+ghost use Rattle.till_model.specs.Numbered.{key_of};
+ghost use Rattle.till_requests.specs.Requests.{IsFaultOf, IsNoLine, with_key};
 ghost use Rattle.till_work.specs.Exchanged.{IsExchanged};
 ghost use Rattle.till_work.specs.Desk.{Grows, HasPlace, Sends};
 ghost use Rattle.till_work.specs.Stops.{IsAny, IsLater, IsSettledAfter, Leaves};
@@ -36,7 +38,8 @@ use till_work::{Place, Server, Watch, enter_request};
 
 /// Returns the answer to words that are none, or can't be sent.
 fn unsaid(fault: NotSaid) -> Result<Said, TillFault>
-    ensures { IfOk result (λ said. said.status ≡ 2) }
+    ensures status { IfOk result (λ said. said.status ≡ 2) }
+    ensures none { (words : List Text) → IsFaultOf words fault → IfOk result (λ _. IsNoLine words) }
 {
     match fault {
         NotSaid::Usage(text) => Ok(Said { text, status: 2 }),
@@ -70,8 +73,10 @@ fn office_bytes<K: WallClock, V: Server, L: Shelf>(
     number: u32,
     words: &[String],
 ) -> Result<Vec<u8>, NotSaid>
-    ensures { IfOk result (λ bytes. SaysUnder desk.now.settings.now.mark desk.now.settings.now.token
+    ensures says { IfOk result (λ bytes. SaysUnder desk.now.settings.now.mark desk.now.settings.now.token
         (map string_bytes words.now) number bytes.items) }
+    ensures fault { IfErr result (IsFaultOf (with_key (key_of desk.now.settings.now.mark number)
+        (map string_bytes words.now))) }
 {
     let settings = desk.settings;
     let sealed = office_request(

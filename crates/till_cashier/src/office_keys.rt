@@ -17,7 +17,7 @@ use sqlite::{Alter, Connection};
 use std::alloc::{AllocError, Global};
 use till_book::{BookReply, BookRows, EntryNumber, last_accepted, read_after};
 use till_client::Answer;
-use till_requests::Mark;
+use till_requests::TillMark;
 use till_work::key_bytes;
 
 /// Tests whether the reply is that another command has the key.
@@ -135,7 +135,7 @@ pub(crate) fn read_open_key<S: Alter>(
 }
 
 /// Returns the end of a request under the key of that number.
-fn end_under(alloc: Global, mark: &Mark, number: u32) -> Result<Vec<u8>, AllocError> {
+fn end_under(alloc: Global, mark: &TillMark, number: u32) -> Result<Vec<u8>, AllocError> {
     let mut end = key_bytes(alloc, mark.as_bytes().as_slice(), number)?;
     end.extend_from_slice(b"\"]")?;
     Ok(end)
@@ -160,7 +160,7 @@ impl Tail {
     }
 
     /// Returns the entries under the last used key, if none of them is known to have used it.
-    fn doubtful(&self, alloc: Global, mark: &Mark) -> Result<Vec<EntryNumber>, TillFault> {
+    fn doubtful(&self, alloc: Global, mark: &TillMark) -> Result<Vec<EntryNumber>, TillFault> {
         let mut entries = Vec::new(alloc);
         let Keys { open, used } = self.keys;
         if self.is_settled() {
@@ -180,7 +180,7 @@ impl Tail {
 /// If one is known to be done, returns none. The book stays.
 pub(crate) fn read_doubtful<S: Alter>(
     alloc: Global,
-    mark: &Mark,
+    mark: &TillMark,
     conn: &mut Connection<S>,
 ) -> Result<Vec<EntryNumber>, TillFault>
     requires { conn.old.in_transaction ≡ false }

@@ -2,15 +2,16 @@
 
 ghost use Rattle.std.specs.Prelude.{◌≡◌, ◌++◌, ◌∷◌, [], IfNone, IfSome, Some};
 ghost use Rattle.std.specs.List.{All};
+ghost use Rattle.serde_json.specs.View.{view};
 ghost use Rattle.shop_types.specs.Seen.{seen_ask};
 ghost use Rattle.till_client.specs.Replies.{seen_answer};
 ghost use Rattle.till_cashier.specs.Asking.{IsAnswered, IsLookedUp};
-ghost use Rattle.till_cashier.specs.Late.{IsOutOf};
+ghost use Rattle.till_cashier.specs.Late.{IsCustomerList, IsOutOf};
 
 use crate::caches::Shelf;
 use crate::clock::WallClock;
 use crate::desk::Desk;
-use crate::lists::{List, body_of};
+use crate::lists::{List, body_of, fetched};
 use crate::members::{number_at, row_with, text_at};
 use serde_json::Value;
 use shop_types::{Ask, CopyNo, CustomerNo, FilmNo};
@@ -40,20 +41,39 @@ struct Lists {
     customers: Value,
 }
 
-/// Returns the list, from the shelf or from the server.
-fn list_of<K: WallClock, V: Server, L: Shelf>(
-    desk: &Desk<'_, K, V, L>,
-    list: List,
-) -> Option<Value> {
-    let body = body_of(desk, list)?;
+/// Returns the list of films, from the shelf or from the server.
+fn films_of<K: WallClock, V: Server, L: Shelf>(desk: &Desk<'_, K, V, L>) -> Option<Value> {
+    let body = body_of(desk, List::Films)?;
     Value::from_slice(desk.alloc, body.as_slice()).ok()
 }
 
+/// Returns the list of customers, from the server. A list on the shelf may be any text.
+fn customers_of<K: WallClock, V: Server, L: Shelf>(desk: &Desk<'_, K, V, L>) -> Option<Value>
+    ensures { IfSome result (λ list. IsCustomerList (IsLookedUp
+        (IsAnswered (V.opens desk.now.server.now) V.Reader.remaining V.Writer.contents)
+        desk.now.settings.now.token) (view list)) }
+{
+    let Ok(answer) = fetched(desk, List::Customers) else {
+        return None;
+    };
+    if answer.status != 200 {
+        return None;
+    }
+    match Value::from_slice(desk.alloc, answer.body.as_slice()) {
+        Ok(list) => Some(list),
+        Err(_) => None,
+    }
+}
+
 /// Returns both lists.
-fn read_lists<K: WallClock, V: Server, L: Shelf>(desk: &Desk<'_, K, V, L>) -> Option<Lists> {
+fn read_lists<K: WallClock, V: Server, L: Shelf>(desk: &Desk<'_, K, V, L>) -> Option<Lists>
+    ensures { IfSome result (λ lists. IsCustomerList (IsLookedUp
+        (IsAnswered (V.opens desk.now.server.now) V.Reader.remaining V.Writer.contents)
+        desk.now.settings.now.token) (view lists.customers)) }
+{
     Some(Lists {
-        films: list_of(desk, List::Films)?,
-        customers: list_of(desk, List::Customers)?,
+        films: films_of(desk)?,
+        customers: customers_of(desk)?,
     })
 }
 
@@ -80,7 +100,10 @@ fn out_of<K: WallClock, V: Server, L: Shelf>(
     title: &str,
     copy: CopyNo,
 ) -> Option<Out>
-    ensures { IfSome result (IsOutOf (IsLookedUp
+    ensures { IsCustomerList (IsLookedUp
+        (IsAnswered (V.opens desk.now.server.now) V.Reader.remaining V.Writer.contents)
+        desk.now.settings.now.token) (view lists.now.customers)
+        → IfSome result (IsOutOf (IsLookedUp
         (IsAnswered (V.opens desk.now.server.now) V.Reader.remaining V.Writer.contents)
         desk.now.settings.now.token)) }
 {
@@ -127,7 +150,10 @@ fn add_outs<K: WallClock, V: Server, L: Shelf>(
     film: FilmNo,
     outs: &mut Vec<Out>,
 ) -> Option<()>
-    ensures { All (IsOutOf (IsLookedUp
+    ensures { IsCustomerList (IsLookedUp
+        (IsAnswered (V.opens desk.now.server.now) V.Reader.remaining V.Writer.contents)
+        desk.now.settings.now.token) (view lists.now.customers)
+        → All (IsOutOf (IsLookedUp
         (IsAnswered (V.opens desk.now.server.now) V.Reader.remaining V.Writer.contents)
         desk.now.settings.now.token)) outs.old.items
         → All (IsOutOf (IsLookedUp
@@ -152,7 +178,10 @@ fn add_film<K: WallClock, V: Server, L: Shelf>(
     film: &Value,
     outs: &mut Vec<Out>,
 ) -> Option<()>
-    ensures { All (IsOutOf (IsLookedUp
+    ensures { IsCustomerList (IsLookedUp
+        (IsAnswered (V.opens desk.now.server.now) V.Reader.remaining V.Writer.contents)
+        desk.now.settings.now.token) (view lists.now.customers)
+        → All (IsOutOf (IsLookedUp
         (IsAnswered (V.opens desk.now.server.now) V.Reader.remaining V.Writer.contents)
         desk.now.settings.now.token)) outs.old.items
         → All (IsOutOf (IsLookedUp
@@ -172,7 +201,10 @@ fn outs_of_title<K: WallClock, V: Server, L: Shelf>(
     lists: &Lists,
     title: &str,
 ) -> Option<Vec<Out>>
-    ensures { IfSome result (λ outs. All (IsOutOf (IsLookedUp
+    ensures { IsCustomerList (IsLookedUp
+        (IsAnswered (V.opens desk.now.server.now) V.Reader.remaining V.Writer.contents)
+        desk.now.settings.now.token) (view lists.now.customers)
+        → IfSome result (λ outs. All (IsOutOf (IsLookedUp
         (IsAnswered (V.opens desk.now.server.now) V.Reader.remaining V.Writer.contents)
         desk.now.settings.now.token)) outs.items) }
 {
@@ -190,7 +222,10 @@ fn add_title<K: WallClock, V: Server, L: Shelf>(
     title: &str,
     outs: &mut Vec<Out>,
 ) -> Option<()>
-    ensures { All (IsOutOf (IsLookedUp
+    ensures { IsCustomerList (IsLookedUp
+        (IsAnswered (V.opens desk.now.server.now) V.Reader.remaining V.Writer.contents)
+        desk.now.settings.now.token) (view lists.now.customers)
+        → All (IsOutOf (IsLookedUp
         (IsAnswered (V.opens desk.now.server.now) V.Reader.remaining V.Writer.contents)
         desk.now.settings.now.token)) outs.old.items
         → All (IsOutOf (IsLookedUp

@@ -1,6 +1,6 @@
 //! What is overdue, with the numbers of the copies, and of the rentals that the book or the sheet knows.
 
-ghost use Rattle.std.specs.Prelude.{◌≡◌, ◌⊎◌, ◌∷◌, ◌++◌, [], ℕ, List, Some, false, map, slice_get, IfOk, IfSome, OnOk, option_and_then, option_map, string_bytes};
+ghost use Rattle.std.specs.Prelude.{◌≡◌, ◌⊎◌, ◌∷◌, ◌++◌, [], ℕ, List, Some, true, false, map, slice_get, IfOk, IfSome, OnOk, codes, option_and_then, option_map, string_bytes};
 ghost use Rattle.std.specs.List.{All, Contains};
 ghost use Rattle.serde_json.specs.View.{view};
 ghost use Rattle.sqlite.specs.Held.{state};
@@ -9,7 +9,7 @@ ghost use Rattle.till_book.specs.Steps.{Stays};
 ghost use Rattle.till_shows.specs.Bodies.{each, rows_in};
 ghost use Rattle.till_cashier.specs.Asking.{IsAnswered, IsLookedUp};
 ghost use Rattle.till_cashier.specs.Clock.{local_clock};
-ghost use Rattle.till_cashier.specs.Late.{IsKnown, IsLateRow, IsOutOf, IsRentalOf, TablesLate, held_by, late_of, lates_in, number_text, seen_late};
+ghost use Rattle.till_cashier.specs.Late.{IsKnown, IsLateRow, IsListedAs, IsOutOf, IsOutTo, IsRentalOf, MayBeOf, TablesLate, held_by, late_of, lates_in, number_text, seen_late};
 ghost use Rattle.till_cashier.specs.Listing.{with_row};
 ghost use Rattle.till_cashier.specs.Looking.{AddsLate};
 ghost use Rattle.till_cashier.specs.Returns.{IsOnSheet};
@@ -130,19 +130,40 @@ fn is_alike(one: &Late, two: &Late) -> bool {
     one.customer == two.customer && one.phone == two.phone && one.title == two.title
 }
 
-/// Tests whether the name is the listed customer's: `MARY SMITH` is `SMITH, MARY`.
-fn is_name_of(listed: &str, name: &str) -> bool {
-    let Some((last, first)) = listed.split_once(", ") else {
+/// Returns what follows the front in the text, if the text begins with it.
+fn after<'t>(text: &'t str, front: &str) -> Option<&'t str>
+    ensures { IfSome result (λ rest. text.now ≡ front.now ++ rest.now) }
+{
+    text.strip_prefix(front)
+}
+
+/// Tests whether the text is the first name, a blank and the last name.
+fn is_joined(text: &str, first: &str, last: &str) -> bool
+    ensures { result ≡ true → text.now ≡ first.now ++ (codes " " ++ last.now) }
+{
+    let Some(rest) = after(text, first) else {
         return false;
     };
-    match name.strip_prefix(first) {
-        Some(rest) => rest.strip_prefix(" ") == Some(last),
+    match after(rest, " ") {
+        Some(rest) => rest == last,
+        None => false,
+    }
+}
+
+/// Tests whether the name is the listed customer's: `MARY SMITH` is `SMITH, MARY`.
+fn is_name_of(listed: &str, name: &str) -> bool
+    ensures { result ≡ true → IsListedAs name.now listed.now }
+{
+    match listed.split_once(", ") {
+        Some((last, first)) => is_joined(name, first, last),
         None => false,
     }
 }
 
 /// Tests whether the copy is of the rental's title, and is out to a customer of that name and phone.
-fn may_be_of(out: &Out, late: &Late) -> bool {
+fn may_be_of(out: &Out, late: &Late) -> bool
+    ensures { result ≡ true → MayBeOf (seen_late late.now) out.now }
+{
     out.title == late.title
         && out.phone == late.phone
         && is_name_of(late.customer.as_str(), out.name.as_str())
@@ -172,7 +193,8 @@ fn count_outs(outs: &[Out], late: &Late) -> usize {
 
 /// Returns the copy of that place, counted from 0, among those that may be the rental's.
 fn nth_out<'o>(outs: &'o [Out], late: &Late, place: usize) -> Option<&'o Out>
-    ensures { IfSome result (λ out. Contains outs.now out.now) }
+    ensures found { IfSome result (λ out. Contains outs.now out.now) }
+    ensures like { IfSome result (λ out. MayBeOf (seen_late late.now) out.now) }
 {
     let mut before = place;
     for out in outs {
@@ -188,10 +210,10 @@ fn nth_out<'o>(outs: &'o [Out], late: &Late, place: usize) -> Option<&'o Out>
 
 /// Returns the copy of the rental at that place. It is known if as many copies may be the rental's as rentals are listed
 /// alike. Otherwise one of the copies isn't overdue, or one isn't known.
-fn out_at<'o>(lates: &[Late], outs: &'o [Out], at: usize) -> Option<&'o Out>
-    ensures { IfSome result (λ out. Contains outs.now out.now) }
+fn out_at<'o>(lates: &[Late], outs: &'o [Out], late: &Late, at: usize) -> Option<&'o Out>
+    ensures found { IfSome result (λ out. Contains outs.now out.now) }
+    ensures like { IfSome result (λ out. MayBeOf (seen_late late.now) out.now) }
 {
-    let late = lates.get(at)?;
     if count_alike(lates, late) != count_outs(outs, late) {
         return None;
     }
@@ -300,12 +322,12 @@ fn known_of<S: Alter, K: WallClock, V: Server, L: Shelf>(
     ensures ended { conn.new.in_transaction ≡ false }
     ensures clean { HasCleanDisk (state S.Store conn.new) → HasCleanDisk (state S.Store conn.old) }
     ensures stays { HasCleanDisk (state S.Store conn.new) → Stays (state S.Store conn.old) (state S.Store conn.new) }
-    ensures known { HasCleanDisk (state S.Store conn.new) → IfSome out.entry (λ out. IsOutOf (IsLookedUp
+    ensures known { HasCleanDisk (state S.Store conn.new) → (late : List (List ℕ)) → IfSome out.entry (λ out. IsOutTo (IsLookedUp
         (IsAnswered (V.opens desk.now.server.now) V.Reader.remaining V.Writer.contents)
-        desk.now.settings.now.token) out.now)
+        desk.now.settings.now.token) late out.now)
         → IfOk result (λ it. IsKnown (IsLookedUp
         (IsAnswered (V.opens desk.now.server.now) V.Reader.remaining V.Writer.contents)
-        desk.now.settings.now.token) (state S.Store conn.old) desk.now.sheet.now it.copy it.rental) }
+        desk.now.settings.now.token) (state S.Store conn.old) desk.now.sheet.now late it.copy it.rental) }
 {
     let Some(out) = out else {
         return Ok(Known {
@@ -333,9 +355,9 @@ fn add_late<S: Alter, K: WallClock, V: Server, L: Shelf>(
     ensures ended { conn.new.in_transaction ≡ false }
     ensures clean { HasCleanDisk (state S.Store conn.new) → HasCleanDisk (state S.Store conn.old) }
     ensures stays { HasCleanDisk (state S.Store conn.new) → Stays (state S.Store conn.old) (state S.Store conn.new) }
-    ensures added { HasCleanDisk (state S.Store conn.new) → IfSome out.entry (λ out. IsOutOf (IsLookedUp
+    ensures added { HasCleanDisk (state S.Store conn.new) → IfSome out.entry (λ out. IsOutTo (IsLookedUp
         (IsAnswered (V.opens desk.now.server.now) V.Reader.remaining V.Writer.contents)
-        desk.now.settings.now.token) out.now)
+        desk.now.settings.now.token) (seen_late late.now) out.now)
         → OnOk result ((row : List (List ℕ)) × IsLateRow (IsLookedUp
         (IsAnswered (V.opens desk.now.server.now) V.Reader.remaining V.Writer.contents)
         desk.now.settings.now.token) (state S.Store conn.old) desk.now.sheet.now
@@ -367,8 +389,9 @@ fn table_of<S: Alter, K: WallClock, V: Server, L: Shelf>(
 {
     let mut table = Table::new(desk.alloc, &COLUMNS)?;
     'lates: for at in 0..lates.len() {
-        let out = out_at(lates, outs, at);
-        match add_late(desk, conn, &lates[at], out, &mut table) {
+        let late = &lates[at];
+        let out = out_at(lates, outs, late, at);
+        match add_late(desk, conn, late, out, &mut table) {
             Ok(()) => continue,
             Err(fault) => return Err(fault),
         }

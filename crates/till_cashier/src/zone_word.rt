@@ -1,6 +1,6 @@
 //! Another zone for an open book, and what is said of it.
 
-ghost use Rattle.std.specs.Prelude.{◌<◌, ◌⊎◌, false, IfOk, IfErr, IfSome, OnOk, ◌≡◌};
+ghost use Rattle.std.specs.Prelude.{◌<◌, ◌⊎◌, ◌++◌, false, codes, string_bytes, IfOk, IfErr, IfSome, OnOk, ◌≡◌};
 ghost use Rattle.sqlite.specs.Held.{state};
 ghost use Rattle.sqlite.specs.State.{HasCleanDisk};
 ghost use Rattle.shop_model.specs.Calendar.{seconds_of};
@@ -8,6 +8,7 @@ ghost use Rattle.till_book.specs.Steps.{Stays};
 ghost use Rattle.till_requests.specs.Zones.{offset_of};
 ghost use Rattle.till_cashier.specs.Clock.{local_clock};
 ghost use Rattle.till_cashier.specs.LastMoment.{PassesLast};
+ghost use Rattle.till_cashier.specs.ZoneText as spec;
 
 use crate::book::Book;
 use crate::caches::Shelf;
@@ -17,7 +18,7 @@ use crate::fault::TillFault;
 use crate::said::Said;
 use shop_types::Moment;
 use sqlite::{Alter, Connection};
-use std::alloc::Global;
+use std::alloc::{AllocError, Global};
 use till_requests::{Settings, Zone, zone_offset};
 use till_work::Server;
 
@@ -74,20 +75,40 @@ pub fn accept_zone<S: Alter, K: WallClock, V: Server, L: Shelf>(
     Ok(now)
 }
 
-/// Says the settings' zone, and its standard time.
-pub fn zone_said(alloc: Global, settings: &Settings) -> Result<Said, TillFault> {
-    let name = match &settings.zone {
+/// Returns the name of the settings' zone.
+fn zone_name(zone: &Option<Zone>) -> &str
+    ensures { result.now ≡ spec.zone_name zone.now }
+{
+    match zone {
         Some(zone) => zone.name.as_str(),
         None => "UTC",
-    };
-    let seconds = zone_offset(&settings.zone);
+    }
+}
+
+/// Returns how far a standard time is from UTC, as `-07:00`.
+fn time_text(alloc: Global, seconds: i32) -> Result<String, AllocError> {
     let sign = if seconds < 0 { "-" } else { "+" };
     let minutes = seconds.unsigned_abs() / 60;
     let (hours, minutes) = (minutes / 60, minutes % 60);
+    format!(in alloc; "{sign}{hours:02}:{minutes:02}")
+}
+
+/// Returns the sentence on a zone: its name, and its standard time.
+fn zone_line(alloc: Global, name: &str, time: &str) -> Result<String, AllocError>
+    ensures { IfOk result (λ line. string_bytes line
+        ≡ codes "the till's zone is " ++ (name.now ++ (codes ": entries have its standard time, UTC" ++ time.now))) }
+{
+    format!(in alloc; "the till's zone is {name}: entries have its standard time, UTC{time}")
+}
+
+/// Says the settings' zone, and its standard time.
+pub fn zone_said(alloc: Global, settings: &Settings) -> Result<Said, TillFault>
+    ensures text { IfOk result (λ said. spec.IsZoneText (spec.zone_name settings.now.zone) (string_bytes said.text)) }
+    ensures done { IfOk result (λ said. said.status ≡ 0) }
+{
+    let time = time_text(alloc, zone_offset(&settings.zone))?;
+    let line = zone_line(alloc, zone_name(&settings.zone), time.as_str())?;
     let mut said = Said::done(alloc);
-    let line = format!(in alloc;
-        "the till's zone is {name}: entries have its standard time, UTC{sign}{hours:02}:{minutes:02}"
-    )?;
     said.line(line.as_str())?;
     Ok(said)
 }

@@ -163,3 +163,8 @@ is_true false r is e = absurd cc
 pub same_lists : (one two : List ℕ) (r : Bool) → r ≡ not (pointwise eqb one two) → r ≡ false → one ≡ two
 same_lists one two r is e =
     (slice_eq-Decides {E = eqb} (λ a b. search (comparing, rules)) one two (pointwise eqb one two) refl).0 (is_true (pointwise eqb one two) r is e)
+
+-- what follows from what an outcome is
+pub ok_so : {A E : Type 0} (r : Result A E) (P Q : A → Type 0) → IfOk r P → ((a : A) → P a → Q a) → IfOk r Q
+ok_so (Ok a) P Q it so = so a it
+ok_so (Err e) P Q it so = tt

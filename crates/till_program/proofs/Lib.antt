@@ -13,3 +13,4 @@ pub mod FrameWords
 pub mod ServingLaws
 pub mod PromptLaws
 pub mod PeerLaws
+pub mod RelayLaws

@@ -106,7 +106,7 @@ module _ {S : Type 0} (g : Ghosts S) (Exchanged : List ℕ → Answer → Type 0
 
   -- a word, and what was made sure of after it
   pub performed_is_done : (Answers : List ℕ → Answer → Type 0) → PerformedIsDone g Exchanged Answers shows
-  performed_is_done Answers mark token own giver json sheet act status window said wall offset output written before after branch zero it = (
+  performed_is_done Answers mark token own giver json sheet act status window said wall offset first final before after branch zero it = (
     record { keeps = it.keeps refl branch; does = λ told. it.does (zero told) },
     (record { keeps = same_keeps Exchanged mark (state g it.between) (state g after) (it.sure refl); does = λ told. absurd (false≢true told) }, tt),
   )

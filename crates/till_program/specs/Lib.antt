@@ -4,7 +4,10 @@ pub mod Reading
 pub mod Settings
 pub mod Windows
 pub mod StandardTime
+pub mod Screens
+pub mod Secrets
 pub mod Performing
 pub mod Lines
 pub mod Serving
 pub mod Prompting
+pub mod Relaying

@@ -1,6 +1,6 @@
 -- A word at an open book as the program does it: by `do_word`, and then some refused entries are made sure of.
 use Rattle.std.specs.Prelude.{◌≡◌, ◌≢◌, ◌⊎◌, ⊤, ℕ, ℤ, Bool, true, false, string_bytes, List, ◌++◌, Option, Some, None, IsSome, Result}
-use Rattle.std.specs.Io.KnownBytes.{Appends}
+use Rattle.std.specs.Io.KnownBytes.{Appends, Keeps}
 use Rattle.std.specs.declared.net.tcp.TcpStream.{TcpStream}
 use Rattle.sqlite_disk.specs.declared.Disk as disk
 use Rattle.sqlite_trees.specs.declared.store.Store.{Ghosts}
@@ -17,10 +17,11 @@ use Rattle.till_requests.specs.declared.settings.Settings.{Settings}
 use Rattle.till_work.specs.Exchanged.{IsExchanged}
 use Rattle.till_words.specs.declared.words.TillAct.{TillAct}
 use Rattle.till_cashier.specs.declared.fault.TillFault.{TillFault}
+use Rattle.till_cashier.specs.declared.fault.TillFault.TheVariants.{OtherBook}
 use Rattle.till_cashier.specs.Adding.{EntersWord}
 use Rattle.till_cashier.specs.Asked.{Grows}
 use Rattle.till_cashier.specs.Clock.{local_clock}
-use Rattle.till_cashier.specs.Faults.{giver_of}
+use Rattle.till_cashier.specs.Faults.{IsReading, giver_of, others_fault}
 use Rattle.till_cashier.specs.Asking.{IsAnswered}
 use Rattle.till_cashier.specs.Doing.{DoesWord, RepeatsWord}
 use Rattle.till_cashier.specs.Printing.{SaysWord}
@@ -28,23 +29,37 @@ use Rattle.till_cashier.specs.Showing.{ShowsWord}
 use Rattle.till_cashier.specs.Today.{IsOnWall}
 use Rattle.till_cashier.specs.Word.{KeepsATillsBook, KeepsABook, EntersNothing, EntersOrSends, IsFor, IsOwnBook}
 use Rattle.till_program.specs.declared.opening.OpenBook.{OpenBook}
+use Rattle.till_program.specs.Screens.{SaysFaultLine, SaysNotDone, Screen, Shows, screen}
 
 -- the text was printed, and more after it perhaps
 abbrev pub Prints : Text → Option (List ℕ) → Option (List ℕ) → Type 0
 Prints text output written = (more : Text) × Appends output written (text ++ more)
 
--- With status 0 the word was done, and what it says has that status and was printed. With `--json` that is a body as it came. So an act got 200. Unless the
--- book failed, it entered what was typed and nothing else, and left the book as `do_word` says. At another till's book, and for the other kind of book, it
--- did nothing. After that some refused entries may have been made sure of, and more may have been printed.
+-- Why a word wasn't done. At a book of the other kind it is that fault, and at another till's book that one, unless the book can't be read.
+pub record IsWordFault (mark : Text) (own : Option ℕ) (act : TillAct) (s : State) (fault : TillFault) : Type 0 where
+  pub others : ¬ IsFor own act → IsReading fault ⊎ (fault ≡ others_fault own)
+  pub foreign : EntersOrSends act → IsFor own act → ¬ IsOwnBook mark s → IsReading fault ⊎ (fault ≡ OtherBook)
+
+-- With status 0 the word was done, and what it says has that status and was printed on standard output, and nothing on standard error. With `--json` that is
+-- a body as it came. So an act got 200. With another status, what the word says with a status that isn't 0, or why it wasn't done, is on standard error, and
+-- nothing on standard output. If the stream failed, the status is 3, and a front of the text is there. Unless the book failed, the word entered what was typed
+-- and nothing else, and left the book as `do_word` says. At another till's book, and for the other kind of book, it did nothing. After that some refused
+-- entries may have been made sure of, and more may have been printed.
 pub record IsPerformed {S : Type 0} (g : Ghosts S) (Exchanged Answers : List ℕ → Answer → Type 0) (Sure : State → State → Type 0) (shows : ℕ → Type 0)
     (wall : TimeZone) (offset : ℤ) (mark token : Text) (own : Option ℕ) (giver : Result ℕ TillFault) (json : Bool) (sheet : Text) (act : TillAct)
-    (is_failed : Bool) (status : ℕ) (output written : Option (List ℕ)) (before after : Held S) : Type 0 where
+    (is_failed : Bool) (status : ℕ) (first final : Screen) (before after : Held S) : Type 0 where
   pub between : Held S
   pub does : status ≡ 0 → DoesWord Exchanged shows mark token giver sheet act (state g before) (state g between)
   pub says : status ≡ 0 → (text : Text)
       × SaysWord Exchanged Answers shows (IsOnWall wall offset) mark token giver json sheet act (state g before) (state g between) text 0
       × ShowsWord Exchanged shows wall offset own mark token json act (state g before) (state g between) text 0
-      × Prints text output written
+      × Prints text first.output final.output
+  pub quiet : status ≡ 0 → Keeps first.errors final.errors
+  pub refuses : status ≢ 0 → Shows (λ text wanted.
+      (IsFor own act
+      × SaysWord Exchanged Answers shows (IsOnWall wall offset) mark token giver json sheet act (state g before) (state g between) text wanted
+      × ShowsWord Exchanged shows wall offset own mark token json act (state g before) (state g between) text wanted)
+      ⊎ ((fault : TillFault) × IsWordFault mark own act (state g before) fault × SaysFaultLine fault text wanted)) status first final
   pub repeats : status ≡ 0 → RepeatsWord Exchanged shows mark token own act (state g before) (state g between)
   pub kind : status ≡ 0 → IsFor own act
   pub others : ¬ IsFor own act → Stays (state g before) (state g between)
@@ -75,23 +90,31 @@ machine_shows seconds = ⊤
 -- The word was performed at the book that has the settings, after a look at that book. There was some sheet, and some clock on the wall. Before the word a
 -- question may have been printed. The word is given by the member of staff that is named, or else by the settings' own.
 pub record IsPerformedFor {D : Type 0} {g : disk.Ghosts D} (settings : Settings) (json : Bool) (named : Option ℕ) (act : TillAct) (is_failed : Bool)
-    (status : ℕ) (output written : Option (List ℕ)) (before after : Held (FileStore D g)) : Type 0 where
+    (status : ℕ) (first final : Screen) (before after : Held (FileStore D g)) : Type 0 where
   pub looked : Held (FileStore D g)
   pub looks : Stays (file_state before) (file_state looked)
   pub sheet : Text
   pub wall : TimeZone
   pub asked : Option (List ℕ)
-  pub grows : Grows output asked
+  pub grows : Grows first.output asked
   pub performs : IsPerformed over_files over_sockets asked_over_sockets (EntersNothing over_sockets) (local_clock machine_shows settings.zone)
       wall (offset_of settings.zone) settings.mark settings.token settings.staff (giver_of settings.staff named) json sheet act is_failed status
-      asked written looked after
+      (screen asked first.errors) final looked after
 
--- The book stays and the status isn't 0, or the word was performed.
-abbrev pub IsAttempted : {D : Type 0} {g : disk.Ghosts D} → Settings → Bool → Option ℕ → TillAct → Bool → ℕ → Option (List ℕ) → Option (List ℕ)
+-- A word wasn't begun: a fault is printed, or that nothing was entered, or a window's question with status 5. Another question may have been printed before
+-- it.
+abbrev pub IsNotDone : ℕ → Screen → Screen → Type 0
+IsNotDone status first final =
+    (asked : Option (List ℕ)) × Grows first.output asked
+    × (Shows SaysNotDone status (screen asked first.errors) final
+    ⊎ ((status ≡ 5) × Grows asked final.output × Keeps first.errors final.errors))
+
+-- The book stays, the status isn't 0, and that is printed, or the word was performed.
+abbrev pub IsAttempted : {D : Type 0} {g : disk.Ghosts D} → Settings → Bool → Option ℕ → TillAct → Bool → ℕ → Screen → Screen
     → Held (FileStore D g) → Held (FileStore D g) → Type 0
-IsAttempted settings json named act is_failed status output written before after =
-    ((status ≢ 0) × Stays (file_state before) (file_state after))
-    ⊎ IsPerformedFor settings json named act is_failed status output written before after
+IsAttempted settings json named act is_failed status first final before after =
+    ((status ≢ 0) × IsNotDone status first final × Stays (file_state before) (file_state after))
+    ⊎ IsPerformedFor settings json named act is_failed status first final before after
 
 -- ---- the book that is held
 
@@ -115,9 +138,9 @@ abbrev pub AtBook : (Bool → OpenBook → OpenBook → Type 0) → Text → Opt
 AtBook Does name held now = (found : OpenBook) × IsFound name held found × IsLeft Does found now
 
 -- the book has the same tools; if the disk was honest, it was honest before, and the word was attempted
-pub record IsAttemptedAt (json : Bool) (named : Option ℕ) (act : TillAct) (status : ℕ) (output written : Option (List ℕ)) (is_failed : Bool)
+pub record IsAttemptedAt (json : Bool) (named : Option ℕ) (act : TillAct) (status : ℕ) (first final : Screen) (is_failed : Bool)
     (before after : OpenBook) : Type 0 where
   pub tools : after.tools ≡ before.tools
   pub clean : HasCleanDisk (file_state after.conn) → HasCleanDisk (file_state before.conn)
   pub attempts : HasCleanDisk (file_state after.conn)
-      → IsAttempted before.tools.settings json named act is_failed status output written before.conn after.conn
+      → IsAttempted before.tools.settings json named act is_failed status first final before.conn after.conn

@@ -7,30 +7,41 @@ use Rattle.till_book.specs.Steps.{Stays}
 use Rattle.till_program.specs.declared.opening.OpenBook.{OpenBook}
 use Rattle.till_program.specs.Frames.{frame, reply}
 use Rattle.till_program.specs.Reading.{line_at}
+use Rattle.till_program.specs.Screens.{Screen, screen}
 use Rattle.till_program.specs.Lines.{DoesWords}
 
 -- The words of a window's line, with the name of the desk's book before them. The line's first word says who is asked.
 abbrev pub desk_words : Text → List Text → List Text
 desk_words name line = codes "--book" ∷ (name ∷ drop 1 line)
 
--- the words of the line were done at the desk's book with that status, with the file for the stock file, and printed that; nobody else stands there
-abbrev pub DoesFrame : Text → List ℕ → List ℕ → ℕ → List ℕ → Option OpenBook → Option OpenBook → Type 0
-DoesFrame name line file status out held now =
-    (words : List Text) × (line_at line ≡ Ok words) × DoesWords (desk_words name words) None (Some file) status (Some []) (Some out) held now
+-- the texts that were printed on standard output and on standard error, and nothing before them
+abbrev pub printed : List ℕ → List ℕ → Screen
+printed out err = screen (Some out) (Some err)
+
+-- the words of the line were done at the desk's book with that status, with the file for the stock file, and printed those texts; nobody else stands there
+abbrev pub DoesFrame : Text → List ℕ → List ℕ → ℕ → List ℕ → List ℕ → Option OpenBook → Option OpenBook → Type 0
+DoesFrame name line file status out err held now =
+    (words : List Text) × (line_at line ≡ Ok words) × DoesWords (desk_words name words) None (Some file) status (printed [] []) (printed out err) held now
 
 -- The bytes are a frame with the secret, and its words were done once. Or what is held is as it was.
 abbrev pub Handles : Text → List ℕ → List ℕ → Option OpenBook → Option OpenBook → Type 0
 Handles name secret bytes held now =
-    (now ≡ held) ⊎ ((line file : List ℕ) × (bytes ≡ frame secret line file) × ((status : ℕ) × (out : List ℕ) × DoesFrame name line file status out held now))
+    (now ≡ held)
+    ⊎ ((line file : List ℕ) × (bytes ≡ frame secret line file)
+    × ((status : ℕ) × (out err : List ℕ) × DoesFrame name line file status out err held now))
 
--- the text is a reply with such a status and such an output
-abbrev pub IsReplyOf : List ℕ → (ℕ → List ℕ → Type 0) → Type 0
-IsReplyOf text Has = (status : ℕ) × (out : List ℕ) × ((err : List ℕ) × (text ≡ reply status out err)) × Has status out
+-- the text is a reply with such a status and such texts
+abbrev pub IsReplyOf : List ℕ → (ℕ → List ℕ → List ℕ → Type 0) → Type 0
+IsReplyOf text Has = (status : ℕ) × (out err : List ℕ) × (text ≡ reply status out err) × Has status out err
 
--- a reply with status 0 says that the words of a frame were done with status 0, and its output is what they printed
-abbrev pub RepliesTo : Text → List ℕ → List ℕ → Option OpenBook → Option OpenBook → ℕ → List ℕ → Type 0
-RepliesTo name secret bytes held now status out =
-    status ≡ 0 → (line file : List ℕ) × (bytes ≡ frame secret line file) × DoesFrame name line file 0 out held now
+-- nothing is said of standard output, and the status isn't 0
+abbrev pub IsDeskRefusal : ℕ → List ℕ → List ℕ → Type 0
+IsDeskRefusal status out err = (status ≢ 0) × (out ≡ [])
+
+-- A reply says that the words of a frame were done with its status, and its texts are what they printed. Or it is a refusal of the desk's own.
+abbrev pub RepliesTo : Text → List ℕ → List ℕ → Option OpenBook → Option OpenBook → ℕ → List ℕ → List ℕ → Type 0
+RepliesTo name secret bytes held now status out err =
+    ((line file : List ℕ) × (bytes ≡ frame secret line file) × DoesFrame name line file status out err held now) ⊎ IsDeskRefusal status out err
 
 -- ---- windows side by side
 
@@ -48,7 +59,9 @@ own_words name = codes "--book" ∷ (name ∷ (codes "send" ∷ []))
 -- What the desk does by itself: it closes the book, or sends what waits, or looks whether an entry waits.
 abbrev pub ActsAlone : Text → Option OpenBook → Option OpenBook → Type 0
 ActsAlone name held now =
-    IsLooked held now ⊎ ((now ≡ None) ⊎ ((status : ℕ) × (out : List ℕ) × DoesWords (own_words name) None (Some []) status (Some []) (Some out) held now))
+    IsLooked held now
+    ⊎ ((now ≡ None)
+    ⊎ ((status : ℕ) × (out err : List ℕ) × DoesWords (own_words name) None (Some []) status (printed [] []) (printed out err) held now))
 
 -- a window's bytes are handled, or the desk acts by itself
 abbrev pub Steps : Text → List ℕ → Option (List ℕ) → Option OpenBook → Option OpenBook → Type 0

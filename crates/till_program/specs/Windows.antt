@@ -21,6 +21,7 @@ use Rattle.till_cashier.specs.Doing.{DoesWord}
 use Rattle.till_cashier.specs.Giving.{AreTries, IsBack}
 use Rattle.till_cashier.specs.Returns.{IsReturned}
 use Rattle.till_cashier.specs.Word.{KeepsATillsBook, EntersNothing}
+use Rattle.till_program.specs.Screens.{Screen}
 use Rattle.till_program.specs.Performing.{IsPerformed}
 
 -- a word: its window, its giver, the sheet beside the book, what it asked for, whether the desk replied that it was done, the book after it
@@ -109,9 +110,9 @@ CopiesComeBack {S} g Exchanged shows =
 abbrev pub PerformedIsDone : {S : Type 0} → Ghosts S → (List ℕ → Answer → Type 0) → (List ℕ → Answer → Type 0) → (ℕ → Type 0) → Type 0
 PerformedIsDone {S} g Exchanged Answers shows =
     (mark token : Text) (own : Option ℕ) (giver : Result ℕ TillFault) (json : Bool) (sheet : Text) (act : TillAct) (status window : ℕ) (said : Bool)
-    (wall : TimeZone) (offset : ℤ) (output written : Option (List ℕ)) (before after : Held S)
+    (wall : TimeZone) (offset : ℤ) (first final : Screen) (before after : Held S)
     → IsSome own → (IsTrue said → status ≡ 0)
-    → (it : IsPerformed g Exchanged Answers (EntersNothing Exchanged) shows wall offset mark token own giver json sheet act false status output written
+    → (it : IsPerformed g Exchanged Answers (EntersNothing Exchanged) shows wall offset mark token own giver json sheet act false status first final
     before after)
     → AreDone g Exchanged shows mark token before
     (record { window = window; giver = giver; sheet = sheet; act = act; is_said = said; after = it.between }

@@ -7,7 +7,7 @@ use crate::files::write_own;
 use crate::handling::DeskBook;
 use crate::init::{is_free, settings_path};
 use crate::opening::{OpenBook, close_held};
-use crate::program::{Asks, Standing, Stock, Words, perform_words};
+use crate::program::{Asks, Station, Stock, Words, perform_words};
 use crate::secret::Secret;
 use crate::serving::serve_windows;
 use crate::settings::{WindowSettings, read_window, window_text};
@@ -16,7 +16,7 @@ use shop_types::{StaffNo, T128};
 use std::fs;
 use std::io::Write;
 use std::net::{SocketAddr, TcpListener, ToSocketAddrs};
-use till_cashier::{Line, TillFault};
+use till_cashier::{Link, TillFault};
 use till_words::DrawerNo;
 
 // ---- the desk
@@ -70,13 +70,13 @@ fn hold<E: Write>(
     }
     let given = Words {
         words: words.as_slice(),
-        standing: Standing {
+        standing: Station {
             staff: None,
             asks: Asks::Nobody,
         },
         stock: Stock::Sent(&[]),
         way: Way {
-            line: Line::Down,
+            line: Link::Down,
             patience: Patience::Short,
         },
     };

@@ -27,7 +27,7 @@ pub(crate) const ONCE: &str = "once";
 #[derive(Clone, Copy)]
 pub(crate) struct Giver {
     pub(crate) staff: StaffNo,
-    /// The window's drawer, or 0 if it has none of its own.
+    /// The window's drawer, or 0 if it has no drawer.
     pub(crate) drawer: u32,
     /// Whether the words come from a prompt, where a question can be asked.
     pub(crate) is_asked: bool,
@@ -160,8 +160,7 @@ pub(crate) enum DeskWord {
 /// What is said if a word about desks isn't given as it should be.
 pub(crate) const USAGE: &str =
     "Hold the book for windows: desk --port PORT, at another address with --listen ADDRESS
-Set up a window of a desk: window ADDRESS --staff N, with a drawer of its own by --drawer N, and its secret in a file by --secret-file FILE
-";
+Set up a window of a desk: window ADDRESS --staff N, with a drawer of its own by --drawer N, and its secret in a file by --secret-file FILE";
 
 /// Parts words into options with their values. A value without an option has the option `--address`. Returns none if an
 /// option has no value.

@@ -1,7 +1,7 @@
 //! What the prompt says first: who is at the till and where, and the date and the time of the clock on the wall.
 
 ghost use Rattle.std.specs.Prelude.{◌≡◌, IfOk, option_map, string_bytes};
-ghost use Rattle.till_program.specs.Greeting.{called_text, place_text, greeting_text};
+ghost use Rattle.till_program.specs.Greeting.{IsGreetingLine, called_text, greeting_text, office_greeting, place_text};
 
 use crate::files::FileShelf;
 use crate::opening::{Tools, tools_of};
@@ -11,7 +11,7 @@ use crate::zones::wall_zone;
 use shop_types::{BranchNo, Moment, StaffNo};
 use std::alloc::{AllocError, Global};
 use std::time::Clock;
-use till_cashier::{Attendant, Desk, Line, TillFault, find_attendant, on_wall, read_sheet};
+use till_cashier::{Attendant, Desk, Link, TillFault, find_attendant, on_wall, read_sheet};
 use till_requests::{Settings, moment_at, zone_offset, zone_second};
 use till_shows::moment_words;
 
@@ -79,13 +79,20 @@ fn greeting_line(
     format!(in alloc; "{called} {place} {now} ({zone})")
 }
 
+/// Returns the line of head office's book: `head office's book, 1 March 2026, 22:05 (UTC)`.
+fn office_line(alloc: Global, now: &str, zone: &str) -> Result<String, AllocError>
+    ensures { IfOk result (λ s. string_bytes s ≡ office_greeting now.now zone.now) }
+{
+    format!(in alloc; "head office's book, {now} ({zone})")
+}
+
 /// Returns who stands at the till of that book, and where. The server isn't waited for long.
 fn attendant_with<'x>(
     rt: &'x HostRuntime,
     book: &'x str,
     tools: &'x Tools,
     staff: StaffNo,
-    line: Line,
+    line: Link,
 ) -> Attendant {
     let alloc = rt.alloc();
     let server = Tcp {
@@ -120,13 +127,15 @@ fn greeted<'x>(
     book: &'x str,
     tools: &'x Tools,
     named: Option<StaffNo>,
-    line: Line,
-) -> Result<String, TillFault> {
+    line: Link,
+) -> Result<String, TillFault>
+    ensures { IfOk result (λ line. IsGreetingLine (string_bytes line)) }
+{
     let alloc = rt.alloc();
     let now = moment_words(alloc, now_on_wall(rt, tools)?)?;
     let zone = zone_name(&tools.settings);
     let Some(own) = tools.settings.staff else {
-        return Ok(format!(in alloc; "head office's book, {now} ({zone})")?);
+        return Ok(office_line(alloc, now.as_str(), zone)?);
     };
     let who = attendant_with(rt, book, tools, named.unwrap_or(own), line);
     Ok(greeting_line(alloc, &who, now.as_str(), zone)?)
@@ -138,8 +147,10 @@ pub(crate) fn greeting(
     rt: &HostRuntime,
     book: &str,
     named: Option<StaffNo>,
-    line: Line,
-) -> Result<String, TillFault> {
+    line: Link,
+) -> Result<String, TillFault>
+    ensures { IfOk result (λ line. IsGreetingLine (string_bytes line)) }
+{
     let tools = tools_of(rt, book)?;
     greeted(rt, book, &tools, named, line)
 }

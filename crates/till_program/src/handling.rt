@@ -2,19 +2,19 @@
 
 ghost use Rattle.std.specs.Prelude.{◌≡◌, ◌≢◌, ◌⊎◌, false, ℕ, List, map, string_bytes, None, IfOk, IfSome};
 ghost use Rattle.till_program.specs.Frames as spec;
-ghost use Rattle.till_program.specs.Serving.{desk_words, DoesFrame, IsReplyOf, Handles, RepliesTo};
+ghost use Rattle.till_program.specs.Serving.{desk_words, DoesFrame, IsDeskRefusal, IsReplyOf, Handles, RepliesTo};
 
 use crate::fault::{NoFrame, NoLine};
 use crate::frames::read_frame;
 use crate::given::{ONCE, PROMPT};
 use crate::lines::{push_copies, read_line};
 use crate::opening::OpenBook;
-use crate::program::{Asks, Standing, Stock, Words, perform_words};
+use crate::program::{Asks, Station, Stock, Words, perform_words};
 use crate::replies::reply_text;
 use crate::secret::Secret;
 use crate::way::{Patience, Way};
 use std::alloc::{AllocError, Global};
-use till_cashier::Line;
+use till_cashier::Link;
 
 /// A desk's book by its name, and its secret.
 #[derive(Drop)]
@@ -28,7 +28,7 @@ pub struct DeskBook {
 pub struct Handled {
     /// None if more bytes are wanted.
     pub reply: Option<Vec<u8>>,
-    pub line: Line,
+    pub line: Link,
 }
 
 /// Returns the sentence and the status for bytes that are no frame.
@@ -52,7 +52,7 @@ fn refusal(fault: NoFrame) -> (u8, &'static str)
 
 /// Returns the reply to bytes that are no frame.
 pub(crate) fn refused(alloc: Global, fault: NoFrame) -> Result<Vec<u8>, NoLine>
-    ensures { IfOk result (λ text. IsReplyOf text.items (λ status out. status ≢ 0)) }
+    ensures { IfOk result (λ text. IsReplyOf text.items IsDeskRefusal) }
 {
     let (status, sentence) = refusal(fault);
     reply_text(alloc, status, b"", sentence.as_bytes())
@@ -60,7 +60,7 @@ pub(crate) fn refused(alloc: Global, fault: NoFrame) -> Result<Vec<u8>, NoLine>
 
 /// Returns the reply to a line that can't be read, or whose answer can't be sent.
 fn unread(alloc: Global, fault: NoLine) -> Result<Vec<u8>, NoLine>
-    ensures { IfOk result (λ text. IsReplyOf text.items (λ status out. status ≢ 0)) }
+    ensures { IfOk result (λ text. IsReplyOf text.items IsDeskRefusal) }
 {
     match fault {
         NoLine::Memory => Err(NoLine::Memory),
@@ -98,16 +98,16 @@ fn performed(
     desk: &DeskBook,
     line: &[u8],
     file: &[u8],
-    server: &mut Line,
+    server: &mut Link,
     held: &mut Option<OpenBook>,
 ) -> Result<Vec<u8>, NoLine>
     requires { IfSome held.old (λ book. book.conn.in_transaction ≡ false) }
     ensures ended { IfSome held.new (λ book. book.conn.in_transaction ≡ false) }
     ensures done { (held.new ≡ held.old)
-        ⊎ ((status : ℕ) × (out : List ℕ) × DoesFrame (string_bytes desk.now.name) line.now file.now status out
+        ⊎ ((status : ℕ) × (out err : List ℕ) × DoesFrame (string_bytes desk.now.name) line.now file.now status out err
         held.old held.new) }
-    ensures replied { IfOk result (λ text. IsReplyOf text.items (λ status out. DoesFrame (string_bytes desk.now.name)
-        line.now file.now status out held.old held.new)) }
+    ensures replied { IfOk result (λ text. IsReplyOf text.items (λ status out err. DoesFrame
+        (string_bytes desk.now.name) line.now file.now status out err held.old held.new)) }
 {
     let alloc = rt.alloc();
     let line = read_line(alloc, line)?;
@@ -119,7 +119,7 @@ fn performed(
     let mut err: Vec<u8> = Vec::new(alloc);
     let given = Words {
         words: words.as_slice(),
-        standing: Standing { staff: None, asks },
+        standing: Station { staff: None, asks },
         stock: Stock::Sent(file),
         way: Way {
             line: *server,
@@ -137,7 +137,7 @@ pub fn handle(
     rt: &HostRuntime,
     desk: &DeskBook,
     bytes: &[u8],
-    server: Line,
+    server: Link,
     held: &mut Option<OpenBook>,
 ) -> Result<Handled, NoLine>
     requires { IfSome held.old (λ book. book.conn.in_transaction ≡ false) }

@@ -1,7 +1,8 @@
 //! Makes a book and its settings.
 
-ghost use Rattle.std.specs.Prelude.{◌≡◌, IfOk};
+ghost use Rattle.std.specs.Prelude.{◌≡◌, IfOk, string_bytes};
 ghost use Rattle.till_requests.specs.Marks.{IsDrawnMark};
+ghost use Rattle.till_program.specs.Lines.{ready_text};
 
 use crate::files::{begin_at, is_there, may_be_book, write_own};
 use crate::zones::zone_named;
@@ -97,7 +98,9 @@ fn settings_typed<D: Dice>(
 
 /// Makes a book, with a mark that no other book has, and its settings beside it. Fails with `Already` if settings, a
 /// book with entries, or a file that is no book is there. That file stays.
-pub(crate) fn begin(rt: &HostRuntime, book: &str, beginning: Beginning) -> Result<Said, TillFault> {
+pub(crate) fn begin(rt: &HostRuntime, book: &str, beginning: Beginning) -> Result<Said, TillFault>
+    ensures { IfOk result (λ said. (string_bytes said.text ≡ ready_text) × (said.status ≡ 0)) }
+{
     if !is_free(rt, book)? {
         return Err(TillFault::Already);
     }

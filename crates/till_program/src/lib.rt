@@ -16,6 +16,7 @@ mod laws;
 mod lines;
 mod opening;
 mod peers;
+mod printing;
 mod probing;
 mod program;
 mod prompt;
@@ -42,7 +43,7 @@ pub use laws::windows_share_a_book;
 pub use lines::read_line;
 pub use opening::{OpenBook, close_held, close_if_asked};
 pub use program::{
-    ASKED, Asks, Performed, Standing, Stock, Words, book_of, perform_words, says_yes,
+    ASKED, Asks, Performed, Station, Stock, Words, book_of, perform_words, says_yes,
 };
 pub use prompt::change_staff;
 pub use replies::{Reply, read_reply, reply_text};

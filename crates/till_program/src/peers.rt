@@ -10,7 +10,7 @@ use std::alloc::Global;
 use std::io::{ErrorKind, Read, Write};
 use std::net::{Shutdown, TcpStream};
 use std::time::Duration;
-use till_cashier::Line;
+use till_cashier::Link;
 
 /// How many bytes an inbox has at most: a frame with the longest line and the longest file, and one more.
 const MOST_READ: usize = 131_125;
@@ -164,7 +164,7 @@ impl Peer {
         rt: &HostRuntime,
         desk: &DeskBook,
         now: Duration,
-        line: &mut Line,
+        line: &mut Link,
         held: &mut Option<OpenBook>,
     )
         requires { IfSome held.old (λ book. book.conn.in_transaction ≡ false) }
@@ -233,7 +233,7 @@ impl Peer {
         rt: &HostRuntime,
         desk: &DeskBook,
         now: Duration,
-        line: &mut Line,
+        line: &mut Link,
         held: &mut Option<OpenBook>,
     )
         requires { IfSome held.old (λ book. book.conn.in_transaction ≡ false) }

@@ -1,7 +1,6 @@
 //! The program for one list of words.
 
 ghost use Rattle.std.specs.Prelude.{◌≡◌, ◌≢◌, ◌⊎◌, true, false, map, string_bytes, None, IfErr, IfOk, IfSome};
-ghost use Rattle.std.specs.Io.KnownBytes.{Appends};
 ghost use Rattle.sqlite.specs.Files.{file_state};
 ghost use Rattle.sqlite.specs.Held.{state};
 ghost use Rattle.sqlite.specs.State.{HasCleanDisk};
@@ -12,20 +11,22 @@ ghost use Rattle.till_cashier.specs.Asking.{IsAnswered};
 ghost use Rattle.till_cashier.specs.Clock.{local_clock};
 ghost use Rattle.till_cashier.specs.Faults.{IsBookKept, giver_of};
 ghost use Rattle.till_cashier.specs.Word.{EntersNothing};
-ghost use Rattle.till_program.specs.Lines.{IsCompleted, JoinsIn, sent_file, book_name, DoesLine, DoesWords, IsNotBegun, SetsZoneIn, HasZone};
+ghost use Rattle.till_cashier.specs.ZoneText.{IsZoneText};
+ghost use Rattle.till_program.specs.Lines.{IsCompleted, JoinsIn, sent_file, book_name, DoesLine, DoesWords, DoesZone, IsGreeting, IsHelp, IsNotBegun, IsNotDoneAt, SaysDone};
 ghost use Rattle.till_program.specs.Prompting.{AsksForPrompt, PerformsOnce, RunsTill};
-ghost use Rattle.till_program.specs.Performing.{IsPerformed, MakesSure, IsAttempted, IsAttemptedAt, AtBook};
+ghost use Rattle.till_program.specs.Performing.{IsPerformed, MakesSure, IsAttempted, IsAttemptedAt, IsNotDone, AtBook};
+ghost use Rattle.till_program.specs.Screens.{IsShown, PrintsFault, PrintsMore, Shows, nothing_text, screen};
 
 use crate::files::FileShelf;
 use crate::greeting::greeting;
 use crate::init::begin;
 use crate::opening::{OpenBook, Tools, close_held, opened};
+use crate::printing::{print, show, show_fault, write_text};
 use crate::prompt::prompt;
 use crate::tcp::Tcp;
 use crate::way::{Patience, Way};
 use crate::zone_setting::set_zone;
 use crate::zones::wall_zone;
-use http_messages::write_whole;
 use shop_types::{Act, Moment, NewCustomer, Person, StaffNo, StockFile, Usage};
 use sqlite::{Alter, Connection, FileStore};
 use sqlite_std_file::File;
@@ -34,7 +35,7 @@ use std::fs;
 use std::io::Write;
 use std::time::{Clock, Duration};
 use till_cashier::{
-    Desk, Inquiry, Line, Said, Shelf, TillFault, WallClock, ask_before, city_on_sheet, do_word,
+    Desk, Inquiry, Link, Said, Shelf, TillFault, WallClock, ask_before, city_on_sheet, do_word,
     make_sure, make_sure_soon, question, read_sheet, said_day,
 };
 use till_words::{
@@ -124,57 +125,21 @@ fn completed(
     }
 }
 
-/// Writes the text. Returns false if the output failed: then a front of the text may be written.
-fn write_text<W: Write>(text: &str, out: &mut W) -> bool
-    ensures written { result ≡ true → Appends (W.contents out.old) (W.contents out.new) text.now }
-    ensures grows { Grows (W.contents out.old) (W.contents out.new) }
-{
-    match write_whole(out, text.as_bytes()) {
-        Ok(()) => out.flush().is_ok(),
-        Err(_) => false,
-    }
-}
-
-/// Prints what a word resulted in, and returns its status. That is 0 only if the word was done and says so itself, and
-/// its text is printed.
-fn print<W: Write, E: Write>(said: Result<Said, TillFault>, out: &mut W, err: &mut E) -> u8
-    ensures done { result ≡ 0 → IfErr said (λ _. ⊥) }
-    ensures accepted { result ≡ 0 → IfOk said (λ it. it.status ≡ 0) }
-    ensures printed { result ≡ 0 → IfOk said (λ it. Appends (W.contents out.old) (W.contents out.new)
-        (string_bytes it.text)) }
-    ensures grows { Grows (W.contents out.old) (W.contents out.new) }
-{
-    match said {
-        Ok(Said { text, status: 0 }) => {
-            let is_out = write_text(text.as_str(), out);
-            if is_out { 0 } else { 3 }
-        }
-        Ok(Said { text, status }) => {
-            let _ = write!(err, "{text}");
-            status
-        }
-        Err(fault) => {
-            let _ = writeln!(err, "{fault}");
-            fault.status()
-        }
-    }
-}
-
 /// The status of a word, whether the book failed at it, and what it showed of the line. A book that failed is to be
 /// opened anew.
 #[derive(Clone, Copy)]
 struct Outcome {
     status: u8,
     is_failed: bool,
-    line: Line,
+    line: Link,
 }
 
 /// Returns what is known of the line after a word.
-fn line_after(before: Line, is_send: bool, said: &Result<Said, TillFault>) -> Line {
+fn line_after(before: Link, is_send: bool, said: &Result<Said, TillFault>) -> Link {
     match said {
-        Ok(_) if is_send => Line::Open,
+        Ok(_) if is_send => Link::Open,
         Ok(_) => before,
-        Err(fault) if fault.is_unanswered() => Line::Down,
+        Err(fault) if fault.is_unanswered() => Link::Down,
         Err(_) => before,
     }
 }
@@ -208,12 +173,11 @@ fn made_sure<S: Alter, K: WallClock, V: Server, L: Shelf>(
 
 /// Makes sure of refused entries after a word, and prints what that results in. After `send` it takes its time. Returns
 /// whether the book failed.
-fn sure_at<S: Alter, K: WallClock, V: Server, L: Shelf, W: Write, E: Write>(
+fn sure_at<S: Alter, K: WallClock, V: Server, L: Shelf, W: Write>(
     desk: &Desk<'_, K, V, L>,
     conn: &mut Connection<S>,
     is_send: bool,
     out: &mut W,
-    err: &mut E,
 ) -> bool
     requires { conn.old.in_transaction ≡ false }
     ensures ended { conn.new.in_transaction ≡ false }
@@ -225,19 +189,18 @@ fn sure_at<S: Alter, K: WallClock, V: Server, L: Shelf, W: Write, E: Write>(
 {
     let mut more = Said::done(desk.alloc);
     let sure = made_sure(desk, conn, is_send, &mut more);
-    print(Ok(more), out, err);
+    write_text(more.text.as_str().as_bytes(), out);
     has_failed(&sure)
 }
 
 /// Makes sure of refused entries after a word, over the desk's own server after `send` and else over that one. Returns
 /// whether the book failed.
-fn sure_after<S: Alter, K: WallClock, V: Server, L: Shelf, W: Write, E: Write>(
+fn sure_after<S: Alter, K: WallClock, V: Server, L: Shelf, W: Write>(
     desk: &Desk<'_, K, V, L>,
     least: &V,
     conn: &mut Connection<S>,
     is_send: bool,
     out: &mut W,
-    err: &mut E,
 ) -> bool
     requires { conn.old.in_transaction ≡ false }
     ensures ended { conn.new.in_transaction ≡ false }
@@ -249,9 +212,9 @@ fn sure_after<S: Alter, K: WallClock, V: Server, L: Shelf, W: Write, E: Write>(
     ensures grows { Grows (W.contents out.old) (W.contents out.new) }
 {
     if is_send {
-        return sure_at(desk, conn, true, out, err);
+        return sure_at(desk, conn, true, out);
     }
-    sure_at(&desk.over(least), conn, false, out, err)
+    sure_at(&desk.over(least), conn, false, out)
 }
 
 /// Does a word at an open book, and prints what it resulted in. If it was done, refused entries are made sure of after
@@ -278,8 +241,9 @@ fn word_at<S: Alter, K: WallClock, V: Server, L: Shelf, W: Write, E: Write>(
         (offset_of desk.now.settings.now.zone) desk.now.settings.now.mark desk.now.settings.now.token
         desk.now.settings.now.staff
         (giver_of desk.now.settings.now.staff desk.now.staff) desk.now.is_json desk.now.sheet.now act result.is_failed result.status
-        (W.contents out.old) (W.contents out.new) conn.old conn.new }
-    ensures grows { Grows (W.contents out.old) (W.contents out.new) }
+        (screen (W.contents out.old) (E.contents err.old)) (screen (W.contents out.new) (E.contents err.new)) conn.old conn.new }
+    ensures grows { PrintsMore (screen (W.contents out.old) (E.contents err.old)) (screen (W.contents out.new)
+        (E.contents err.new)) }
 {
     let is_send = matches!(act, TillAct::Send);
     let said = do_word(desk, conn, act, watch);
@@ -295,7 +259,7 @@ fn word_at<S: Alter, K: WallClock, V: Server, L: Shelf, W: Write, E: Write>(
     }
     Outcome {
         status,
-        is_failed: sure_after(desk, least, conn, is_send, out, err),
+        is_failed: sure_after(desk, least, conn, is_send, out),
         line,
     }
 }
@@ -316,7 +280,7 @@ pub enum Asks {
 
 /// Who stands at the till, and who is asked before a word that can't be undone.
 #[derive(Clone, Copy)]
-pub struct Standing {
+pub struct Station {
     /// Who gives the words, if it isn't the member of staff whose till it is.
     pub staff: Option<StaffNo>,
     pub asks: Asks,
@@ -340,7 +304,7 @@ struct Word {
 pub fn says_yes<W: Write>(rt: &HostRuntime, question: &str, out: &mut W) -> bool
     ensures grows { Grows (W.contents out.old) (W.contents out.new) }
 {
-    if !write_text(question, out) {
+    if !write_text(question.as_bytes(), out) {
         return false;
     }
     'lines: for line in rt.lines(rt.alloc()) {
@@ -352,18 +316,19 @@ pub fn says_yes<W: Write>(rt: &HostRuntime, question: &str, out: &mut W) -> bool
     false
 }
 
-/// What came of the question before a word.
+/// What keeps a word from being begun.
 #[derive(Drop)]
-enum Consent {
-    /// The word is to be done: it can be undone, or what is owed covers it, or the answer was yes.
-    Given,
-    /// Nobody said yes to it, for which this is the fault.
+enum Unbegun {
+    /// Nobody can be asked, for which this is the fault.
     Missing(TillFault),
+    /// The answer wasn't yes.
+    Refused,
     /// The window is to ask this.
     Asked(String),
 }
 
-/// Returns what came of the question before a word. If the word is sure, nothing is asked.
+/// Asks the question before a word. Returns whether the word is sure: it can be undone, or what is owed covers it, or the
+/// answer was yes. If the word is sure, nothing is asked.
 fn ask_consent<K: WallClock, V: Server, L: Shelf, W: Write>(
     rt: &HostRuntime,
     desk: &Desk<'_, K, V, L>,
@@ -371,26 +336,31 @@ fn ask_consent<K: WallClock, V: Server, L: Shelf, W: Write>(
     asks: Asks,
     last: Option<Moment>,
     out: &mut W,
-) -> Consent
+) -> Result<bool, Unbegun>
     ensures grows { Grows (W.contents out.old) (W.contents out.new) }
 {
+    if desk.is_sure {
+        return Ok(true);
+    }
     match question(desk, act, last) {
-        Ok(None) => Consent::Given,
+        Ok(None) => Ok(true),
         Ok(Some(Inquiry { text, fault })) => match asks {
-            Asks::Window => Consent::Asked(text),
-            Asks::Prompt if says_yes(rt, text.as_str(), out) => Consent::Given,
-            Asks::Prompt | Asks::Nobody => Consent::Missing(fault),
+            Asks::Window => Err(Unbegun::Asked(text)),
+            Asks::Prompt if says_yes(rt, text.as_str(), out) => Ok(true),
+            Asks::Prompt => Err(Unbegun::Refused),
+            Asks::Nobody if matches!(fault, TillFault::Joined(_)) => Err(Unbegun::Missing(fault)),
+            Asks::Nobody => Ok(false),
         },
-        Err(_) => Consent::Missing(TillFault::Unsure),
+        Err(_) => Ok(false),
     }
 }
 
 /// Returns what a window's word resulted in that wasn't done yet: its question is printed.
-fn question_outcome<W: Write>(question: &str, line: Line, out: &mut W) -> Outcome
-    ensures asked { result.status ≢ 0 }
+fn question_outcome<W: Write>(question: &str, line: Link, out: &mut W) -> Outcome
+    ensures asked { result.status ≡ 5 }
     ensures grows { Grows (W.contents out.old) (W.contents out.new) }
 {
-    write_text(question, out);
+    write_text(question.as_bytes(), out);
     Outcome {
         status: ASKED,
         is_failed: false,
@@ -398,15 +368,46 @@ fn question_outcome<W: Write>(question: &str, line: Line, out: &mut W) -> Outcom
     }
 }
 
-/// Prints the fault of a word that wasn't begun.
-fn not_done<W: Write, E: Write>(fault: TillFault, line: Line, out: &mut W, err: &mut E) -> Outcome
+/// What is printed if a question wasn't answered by yes.
+pub(crate) const NOTHING: &[u8] = b"Nothing was entered.\n";
+
+/// Prints that a word wasn't begun, since its question wasn't answered by yes.
+fn left_alone<W: Write, E: Write>(line: Link, out: &mut W, err: &mut E) -> Outcome
     ensures status { result.status ≢ 0 }
-    ensures grows { Grows (W.contents out.old) (W.contents out.new) }
+    ensures shown { IsShown nothing_text 1 result.status (screen (W.contents out.old) (E.contents err.old))
+        (screen (W.contents out.new) (E.contents err.new)) }
 {
     Outcome {
-        status: print(Err(fault), out, err),
+        status: show(NOTHING, 1, out, err),
+        is_failed: false,
+        line,
+    }
+}
+
+/// Prints the fault of a word that wasn't begun.
+fn not_done<E: Write>(fault: TillFault, line: Link, err: &mut E) -> Outcome
+    ensures status { result.status ≢ 0 }
+    ensures shown { PrintsFault fault result.status (E.contents err.old) (E.contents err.new) }
+{
+    Outcome {
+        status: show_fault(fault, err),
         is_failed: matches!(fault, TillFault::Book),
         line,
+    }
+}
+
+/// Prints what keeps a word from being begun.
+fn not_begun<W: Write, E: Write>(why: Unbegun, line: Link, out: &mut W, err: &mut E) -> Outcome
+    ensures status { result.status ≢ 0 }
+    ensures shown { IsNotDone result.status (screen (W.contents out.old) (E.contents err.old)) (screen (W.contents out.new)
+        (E.contents err.new)) }
+    ensures grows { PrintsMore (screen (W.contents out.old) (E.contents err.old)) (screen (W.contents out.new)
+        (E.contents err.new)) }
+{
+    match why {
+        Unbegun::Missing(fault) => not_done(fault, line, err),
+        Unbegun::Refused => left_alone(line, out, err),
+        Unbegun::Asked(question) => question_outcome(question.as_str(), line, out),
     }
 }
 
@@ -423,9 +424,10 @@ fn with_tools<'x, W: Write, E: Write>(
     ensures ended { conn.new.in_transaction ≡ false }
     ensures clean { HasCleanDisk (file_state conn.new) → HasCleanDisk (file_state conn.old) }
     ensures attempted { HasCleanDisk (file_state conn.new)
-        → IsAttempted tools.now.settings word.is_json word.staff word.act result.is_failed result.status (W.contents out.old)
-        (W.contents out.new) conn.old conn.new }
-    ensures grows { Grows (W.contents out.old) (W.contents out.new) }
+        → IsAttempted tools.now.settings word.is_json word.staff word.act result.is_failed result.status
+        (screen (W.contents out.old) (E.contents err.old)) (screen (W.contents out.new) (E.contents err.new)) conn.old conn.new }
+    ensures grows { PrintsMore (screen (W.contents out.old) (E.contents err.old)) (screen (W.contents out.new)
+        (E.contents err.new)) }
 {
     let Word {
         is_json,
@@ -464,21 +466,12 @@ fn with_tools<'x, W: Write, E: Write>(
     };
     let asked = match ask_before(rt, &desk, conn, &act, asks == Asks::Prompt, out) {
         Ok(asked) => asked,
-        Err(fault) => return not_done(fault, way.line, out, err),
+        Err(fault) => return not_done(fault, way.line, err),
     };
     desk.said_day = asked.said_day;
-    let consent = if is_sure {
-        Consent::Given
-    } else {
-        ask_consent(rt, &desk, &act, asks, asked.last, out)
-    };
-    desk.is_sure = match consent {
-        Consent::Given => true,
-        Consent::Missing(TillFault::Joined(number)) => {
-            return not_done(TillFault::Joined(number), way.line, out, err);
-        }
-        Consent::Missing(_) => false,
-        Consent::Asked(question) => return question_outcome(question.as_str(), way.line, out),
+    desk.is_sure = match ask_consent(rt, &desk, &act, asks, asked.last, out) {
+        Ok(is_sure) => is_sure,
+        Err(why) => return not_begun(why, way.line, out, err),
     };
     let begun = rt.monotonic().unwrap_or(Duration::ZERO);
     let mut watch = Progress {
@@ -504,10 +497,14 @@ fn at_book<W: Write, E: Write>(
 ) -> Result<Performed, TillFault>
     requires { IfSome held.old (λ book. book.conn.in_transaction ≡ false) }
     ensures ended { IfSome held.new (λ book. book.conn.in_transaction ≡ false) }
-    ensures attempted { IfOk result (λ it. AtBook (IsAttemptedAt word.is_json word.staff word.act it.status (W.contents out.old)
-        (W.contents out.new)) name.now held.old held.new) }
+    ensures attempted { IfOk result (λ it. AtBook (IsAttemptedAt word.is_json word.staff word.act it.status
+        (screen (W.contents out.old) (E.contents err.old)) (screen (W.contents out.new) (E.contents err.new))) name.now held.old
+        held.new) }
     ensures closed { IfErr result (λ _. held.new ≡ None) }
-    ensures grows { Grows (W.contents out.old) (W.contents out.new) }
+    ensures silent { IfErr result (λ _. screen (W.contents out.new) (E.contents err.new) ≡ screen (W.contents out.old)
+        (E.contents err.old)) }
+    ensures grows { PrintsMore (screen (W.contents out.old) (E.contents err.old)) (screen (W.contents out.new)
+        (E.contents err.new)) }
 {
     let mut book = opened(rt, name, held)?;
     let outcome = with_tools(rt, &book.tools, &mut book.conn, word, out, err);
@@ -545,9 +542,9 @@ fn perform_zone<W: Write, E: Write>(
 ) -> u8
     requires { IfSome held.old (λ book. book.conn.in_transaction ≡ false) }
     ensures ended { IfSome held.new (λ book. book.conn.in_transaction ≡ false) }
-    ensures done { ((result ≢ 0) × IsNotBegun held.old held.new)
-        ⊎ (SetsZoneIn book.now held.old held.new × (result ≡ 0 → HasZone zone.now held.new)) }
-    ensures grows { Grows (W.contents out.old) (W.contents out.new) }
+    ensures done { DoesZone book.now zone.now result held.old held.new }
+    ensures shown { Shows (SaysDone (IsZoneText zone.now)) result (screen (W.contents out.old) (E.contents err.old))
+        (screen (W.contents out.new) (E.contents err.new)) }
 {
     let said = set_zone(rt, book, held, zone.as_str());
     print(said, out, err)
@@ -574,9 +571,13 @@ fn perform_line<W: Write, E: Write>(
     requires { IfSome held.old (λ book. book.conn.in_transaction ≡ false) }
     ensures ended { IfSome held.new (λ book. book.conn.in_transaction ≡ false) }
     ensures done { IfOk result (λ it. DoesLine given.now.standing.staff (sent_file given.now.stock) line it.status
-        (W.contents out.old) (W.contents out.new) held.old held.new) }
+        (screen (W.contents out.old) (E.contents err.old)) (screen (W.contents out.new) (E.contents err.new)) held.old
+        held.new) }
     ensures stopped { IfErr result (λ _. IsNotBegun held.old held.new) }
-    ensures grows { Grows (W.contents out.old) (W.contents out.new) }
+    ensures silent { IfErr result (λ _. screen (W.contents out.new) (E.contents err.new) ≡ screen (W.contents out.old)
+        (E.contents err.old)) }
+    ensures grows { PrintsMore (screen (W.contents out.old) (E.contents err.old)) (screen (W.contents out.new)
+        (E.contents err.new)) }
 {
     let TillLine {
         book,
@@ -624,8 +625,10 @@ fn greeted(
     rt: &HostRuntime,
     book: &str,
     staff: Option<StaffNo>,
-    line: Line,
-) -> Result<Said, TillFault> {
+    line: Link,
+) -> Result<Said, TillFault>
+    ensures { IfOk result (λ said. IsGreeting (string_bytes said.text) × (said.status ≡ 0)) }
+{
     let line = greeting(rt, book, staff, line)?;
     let mut said = Said::done(rt.alloc());
     said.line(line.as_str())?;
@@ -633,7 +636,9 @@ fn greeted(
 }
 
 /// Returns the words that there are.
-fn help(rt: &HostRuntime) -> Result<Said, TillFault> {
+fn help(rt: &HostRuntime) -> Result<Said, TillFault>
+    ensures { IfOk result (λ said. IsHelp (string_bytes said.text) × (said.status ≡ 0)) }
+{
     let mut text = help_text(rt.alloc())?;
     text.push_str(
         "\nAt the prompt, staff N or staff NAME changes who stands there, and exit or quit ends it.\nMany windows at one book: desk --help.\n",
@@ -642,7 +647,9 @@ fn help(rt: &HostRuntime) -> Result<Said, TillFault> {
 }
 
 /// Says how words are to be given. If they ask for that by `--help`, it is what they wanted.
-fn usage(rt: &HostRuntime, words: &[String], text: &str) -> Result<Said, TillFault> {
+fn usage(rt: &HostRuntime, words: &[String], text: &str) -> Result<Said, TillFault>
+    ensures { IfOk result (λ said. (said.status ≡ 0) ⊎ (said.status ≡ 2)) }
+{
     let mut said = Said::done(rt.alloc());
     said.line(text.trim_end())?;
     if !asks_for_help(rt.alloc(), words)? {
@@ -656,7 +663,7 @@ fn usage(rt: &HostRuntime, words: &[String], text: &str) -> Result<Said, TillFau
 #[derive(Clone, Copy)]
 pub struct Words<'w> {
     pub words: &'w [String],
-    pub standing: Standing,
+    pub standing: Station,
     pub stock: Stock<'w>,
     pub way: Way,
 }
@@ -665,7 +672,7 @@ pub struct Words<'w> {
 #[derive(Clone, Copy, Debug)]
 pub struct Performed {
     pub status: u8,
-    pub line: Line,
+    pub line: Link,
 }
 
 impl Performed {
@@ -677,6 +684,30 @@ impl Performed {
             status,
             line: way.line,
         }
+    }
+}
+
+/// Does what a line of words asks for, or prints what keeps the till from it.
+fn perform_known<W: Write, E: Write>(
+    rt: &HostRuntime,
+    line: TillLine,
+    given: &Words<'_>,
+    held: &mut Option<OpenBook>,
+    out: &mut W,
+    err: &mut E,
+) -> Performed
+    requires { IfSome held.old (λ book. book.conn.in_transaction ≡ false) }
+    ensures ended { IfSome held.new (λ book. book.conn.in_transaction ≡ false) }
+    ensures done { DoesLine given.now.standing.staff (sent_file given.now.stock) line result.status
+        (screen (W.contents out.old) (E.contents err.old)) (screen (W.contents out.new) (E.contents err.new)) held.old held.new
+        ⊎ IsNotDoneAt result.status (screen (W.contents out.old) (E.contents err.old))
+        (screen (W.contents out.new) (E.contents err.new)) held.old held.new }
+    ensures grows { PrintsMore (screen (W.contents out.old) (E.contents err.old)) (screen (W.contents out.new)
+        (E.contents err.new)) }
+{
+    match perform_line(rt, line, given, held, out, err) {
+        Ok(performed) => performed,
+        Err(fault) => Performed::at(show_fault(fault, err), given.way),
     }
 }
 
@@ -692,21 +723,19 @@ pub fn perform_words<W: Write, E: Write>(
     requires { IfSome held.old (λ book. book.conn.in_transaction ≡ false) }
     ensures ended { IfSome held.new (λ book. book.conn.in_transaction ≡ false) }
     ensures done { DoesWords (map string_bytes given.now.words.now) given.now.standing.staff (sent_file given.now.stock)
-        result.status (W.contents out.old) (W.contents out.new) held.old held.new }
-    ensures grows { Grows (W.contents out.old) (W.contents out.new) }
+        result.status (screen (W.contents out.old) (E.contents err.old)) (screen (W.contents out.new) (E.contents err.new))
+        held.old held.new }
+    ensures grows { PrintsMore (screen (W.contents out.old) (E.contents err.old)) (screen (W.contents out.new)
+        (E.contents err.new)) }
 {
     let way = given.way;
-    let performed = match read_till_words(rt.alloc(), given.words) {
-        Ok(line) => perform_line(rt, line, given, held, out, err),
+    match read_till_words(rt.alloc(), given.words) {
+        Ok(line) => perform_known(rt, line, given, held, out, err),
         Err(Usage::Words(text)) => {
             let said = usage(rt, given.words, text.as_str());
-            Ok(Performed::at(print(said, out, err), way))
+            Performed::at(print(said, out, err), way)
         }
-        Err(Usage::Memory) => Err(TillFault::Memory),
-    };
-    match performed {
-        Ok(performed) => performed,
-        Err(fault) => Performed::at(print(Err(fault), out, err), way),
+        Err(Usage::Memory) => Performed::at(show_fault(TillFault::Memory, err), way),
     }
 }
 
@@ -717,12 +746,13 @@ fn perform_once<W: Write, E: Write>(
     out: &mut W,
     err: &mut E,
 ) -> u8
-    ensures { PerformsOnce (map string_bytes words.now) result (W.contents out.old) (W.contents out.new) }
+    ensures { PerformsOnce (map string_bytes words.now) result (screen (W.contents out.old) (E.contents err.old))
+        (screen (W.contents out.new) (E.contents err.new)) }
 {
     let mut held = None;
     let given = Words {
         words,
-        standing: Standing {
+        standing: Station {
             staff: None,
             asks: Asks::Nobody,
         },
@@ -753,13 +783,14 @@ pub(crate) fn run_till<W: Write, E: Write>(
     out: &mut W,
     err: &mut E,
 ) -> u8
-    ensures { RunsTill (map string_bytes words.now) result (W.contents out.old) (W.contents out.new) }
+    ensures { RunsTill (map string_bytes words.now) result (screen (W.contents out.old) (E.contents err.old))
+        (screen (W.contents out.new) (E.contents err.new)) }
 {
     if !asks_for_prompt(rt.alloc(), words) {
         return perform_once(rt, words, out, err);
     }
     match prompt(rt, words, out, err) {
         Ok(status) => status,
-        Err(fault) => print(Err(fault), out, err),
+        Err(fault) => show_fault(fault, err),
     }
 }

@@ -6,20 +6,21 @@ ghost use Rattle.shop_types.specs.Numbers.{row_number_of};
 ghost use Rattle.till_cashier.specs.Asked.{Grows};
 ghost use Rattle.till_program.specs.Lines.{DoesWords, IsNotBegun};
 ghost use Rattle.till_program.specs.Prompting as spec;
+ghost use Rattle.till_program.specs.Screens.{PrintsMore, screen};
 
 use crate::files::FileShelf;
 use crate::greeting::greeting;
 use crate::input::has_input;
 use crate::lines::push_copies;
 use crate::opening::{OpenBook, close_held, close_if_asked};
-use crate::program::{Asks, Standing, Stock, Words, book_of, perform_words};
+use crate::program::{Asks, Station, Stock, Words, book_of, perform_words};
 use crate::way::{LineNotes, Patience, Way};
 use http_messages::write_whole;
 use shop_types::{StaffNo, Usage};
 use std::alloc::{AllocError, Global};
 use std::io::{self, ErrorKind, Write};
 use std::time::{Clock, Duration};
-use till_cashier::{TillFault, read_sheet, staff_on_sheet};
+use till_cashier::{TillFault, read_sheet, staff_on_sheet, write_parts};
 use till_words::{TillLine, read_till_words, split_line};
 
 /// For how many milliseconds a line is waited for before another look at whether another window asks for the book.
@@ -28,7 +29,7 @@ const LOOKS: i32 = 500;
 /// What a prompt knows from one line to the next: who stands there, and since when the line to the server is down.
 #[derive(Clone, Copy)]
 struct Known {
-    standing: Standing,
+    standing: Station,
     notes: LineNotes,
 }
 
@@ -38,7 +39,7 @@ impl Known {
         ensures { result.standing.staff ≡ None }
     {
         Known {
-            standing: Standing {
+            standing: Station {
                 staff: None,
                 asks: Asks::Prompt,
             },
@@ -48,7 +49,7 @@ impl Known {
 }
 
 /// Tests whether the words end the prompt.
-fn is_end(words: &[String]) -> bool
+pub(crate) fn is_end(words: &[String]) -> bool
     ensures { result ≡ spec.is_end (map string_bytes words.now) }
 {
     match words {
@@ -57,22 +58,25 @@ fn is_end(words: &[String]) -> bool
     }
 }
 
+/// What is said before what was typed for a member of staff, if it is none.
+const STAFF: &[u8] =
+    b"staff N\nThe staff is a number from 1 on, or at the book's own prompt a name on the branch's sheet: ";
+
 /// Lets the member of staff of that number stand at the till, and returns true. If it is no number of staff, says so, and
 /// whoever stood there stays.
+#[tactic(auto, using(crate::proofs::OutputLaws::more_none, crate::proofs::OutputLaws::errors_more, crate::proofs::OutputLaws::whole_grows))]
 pub fn change_staff<E: Write>(
     number: &str,
-    standing: &mut Standing,
+    standing: &mut Station,
     err: &mut E,
 ) -> Result<bool, TillFault>
     ensures number { IfOk result (λ is. is ≡ is_some (row_number_of number.now)) }
     ensures changed { IfOk result (λ is. is ≡ true → standing.new ≡ record standing.old { staff = row_number_of number.now }) }
     ensures same { IfOk result (λ is. is ≡ false → standing.new ≡ standing.old) }
+    ensures grows { Grows (E.contents err.old) (E.contents err.new) }
 {
     let Some(staff) = StaffNo::read(number.as_bytes()) else {
-        writeln!(
-            err,
-            "staff N\nThe staff is a number from 1 on, or at the book's own prompt a name on the branch's sheet: {number} is neither."
-        )?;
+        write_parts(err, &[STAFF, number.as_bytes(), b" is neither.\n"])?;
         return Ok(false);
     };
     standing.staff = Some(staff);
@@ -87,7 +91,7 @@ fn is_idle(words: &[String]) -> bool
 }
 
 /// Returns the number or the name in `staff N` or `staff FIRST LAST`.
-fn staff_number(alloc: Global, words: &[String]) -> Result<Option<String>, AllocError>
+pub(crate) fn staff_number(alloc: Global, words: &[String]) -> Result<Option<String>, AllocError>
     ensures { IfOk result (λ number. option_map string_bytes number ≡ spec.staff_number (map string_bytes words.now)) }
 {
     match words {
@@ -102,7 +106,11 @@ fn staff_number(alloc: Global, words: &[String]) -> Result<Option<String>, Alloc
 }
 
 /// Returns the words, with those before the prompt's own in front of them.
-fn joined(alloc: Global, before: &[String], said: &[String]) -> Result<Vec<String>, AllocError>
+pub(crate) fn joined(
+    alloc: Global,
+    before: &[String],
+    said: &[String],
+) -> Result<Vec<String>, AllocError>
     ensures { IfOk result (λ words. map string_bytes words.items
         ≡ map string_bytes before.now ++ map string_bytes said.now) }
 {
@@ -125,8 +133,10 @@ fn perform_noted<W: Write, E: Write>(
     ensures ended { IfSome held.new (λ book. book.conn.in_transaction ≡ false) }
     ensures stands { known.new.standing ≡ known.old.standing }
     ensures done { (status : ℕ) × DoesWords (map string_bytes words.now) known.old.standing.staff None status
-        (W.contents out.old) (W.contents out.new) held.old held.new }
-    ensures grows { Grows (W.contents out.old) (W.contents out.new) }
+        (screen (W.contents out.old) (E.contents err.old)) (screen (W.contents out.new) (E.contents err.new)) held.old
+        held.new }
+    ensures grows { PrintsMore (screen (W.contents out.old) (E.contents err.old)) (screen (W.contents out.new)
+        (E.contents err.new)) }
 {
     let line = known.notes.at(rt.monotonic().unwrap_or(Duration::ZERO));
     let given = Words {
@@ -186,6 +196,7 @@ fn staff_named(rt: &HostRuntime, before: &[String], name: &str) -> Option<StaffN
 }
 
 /// Lets the member of staff of that number or name stand at the till, and prints who that is.
+#[tactic(auto, using(crate::proofs::OutputLaws::more_none, crate::proofs::OutputLaws::errors_more, crate::proofs::OutputLaws::whole_grows))]
 fn stand<W: Write, E: Write>(
     rt: &HostRuntime,
     before: &[String],
@@ -195,7 +206,8 @@ fn stand<W: Write, E: Write>(
     err: &mut E,
 ) -> Result<(), TillFault>
     ensures stands { IfOk result (λ _. spec.StandsBy number.now known.old.standing.staff known.new.standing.staff) }
-    ensures grows { Grows (W.contents out.old) (W.contents out.new) }
+    ensures grows { PrintsMore (screen (W.contents out.old) (E.contents err.old)) (screen (W.contents out.new)
+        (E.contents err.new)) }
 {
     if StaffNo::read(number.as_bytes()).is_none() {
         if let Some(staff) = staff_named(rt, before, number) {
@@ -203,13 +215,14 @@ fn stand<W: Write, E: Write>(
             return greet(rt, before, known, out);
         }
     }
-    if change_staff(number, &mut known.standing, err)? {
-        greet(rt, before, known, out)?;
+    if !change_staff(number, &mut known.standing, err)? {
+        return Ok(());
     }
-    Ok(())
+    greet(rt, before, known, out)
 }
 
 /// Does what the words of a line ask for. `staff` and a number or a name changes who stands at the till.
+#[tactic(auto, using(crate::proofs::OutputLaws::more_none, crate::proofs::OutputLaws::errors_more, crate::proofs::OutputLaws::whole_grows))]
 fn perform_said<W: Write, E: Write>(
     rt: &HostRuntime,
     before: &[String],
@@ -222,9 +235,11 @@ fn perform_said<W: Write, E: Write>(
     requires { IfSome held.old (λ book. book.conn.in_transaction ≡ false) }
     ensures ended { IfSome held.new (λ book. book.conn.in_transaction ≡ false) }
     ensures done { IfOk result (λ _. spec.StandsOrDoes (map string_bytes before.now) (map string_bytes said.items)
-        known.old.standing.staff known.new.standing.staff (W.contents out.old) (W.contents out.new) held.old held.new) }
+        known.old.standing.staff known.new.standing.staff (screen (W.contents out.old) (E.contents err.old))
+        (screen (W.contents out.new) (E.contents err.new)) held.old held.new) }
     ensures stopped { IfErr result (λ _. held.new ≡ held.old) }
-    ensures grows { Grows (W.contents out.old) (W.contents out.new) }
+    ensures grows { PrintsMore (screen (W.contents out.old) (E.contents err.old)) (screen (W.contents out.new)
+        (E.contents err.new)) }
 {
     if let Some(number) = staff_number(rt.alloc(), said.as_slice())? {
         return stand(rt, before, number.as_str(), known, out, err);
@@ -235,6 +250,7 @@ fn perform_said<W: Write, E: Write>(
 }
 
 /// Does what a line asks for, and returns whether the prompt goes on.
+#[tactic(auto, using(crate::proofs::OutputLaws::more_none, crate::proofs::OutputLaws::errors_more, crate::proofs::OutputLaws::whole_grows))]
 fn perform_line<W: Write, E: Write>(
     rt: &HostRuntime,
     before: &[String],
@@ -247,18 +263,20 @@ fn perform_line<W: Write, E: Write>(
     requires { IfSome held.old (λ book. book.conn.in_transaction ≡ false) }
     ensures ended { IfSome held.new (λ book. book.conn.in_transaction ≡ false) }
     ensures done { IfOk result (λ _. spec.DoesTyped (map string_bytes before.now) line.now known.old.standing.staff
-        known.new.standing.staff (W.contents out.old) (W.contents out.new) held.old held.new) }
+        known.new.standing.staff (screen (W.contents out.old) (E.contents err.old))
+        (screen (W.contents out.new) (E.contents err.new)) held.old held.new) }
     ensures last { IfOk result (λ goes_on. goes_on ≡ false → spec.EndsPrompt line.now) }
     ensures stopped { IfErr result (λ _. held.new ≡ held.old) }
-    ensures grows { Grows (W.contents out.old) (W.contents out.new) }
+    ensures grows { PrintsMore (screen (W.contents out.old) (E.contents err.old)) (screen (W.contents out.new)
+        (E.contents err.new)) }
 {
     let more = match split_line(rt.alloc(), line) {
         Ok(more) => more,
         Err(Usage::Memory) => return Err(TillFault::Memory),
         Err(Usage::Words(_)) => {
-            writeln!(
+            write_whole(
                 err,
-                "A quotation mark is open. Close it, and say the line again."
+                b"A quotation mark is open. Close it, and say the line again.\n",
             )?;
             return Ok(true);
         }
@@ -304,6 +322,7 @@ fn invite<W: Write>(
 }
 
 /// Does what a line asks for that was read, and returns whether the prompt goes on. If it isn't text, says so.
+#[tactic(auto, using(crate::proofs::OutputLaws::more_none, crate::proofs::OutputLaws::errors_more, crate::proofs::OutputLaws::whole_grows))]
 fn perform_read<W: Write, E: Write>(
     rt: &HostRuntime,
     before: &[String],
@@ -316,15 +335,20 @@ fn perform_read<W: Write, E: Write>(
     requires { IfSome held.old (λ book. book.conn.in_transaction ≡ false) }
     ensures ended { IfSome held.new (λ book. book.conn.in_transaction ≡ false) }
     ensures done { IfOk result (λ _. spec.DoesRead (map string_bytes before.now) (spec.text_read string_bytes read)
-        known.old.standing.staff known.new.standing.staff (W.contents out.old) (W.contents out.new) held.old held.new) }
+        known.old.standing.staff known.new.standing.staff (screen (W.contents out.old) (E.contents err.old))
+        (screen (W.contents out.new) (E.contents err.new)) held.old held.new) }
     ensures last { IfOk result (λ goes_on. goes_on ≡ false → spec.IsLastLine (spec.text_read string_bytes read)) }
     ensures stopped { IfErr result (λ _. held.new ≡ held.old) }
-    ensures grows { Grows (W.contents out.old) (W.contents out.new) }
+    ensures grows { PrintsMore (screen (W.contents out.old) (E.contents err.old)) (screen (W.contents out.new)
+        (E.contents err.new)) }
 {
     match read {
         Ok(line) => perform_line(rt, before, line.as_str(), known, held, out, err),
         Err(error) if error.kind() == ErrorKind::InvalidData => {
-            writeln!(err, "That line isn't UTF-8. Say it again in other letters.")?;
+            write_whole(
+                err,
+                b"That line isn't UTF-8. Say it again in other letters.\n",
+            )?;
             Ok(true)
         }
         Err(error) => Err(TillFault::from(error)),
@@ -346,7 +370,8 @@ fn perform_lines<I: Iterator<Item = io::Result<String>>, W: Write, E: Write>(
     requires ends { IsFinite (I.remaining lines.old) }
     ensures ended { IfSome held.new (λ book. book.conn.in_transaction ≡ false) }
     ensures performed { spec.PerformsLines I.next_gives string_bytes (map string_bytes before.now) (is_ok result)
-        lines.old lines.new (W.contents out.old) (W.contents out.new) held.old held.new }
+        lines.old lines.new (screen (W.contents out.old) (E.contents err.old)) (screen (W.contents out.new) (E.contents err.new))
+        held.old held.new }
 {
     let mut known = Known::new();
     greet(rt, before, &known, out)?;
@@ -370,7 +395,8 @@ pub(crate) fn prompt<W: Write, E: Write>(
     out: &mut W,
     err: &mut E,
 ) -> Result<u8, TillFault>
-    ensures { spec.PerformsSome (map string_bytes before.now) (W.contents out.old) (W.contents out.new) }
+    ensures { spec.PerformsSome (map string_bytes before.now) (screen (W.contents out.old) (E.contents err.old))
+        (screen (W.contents out.new) (E.contents err.new)) }
 {
     let mut held = None;
     let ended = perform_lines(rt, before, &mut rt.lines(rt.alloc()), &mut held, out, err);

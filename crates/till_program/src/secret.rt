@@ -1,12 +1,13 @@
 //! The secret that a desk shares with its windows.
 
-ghost use Rattle.std.specs.Prelude.{◌≡◌, true, Some, None, if◌then◌else◌};
+ghost use Rattle.std.specs.Prelude.{◌≡◌, true, Some, None, IfOk, if◌then◌else◌};
 ghost use Rattle.shop_types.specs.Texts.{is_token};
+ghost use Rattle.till_program.specs.Secrets.{IsDrawnSecret};
 
 use shop_types::Token;
 use std::io;
 use std::marker::Model;
-use std::random::RandomSource;
+use till_requests::Dice;
 
 /// A desk's secret: 32 digits of lower-case hexadecimal.
 #[derive(Clone, Copy)]
@@ -45,28 +46,23 @@ impl Secret {
         self.digits.as_bytes()
     }
 
-    /// Draws a new secret, one of 2^128, by the randomness of the system.
-    pub fn draw<R: RandomSource>(rt: &R) -> io::Result<Secret> {
-        let mut drawn = [0u8; 16];
-        rt.fill_bytes(&mut drawn)?;
+    /// Draws a new secret, one of 2^128.
+    pub fn draw<D: Dice>(dice: &D) -> io::Result<Secret>
+        ensures { IfOk result (λ secret. IsDrawnSecret (D.draws dice.now) secret) }
+    {
+        let (a, b) = (dice.draw()?, dice.draw()?);
+        let bytes = [
+            a[0], a[1], a[2], a[3], a[4], a[5], a[6], a[7], a[8], a[9], b[0], b[1], b[2], b[3],
+            b[4], b[5],
+        ];
         let mut digits = [0u8; 32];
-        for at in 0..16 {
-            digits[2 * at] = hex_digit(drawn[at] >> 4);
-            digits[2 * at + 1] = hex_digit(drawn[at] & 15);
+        if hex::encode_to_slice(bytes, &mut digits).is_err() {
+            return Err(io::Error::from(io::ErrorKind::Other));
         }
         match Secret::read(digits.as_slice()) {
             Some(secret) => Ok(secret),
             None => Err(io::Error::from(io::ErrorKind::Other)),
         }
-    }
-}
-
-/// Returns the digit of a number below 16.
-fn hex_digit(number: u8) -> u8 {
-    if number < 10 {
-        b'0' + number
-    } else {
-        b'a' + (number & 15) - 10
     }
 }
 

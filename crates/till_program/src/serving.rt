@@ -8,7 +8,7 @@ use crate::handling::DeskBook;
 use crate::opening::{OpenBook, close_if_asked};
 use crate::peers::Peer;
 use crate::probing::{PROBE, Probe};
-use crate::program::{Asks, Standing, Stock, Words, perform_words};
+use crate::program::{Asks, Station, Stock, Words, perform_words};
 use crate::way::{Patience, Way};
 use mio::unix::SourceFd;
 use mio::{Events, Interest, Poll, Token};
@@ -17,7 +17,7 @@ use std::io::{self, ErrorKind};
 use std::net::{SocketAddr, TcpListener, TcpStream};
 use std::os::fd::AsRawFd;
 use std::time::{Clock, Duration};
-use till_cashier::Line;
+use till_cashier::Link;
 
 /// How many connections there are at most.
 const MOST_OPEN: usize = 256;
@@ -133,7 +133,7 @@ impl Desk {
     }
 
     /// Returns for how long nothing need happen.
-    fn longest_wait(&self, line: Line) -> Duration {
+    fn longest_wait(&self, line: Link) -> Duration {
         if self.may_accept || self.peers.iter().any(|peer| peer.is_ready) {
             return Duration::ZERO;
         }
@@ -166,7 +166,7 @@ impl Desk {
     }
 
     /// Waits until something is ready, unless something is already. Returns false if the poll failed.
-    fn wait(&mut self, rt: &HostRuntime, line: Line) -> bool {
+    fn wait(&mut self, rt: &HostRuntime, line: Link) -> bool {
         let wait = self.longest_wait(line);
         if self.poll.poll(&mut self.events, Some(wait)).is_err() {
             return false;
@@ -181,7 +181,7 @@ impl Desk {
         &mut self,
         rt: &HostRuntime,
         desk: &DeskBook,
-        line: &mut Line,
+        line: &mut Link,
         held: &mut Option<OpenBook>,
     )
         requires { IfSome held.old (λ book. book.conn.in_transaction ≡ false) }
@@ -203,7 +203,7 @@ impl Desk {
         &mut self,
         rt: &HostRuntime,
         desk: &DeskBook,
-        line: &mut Line,
+        line: &mut Link,
         held: &mut Option<OpenBook>,
     )
         requires { IfSome held.old (λ book. book.conn.in_transaction ≡ false) }
@@ -253,17 +253,17 @@ impl Desk {
 
 /// Returns what a desk takes the line for at its start. If an entry of its book waits, the line is taken for down: then
 /// the desk tries the server, and sends what waits.
-fn first_line(held: &mut Option<OpenBook>) -> Line
+fn first_line(held: &mut Option<OpenBook>) -> Link
     requires { IfSome held.old (λ book. book.conn.in_transaction ≡ false) }
     ensures ended { IfSome held.new (λ book. book.conn.in_transaction ≡ false) }
     ensures looked { IsLooked held.old held.new }
 {
     let Some(mut book) = held.take() else {
-        return Line::Open;
+        return Link::Open;
     };
     let has_waiting = book.has_waiting();
     *held = Some(book);
-    if has_waiting { Line::Down } else { Line::Open }
+    if has_waiting { Link::Down } else { Link::Open }
 }
 
 /// Returns the words by which a desk sends what waits in the book of that name.
@@ -278,7 +278,7 @@ fn send_words(alloc: Global, name: &str) -> Result<Vec<String>, AllocError>
 }
 
 /// Sends what waits. Returns what is known of the line after that.
-fn send_waiting(rt: &HostRuntime, desk: &DeskBook, line: Line, held: &mut Option<OpenBook>) -> Line
+fn send_waiting(rt: &HostRuntime, desk: &DeskBook, line: Link, held: &mut Option<OpenBook>) -> Link
     requires { IfSome held.old (λ book. book.conn.in_transaction ≡ false) }
     ensures ended { IfSome held.new (λ book. book.conn.in_transaction ≡ false) }
     ensures alone { ActsAlone (string_bytes desk.now.name) held.old held.new }
@@ -289,7 +289,7 @@ fn send_waiting(rt: &HostRuntime, desk: &DeskBook, line: Line, held: &mut Option
     };
     let given = Words {
         words: words.as_slice(),
-        standing: Standing {
+        standing: Station {
             staff: None,
             asks: Asks::Nobody,
         },

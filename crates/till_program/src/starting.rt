@@ -1,12 +1,12 @@
 //! The program for one list of words: a desk's, a window's, or a till's.
 
 use crate::beginning::{serve_desk, set_up};
-use crate::faults::ShopFault;
+use crate::faults::{ShopFault, show_shop_fault};
 use crate::given::{DeskWord, USAGE, desk_word, read_leading, window_word};
 use crate::init::settings_path;
-use crate::program::{Asks, Standing, asks_for_prompt, run_till};
+use crate::program::{Asks, Station, asks_for_prompt, run_till};
 use crate::settings::{is_window, read_window};
-use crate::window::perform;
+use crate::window::{TcpDesk, perform_or_say};
 use crate::window_prompt::prompt;
 use std::fs;
 use std::io::Write;
@@ -36,7 +36,7 @@ fn perform_desk_word<W: Write, E: Write>(
 /// Says how the words about desks are given, if that is asked for, and else that these aren't.
 fn usage<W: Write>(words: &[String], out: &mut W) -> Result<u8, ShopFault> {
     if words.iter().any(|word| word.as_str() == "--help") {
-        write!(out, "{USAGE}")?;
+        writeln!(out, "{USAGE}")?;
         return Ok(0);
     }
     Err(ShopFault::Words)
@@ -54,11 +54,12 @@ fn perform_at_window<W: Write, E: Write>(
     if asks_for_prompt(rt.alloc(), words) {
         prompt(rt, &window, words, out, err)
     } else {
-        let standing = Standing {
+        let standing = Station {
             staff: None,
             asks: Asks::Nobody,
         };
-        perform(rt, &window, words, standing, out, err)
+        let desk = TcpDesk::of(rt, &window);
+        Ok(perform_or_say(rt, &desk, &window, words, standing, out, err))
     }
 }
 
@@ -97,9 +98,6 @@ fn perform_words<W: Write, E: Write>(
 pub fn run<W: Write, E: Write>(rt: &HostRuntime, words: &[String], out: &mut W, err: &mut E) -> u8 {
     match perform_words(rt, words, out, err) {
         Ok(status) => status,
-        Err(fault) => {
-            let _ = writeln!(err, "{fault}");
-            fault.status()
-        }
+        Err(fault) => show_shop_fault(fault, err),
     }
 }

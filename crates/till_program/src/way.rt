@@ -1,7 +1,7 @@
 //! How a word may use the line to the server, and for how long a prompt takes the line for down.
 
 use std::time::Duration;
-use till_cashier::Line;
+use till_cashier::Link;
 
 /// For how many seconds a prompt takes a line for down after a word that got no reply.
 const REST: u64 = 60;
@@ -22,7 +22,7 @@ pub enum Patience {
 /// How a word may use the line to the server.
 #[derive(Clone, Copy, Debug)]
 pub struct Way {
-    pub line: Line,
+    pub line: Link,
     pub patience: Patience,
 }
 
@@ -30,7 +30,7 @@ impl Way {
     /// Returns the way over a line that may be open, with all patience.
     pub(crate) fn open() -> Way {
         Way {
-            line: Line::Open,
+            line: Link::Open,
             patience: Patience::Long,
         }
     }
@@ -49,19 +49,19 @@ impl LineNotes {
     }
 
     /// Returns what is known of the line at that time.
-    pub(crate) fn at(&self, now: Duration) -> Line {
+    pub(crate) fn at(&self, now: Duration) -> Link {
         match self.since {
-            Some(since) if now < since.saturating_add(Duration::from_secs(REST)) => Line::Down,
-            Some(_) | None => Line::Open,
+            Some(since) if now < since.saturating_add(Duration::from_secs(REST)) => Link::Down,
+            Some(_) | None => Link::Open,
         }
     }
 
     /// Notes what a word showed of the line at that time.
-    pub(crate) fn note(&mut self, before: Line, after: Line, now: Duration) {
+    pub(crate) fn note(&mut self, before: Link, after: Link, now: Duration) {
         match (before, after) {
-            (_, Line::Open) => self.since = None,
-            (Line::Open, Line::Down) => self.since = Some(now),
-            (Line::Down, Line::Down) => {}
+            (_, Link::Open) => self.since = None,
+            (Link::Open, Link::Down) => self.since = Some(now),
+            (Link::Down, Link::Down) => {}
         }
     }
 }

@@ -1,35 +1,28 @@
 //! A window's prompt, which reads lines of words.
 
 use crate::faults::ShopFault;
-use crate::program::{Asks, Standing};
-use crate::prompt::change_staff;
+use crate::program::{Asks, Station};
+use crate::prompt::{change_staff, is_end, joined, staff_number};
 use crate::settings::WindowSettings;
-use crate::window::perform;
+use crate::window::{TcpDesk, perform_or_say};
 use std::io::{ErrorKind, Write};
 use till_cashier::TillFault;
 use till_words::split_line;
 
-/// Tests whether the words end the prompt.
-fn is_end(words: &[String]) -> bool {
-    match words {
-        [word] => word.as_str() == "exit" || word.as_str() == "quit",
-        _ => false,
-    }
-}
+/// What is said if nobody is named after `staff`.
+const STAFF_HERE: &[u8] = b"staff N\nSay the number of the member of staff who stands here.\n";
 
-/// Does what words ask for, and says what keeps the window from it.
+/// Does what words ask for, or says what keeps the window from it.
 fn perform_said<W: Write, E: Write>(
     rt: &HostRuntime,
     window: &WindowSettings,
     words: &[String],
-    standing: Standing,
+    standing: Station,
     out: &mut W,
     err: &mut E,
-) -> Result<(), ShopFault> {
-    if let Err(fault) = perform(rt, window, words, standing, out, err) {
-        writeln!(err, "{fault}")?;
-    }
-    Ok(())
+) {
+    let desk = TcpDesk::of(rt, window);
+    perform_or_say(rt, &desk, window, words, standing, out, err);
 }
 
 /// Does what the words of a line ask for. `staff N` changes who stands at the window, and the desk says who that is.
@@ -37,25 +30,27 @@ fn perform_more<W: Write, E: Write>(
     rt: &HostRuntime,
     window: &WindowSettings,
     before: &[String],
-    more: Vec<String>,
-    standing: &mut Standing,
+    more: &[String],
+    standing: &mut Station,
     out: &mut W,
     err: &mut E,
 ) -> Result<(), ShopFault> {
-    if let [word, number] = more.as_slice() {
+    let alloc = rt.alloc();
+    if let [word] = more {
         if word.as_str() == "staff" {
-            if change_staff(number.as_str(), standing, err)? {
-                perform_said(rt, window, before, *standing, out, err)?;
-            }
+            err.write_all(STAFF_HERE)?;
             return Ok(());
         }
     }
-    let mut words = Vec::new(rt.alloc());
-    for word in before {
-        words.push(word.clone()?)?;
+    if let Some(number) = staff_number(alloc, more)? {
+        if change_staff(number.as_str(), standing, err)? {
+            perform_said(rt, window, before, *standing, out, err);
+        }
+        return Ok(());
     }
-    words.extend(more)?;
-    perform_said(rt, window, words.as_slice(), *standing, out, err)
+    let words = joined(alloc, before, more)?;
+    perform_said(rt, window, words.as_slice(), *standing, out, err);
+    Ok(())
 }
 
 /// Does what a line asks for, and returns whether the prompt goes on.
@@ -64,7 +59,7 @@ fn perform_line<W: Write, E: Write>(
     window: &WindowSettings,
     before: &[String],
     line: &str,
-    standing: &mut Standing,
+    standing: &mut Station,
     out: &mut W,
     err: &mut E,
 ) -> Result<bool, ShopFault> {
@@ -80,7 +75,7 @@ fn perform_line<W: Write, E: Write>(
         return Ok(false);
     }
     if !more.is_empty() {
-        perform_more(rt, window, before, more, standing, out, err)?;
+        perform_more(rt, window, before, more.as_slice(), standing, out, err)?;
     }
     Ok(true)
 }
@@ -101,11 +96,11 @@ pub(crate) fn prompt<W: Write, E: Write>(
     out: &mut W,
     err: &mut E,
 ) -> Result<u8, ShopFault> {
-    let mut standing = Standing {
+    let mut standing = Station {
         staff: None,
         asks: Asks::Prompt,
     };
-    perform_said(rt, window, before, standing, out, err)?;
+    perform_said(rt, window, before, standing, out, err);
     invite(out)?;
     'lines: for line in rt.lines(rt.alloc()) {
         let goes_on = match line {

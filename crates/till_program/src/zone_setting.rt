@@ -1,9 +1,10 @@
 //! The word that sets a book's zone.
 
-ghost use Rattle.std.specs.Prelude.{◌≡◌, ◌⊎◌, false, IfErr, IfOk, IfSome, OnOk, Some};
+ghost use Rattle.std.specs.Prelude.{◌≡◌, ◌⊎◌, false, string_bytes, IfErr, IfOk, IfSome, OnOk, Some};
 ghost use Rattle.sqlite.specs.Files.{file_state};
 ghost use Rattle.sqlite.specs.State.{HasCleanDisk};
 ghost use Rattle.till_book.specs.Steps.{Stays};
+ghost use Rattle.till_cashier.specs.ZoneText.{IsZoneText};
 ghost use Rattle.till_program.specs.Lines.{SetsZone, SetsZoneIn, HasZone, IsNotBegun};
 
 use crate::files::{FileShelf, replace_own};
@@ -94,6 +95,7 @@ pub(crate) fn set_zone(
     ensures ended { IfSome held.new (λ book. book.conn.in_transaction ≡ false) }
     ensures sets { IfOk result (λ _. SetsZoneIn book.now held.old held.new) }
     ensures set { IfOk result (λ _. HasZone name.now held.new) }
+    ensures said { IfOk result (λ said. IsZoneText name.now (string_bytes said.text) × (said.status ≡ 0)) }
     ensures fails { IfErr result (λ _. IsNotBegun held.old held.new ⊎ SetsZoneIn book.now held.old held.new) }
 {
     let zone = zone_named(rt, name)?;

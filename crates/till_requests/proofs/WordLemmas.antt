@@ -1,6 +1,6 @@
 -- Words as a JSON list of texts.
-use Rattle.shop_types.proofs.Common.{◌≡◌, ◌≤◌, ℕ, List, [], ◌∷◌, refl, map, subst, arith, IsUtf8, Result, IfOk, is_utf8-from_IsUtf8, Text}
-use Rattle.std.specs.Prelude.{Some, Ok, Err}
+use Rattle.shop_types.proofs.Common.{◌≡◌, ◌≤◌, ℕ, List, [], ◌∷◌, refl, sym, map, subst, arith, IsUtf8, Result, IfOk, is_utf8-from_IsUtf8, Text}
+use Rattle.std.specs.Prelude.{Some, Ok, Err, IfErr, IsErrAnd}
 use Rattle.serde_json.specs.Data.{Data, string, array, depth, items_depth}
 use Rattle.serde_json.specs.Read.{read, max_depth}
 use Rattle.serde_json.specs.View.{items_of}
@@ -28,3 +28,8 @@ texts_told body vs texts same utf8 back =
 pub both_ok : {A E : Type 0} (r : Result A E) (P Q R : A → Type 0) → ((a : A) → P a → Q a → R a) → IfOk r P → IfOk r Q → IfOk r R
 both_ok (Ok a) P Q R f p q = f a p q
 both_ok (Err e) P Q R f p q = tt
+
+-- what holds of a fault holds of a result that hands it on
+pub handed_on : {A E : Type 0} (r : Result A E) (e : E) (P : E → Type 0) → IsErrAnd r (λ y. y ≡ e) → P e → IfErr r P
+handed_on (Ok a) e P is holds = absurd is
+handed_on (Err y) e P is holds = subst P (sym is) holds

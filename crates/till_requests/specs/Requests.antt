@@ -1,5 +1,5 @@
 -- What the bytes of requests say to the server.
-use Rattle.std.specs.Prelude.{◌≡◌, ℕ, Bool, false, List, [], ◌∷◌, ◌++◌, codes, string_bytes, Some}
+use Rattle.std.specs.Prelude.{◌≡◌, ⊤, ℕ, Bool, false, List, [], ◌∷◌, ◌++◌, codes, string_bytes, None, Some}
 use Rattle.http_messages.specs.Text.{crlf}
 use Rattle.http_messages.specs.Message.{Message}
 use Rattle.shop_model.specs.Values.{Text, Act, Command, Ask, OfficeAsk, OfficeCommand}
@@ -12,6 +12,8 @@ use Rattle.till_client.specs.Requests.{before_token}
 use Rattle.office_words.specs.CommandLine as line
 use Rattle.office_words.specs.Line.{line_of}
 use Rattle.till_requests.specs.declared.bodies.Giver.{Giver}
+use Rattle.till_requests.specs.declared.office.NotSaid.{NotSaid}
+use Rattle.till_requests.specs.declared.office.NotSaid.TheVariants as fault
 
 -- the giver's command that does that act
 abbrev pub command_with : Giver → Act → Command
@@ -59,3 +61,13 @@ with_key key words = words ++ codes "--key" ∷ key ∷ []
 abbrev pub is_reading : List Text → Bool
 is_reading [] = false
 is_reading (word ∷ words) = line.is_reading word
+
+-- the words are no command and no reading of head office, by the definition that the server's reader of words is proved against
+abbrev pub IsNoLine : List Text → Type 0
+IsNoLine words = line_of words ≡ None
+
+-- Only words that are none have a fault about how words are given. Of other faults nothing is said.
+abbrev pub IsFaultOf : List Text → NotSaid → Type 0
+IsFaultOf words (fault.Usage text) = IsNoLine words
+IsFaultOf words fault.Other = ⊤
+IsFaultOf words fault.Memory = ⊤

@@ -7,7 +7,7 @@ ghost use Rattle.till_model.specs.Numbered.{key_of};
 ghost use Rattle.till_requests.specs.Requests.{command_with};
 
 use crate::bodies::{Giver, body_of, target_of};
-use crate::marks::Mark;
+use crate::marks::TillMark;
 use crate::same::is_same_act;
 use counter_routes::Routes;
 use shop_types::{Act, Command, Moment, StaffNo, Token};
@@ -31,7 +31,7 @@ impl From<AllocError> for NotBuilt {
 }
 
 /// Returns the key of the entry with that number: the till's mark, a hyphen and the number.
-pub fn key_text(alloc: Global, mark: &Mark, number: u32) -> Result<String, AllocError>
+pub fn key_text(alloc: Global, mark: &TillMark, number: u32) -> Result<String, AllocError>
     ensures { IfOk result (λ key. string_bytes key ≡ key_of mark.now number) }
 {
     let mut digits = itoa::Buffer::new();
@@ -102,7 +102,7 @@ pub fn command_request(
     alloc: Global,
     routes: &Routes,
     token: &Token,
-    mark: &Mark,
+    mark: &TillMark,
     number: u32,
     staff: StaffNo,
     at: Moment,

@@ -17,7 +17,7 @@ mod zones;
 
 pub use commands::{NotBuilt, command_request, key_text};
 pub use looks::{get_bytes, look_request, view_request};
-pub use marks::{Dice, Mark, new_mark};
+pub use marks::{Dice, TillMark, new_mark};
 pub use moments::{moment_at, next_moment};
 pub use office::{
     NotSaid, OfficeLookSealed, OfficeSealed, is_office_look, office_look_request, office_request,

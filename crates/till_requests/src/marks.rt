@@ -10,11 +10,11 @@ use std::random::RandomSource;
 
 /// A till's mark: `t` and ten letters from `a` to `p`. A key is the mark, a hyphen and an entry's number.
 #[derive(Clone, Copy, PartialEq, Eq)]
-pub struct Mark {
+pub struct TillMark {
     letters: [u8; 11],
 }
 
-impl Model for Mark {
+impl Model for TillMark {
     ghost use Rattle.std.specs.Prelude.{◌≡◌, ℕ, List, true};
     ghost use Rattle.till_requests.specs.Marks.{is_mark};
 
@@ -39,15 +39,15 @@ fn all_of_mark(bytes: &[u8]) -> bool
     bytes.iter().all(|b| is_letter_of_mark(*b))
 }
 
-impl Mark {
+impl TillMark {
     /// Reads a mark from the bytes.
-    pub fn read(bytes: &[u8]) -> Option<Mark>
+    pub fn read(bytes: &[u8]) -> Option<TillMark>
         ensures { result ≡ (if is_mark bytes.now then Some bytes.now else None) }
     {
         match <[u8; 11]>::try_from(bytes) {
             Ok(letters) => {
                 if bytes[0] == b't' && all_of_mark(&bytes[1..]) {
-                    Some(Mark { letters })
+                    Some(TillMark { letters })
                 } else {
                     None
                 }
@@ -100,7 +100,7 @@ fn letter(byte: u8) -> u8
 }
 
 /// Draws a new mark, one of 2^40.
-pub fn new_mark<D: Dice>(dice: &D) -> io::Result<Mark>
+pub fn new_mark<D: Dice>(dice: &D) -> io::Result<TillMark>
     ensures { IfOk result (λ mark. IsDrawnMark (D.draws dice.now) mark) }
 {
     let b = dice.draw()?;
@@ -119,7 +119,7 @@ pub fn new_mark<D: Dice>(dice: &D) -> io::Result<Mark>
         letter(nine),
         letter(ten),
     ];
-    match Mark::read(&letters) {
+    match TillMark::read(&letters) {
         Some(mark) => Ok(mark),
         None => Err(io::Error::from(io::ErrorKind::Other)),
     }

@@ -1,15 +1,16 @@
 //! Builds requests to a running server from head office's words.
 
-ghost use Rattle.std.specs.Prelude.{◌≡◌, IfOk, IfSome, List, Some, map, string_bytes};
+ghost use Rattle.std.specs.Prelude.{◌≡◌, IfErr, IfOk, IfSome, List, Some, map, string_bytes};
 ghost use Rattle.shop_model.specs.Values.{Text};
 ghost use Rattle.shop_model.specs.Machine.{Office, OfficeLook};
 ghost use Rattle.shop_types.specs.Seen.{seen_office, seen_office_ask, seen_request};
 ghost use Rattle.till_model.specs.Numbered.{key_of};
-ghost use Rattle.till_requests.specs.Requests.{AsksOffice, SaysOffice, SaysOfficeLook, is_reading, with_key};
+ghost use Rattle.till_requests.specs.declared.office.NotSaid.TheVariants as unsaid;
+ghost use Rattle.till_requests.specs.Requests.{AsksOffice, IsFaultOf, SaysOffice, SaysOfficeLook, is_reading, with_key};
 ghost use Rattle.counter_routes.specs.Words.{texts_of};
 
 use crate::commands::key_text;
-use crate::marks::Mark;
+use crate::marks::TillMark;
 use crate::sole::sole_message;
 use counter_routes::{Reading, Routes};
 use office_words::{ClapWords, is_reading, read_words};
@@ -30,6 +31,8 @@ pub enum NotSaid {
 }
 
 impl From<AllocError> for NotSaid {
+    ghost from_gives = { λ _ fault. fault ≡ unsaid.Memory };
+
     fn from(_error: AllocError) -> NotSaid {
         NotSaid::Memory
     }
@@ -94,7 +97,9 @@ fn keyed(alloc: Global, words: &[String], key: &str) -> Result<Vec<String>, Allo
 }
 
 /// Fails with the text about what is wrong with the words, if `clap` refuses them.
-fn usage_of(alloc: Global, words: &[String]) -> Result<(), NotSaid> {
+fn usage_of(alloc: Global, words: &[String]) -> Result<(), NotSaid>
+    ensures { IfErr result (IsFaultOf (map string_bytes words.now)) }
+{
     match read_words(alloc, words) {
         Ok(_) => Ok(()),
         Err(Usage::Words(text)) => Err(NotSaid::Usage(text)),
@@ -111,8 +116,9 @@ fn asked_in(
     bytes: &[u8],
     body: &[u8],
 ) -> Result<Request, NotSaid>
-    ensures { IfOk result (λ request. (words : List Text) → texts_of body.now ≡ Some words
+    ensures asks { IfOk result (λ request. (words : List Text) → texts_of body.now ≡ Some words
         → AsksOffice bytes.now token.now words (seen_request request)) }
+    ensures fault { IfErr result (λ fault. (words : List Text) → IsFaultOf words fault) }
 {
     let Some(message) = sole_message(token.as_bytes().as_slice(), bytes) else {
         return Err(NotSaid::Other);
@@ -136,7 +142,8 @@ struct Posted {
 
 /// Returns the bytes of a request with these words, if the words are a line.
 fn words_posted(alloc: Global, token: &Token, words: &[String]) -> Result<Posted, NotSaid>
-    ensures { IfOk result (λ it. texts_of it.body.items ≡ Some (map string_bytes words.now)) }
+    ensures listed { IfOk result (λ it. texts_of it.body.items ≡ Some (map string_bytes words.now)) }
+    ensures fault { IfErr result (IsFaultOf (map string_bytes words.now)) }
 {
     usage_of(alloc, words)?;
     let body = list_text(alloc, words)?;
@@ -178,6 +185,7 @@ fn command_said(
     ensures says { IfOk result (λ command. (words : List Text) → texts_of posted.now.body.items ≡ Some words
         → SaysOffice posted.now.bytes.items token.now words (seen_office command)) }
     ensures key { IfOk result (λ command. command.key ≡ key.now) }
+    ensures fault { IfErr result (λ fault. (words : List Text) → IsFaultOf words fault) }
 {
     let bytes = posted.bytes.as_slice();
     let request = asked_in(alloc, routes, token, bytes, posted.body.as_slice())?;
@@ -197,8 +205,9 @@ fn look_said(
     token: &Token,
     posted: &Posted,
 ) -> Result<OfficeAsk, NotSaid>
-    ensures { IfOk result (λ ask. (words : List Text) → texts_of posted.now.body.items ≡ Some words
+    ensures says { IfOk result (λ ask. (words : List Text) → texts_of posted.now.body.items ≡ Some words
         → SaysOfficeLook posted.now.bytes.items token.now words (seen_office_ask ask)) }
+    ensures fault { IfErr result (λ fault. (words : List Text) → IsFaultOf words fault) }
 {
     let bytes = posted.bytes.as_slice();
     let request = asked_in(alloc, routes, token, bytes, posted.body.as_slice())?;
@@ -210,17 +219,19 @@ fn look_said(
 
 /// Builds the request of a command of head office: its whole bytes, for a connection of its own, and the command that
 /// they say. The key of the entry with that number is added to the words. The server's own readers read the bytes back.
+/// Fails with `Usage` only if the words with that key are no line of head office.
 pub fn office_request(
     alloc: Global,
     routes: &Routes,
     token: &Token,
-    mark: &Mark,
+    mark: &TillMark,
     number: u32,
     words: &[String],
 ) -> Result<OfficeSealed, NotSaid>
     ensures says { IfOk result (λ sealed. SaysOffice sealed.bytes.items token.now
         (with_key (key_of mark.now number) (map string_bytes words.now)) (seen_office sealed.command)) }
     ensures key { IfOk result (λ sealed. sealed.command.key ≡ key_of mark.now number) }
+    ensures fault { IfErr result (IsFaultOf (with_key (key_of mark.now number) (map string_bytes words.now))) }
 {
     let key = key_text(alloc, mark, number)?;
     let words = keyed(alloc, words, key.as_str())?;
@@ -233,15 +244,16 @@ pub fn office_request(
 }
 
 /// Builds the request of a reading of head office: its whole bytes, for a connection of its own. The server's own
-/// readers read it back.
+/// readers read it back. Fails with `Usage` only if the words are no line of head office.
 pub fn office_look_request(
     alloc: Global,
     routes: &Routes,
     token: &Token,
     words: &[String],
 ) -> Result<OfficeLookSealed, NotSaid>
-    ensures { IfOk result (λ sealed. SaysOfficeLook sealed.bytes.items token.now (map string_bytes words.now)
+    ensures says { IfOk result (λ sealed. SaysOfficeLook sealed.bytes.items token.now (map string_bytes words.now)
         (seen_office_ask sealed.ask)) }
+    ensures fault { IfErr result (IsFaultOf (map string_bytes words.now)) }
 {
     let posted = words_posted(alloc, token, words)?;
     let ask = look_said(alloc, routes, token, &posted)?;

@@ -5,7 +5,7 @@ ghost use Rattle.std.specs.Prelude.{◌≡◌, ◌++◌, IfOk};
 ghost use Rattle.till_requests.specs.Settings.{settings_lines, staff_line};
 ghost use Rattle.till_requests.specs.Zones.{zone_line};
 
-use crate::marks::Mark;
+use crate::marks::TillMark;
 use crate::zone_parts::{ZoneName, ZoneOffset};
 use crate::zones::Zone;
 use shop_types::{StaffNo, T128, Token};
@@ -19,7 +19,7 @@ pub struct Settings {
     pub token: Token,
     /// The member of staff whose till it is. None means head office.
     pub staff: Option<StaffNo>,
-    pub mark: Mark,
+    pub mark: TillMark,
     /// The zone by which entries are dated. None means UTC.
     pub zone: Option<Zone>,
 }
@@ -143,7 +143,7 @@ fn parsed(alloc: Global, text: &str) -> Result<Settings, NoSettings> {
     }
     let address = T128::read(String::from_str(alloc, address)?).ok_or(NoSettings::Form)?;
     let token = Token::read(token.as_bytes()).ok_or(NoSettings::Form)?;
-    let mark = Mark::read(mark.as_bytes()).ok_or(NoSettings::Form)?;
+    let mark = TillMark::read(mark.as_bytes()).ok_or(NoSettings::Form)?;
     let zone = zone_in(alloc, zone)?;
     Ok(Settings {
         address,

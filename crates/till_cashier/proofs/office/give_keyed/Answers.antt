@@ -15,7 +15,7 @@ returns-in-Ok-clause-turn g c clean kept journal has =
     let words = map string_bytes c.args.words.now in
     let number = c.in_ok-number.number in
     c.give_request.ensures.turn clean kept mark token words number
-    (subst (λ (it : List ℕ). SaysUnder mark token words number it) (sym c.as_slice.ensures.value) c.in-Ok.ensures)
+    (subst (λ (it : List ℕ). SaysUnder mark token words number it) (sym c.as_slice.ensures.value) c.in-Ok.ensures.says)
     (omega (arith, c.if-place.false)) journal
     (record { rests = c.read_open_key.ensures.stays read journal has.rests; entries = has.entries; replies = has.replies })
     (c.in_ok-number.ensures.key read journal has.rests)
@@ -29,7 +29,7 @@ returns-in-Ok-clause-used g c clean =
     let number = c.in_ok-number.number in
     used_if mark token words _ number c.as_slice.result.now c.args.place.now c.give_request.new.place (state g.S.Store c.args.conn.now)
     (state g.S.Store c.read_open_key.new.conn) (state g.S.Store c.give_request.new.conn) c.give_request.result
-    (subst (λ (it : List ℕ). SaysUnder mark token words number it) (sym c.as_slice.ensures.value) c.in-Ok.ensures)
+    (subst (λ (it : List ℕ). SaysUnder mark token words number it) (sym c.as_slice.ensures.value) c.in-Ok.ensures.says)
     (omega (arith, c.if-place.false)) (c.read_open_key.ensures.stays read) (c.in_ok-number.ensures.key read)
     (c.give_request.ensures.given clean (omega (arith, c.if-place.false)))
 
@@ -59,6 +59,6 @@ returns-in-Ok-clause-answered g c clean =
     let number = c.in_ok-number.number in
     answered_if _ mark token words number c.as_slice.result.now c.args.place.now c.give_request.new.place (state g.S.Store c.args.conn.now)
     (state g.S.Store c.read_open_key.new.conn) (state g.S.Store c.give_request.new.conn) c.give_request.result
-    (subst (λ (it : List ℕ). SaysUnder mark token words number it) (sym c.as_slice.ensures.value) c.in-Ok.ensures)
+    (subst (λ (it : List ℕ). SaysUnder mark token words number it) (sym c.as_slice.ensures.value) c.in-Ok.ensures.says)
     (omega (arith, c.if-place.false)) (c.read_open_key.ensures.stays read) (c.in_ok-number.ensures.key read)
     (c.give_request.ensures.given clean (omega (arith, c.if-place.false)))

@@ -4,7 +4,7 @@ use Rattle.sqlite.specs.Held.{state}
 use Rattle.till_cashier.proofs.InTurn.{turn_grows, turn_adds}
 use Rattle.till_cashier.proofs.OfficeStops.{office_stays}
 use Rattle.std.proofs.Common.{inl}
-use Rattle.till_cashier.proofs.Printing.{if_ok_so}
+use Rattle.till_cashier.proofs.Showing.{both_ok}
 use Rattle.till_cashier.proofs.office.give_office.Goals as goal
 
 pub returns-in-Ok-clause-grows : goal.returns-in-Ok-clause-grows
@@ -28,4 +28,5 @@ pub returns-in-Ok-clause-says : goal.returns-in-Ok-clause-says
 returns-in-Ok-clause-says g c clean = c.give_in_turn.ensures.says clean
 
 pub returns-clause-says : goal.returns-clause-says
-returns-clause-says g c clean = if_ok_so c.unsaid.result _ _ c.unsaid.ensures (λ said two. inl two)
+returns-clause-says g c clean =
+    both_ok c.unsaid.result _ _ _ c.unsaid.ensures.status (c.unsaid.ensures.none _ c.in-Err.ensures.fault) (λ said two none. inl (two, none))

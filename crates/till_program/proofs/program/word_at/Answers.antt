@@ -1,7 +1,7 @@
 use Rattle.std.proofs.Common.{inl}
 use Rattle.sqlite.specs.Held.{state}
-use Rattle.till_program.proofs.DoneLaws.{ok_done, ok_kept, says_zero, repeats_zero, enters_none}
-use Rattle.till_program.proofs.OutputLaws.{grows_then}
+use Rattle.till_program.proofs.DoneLaws.{accepted_zero, enters_none, ok_done, ok_kept, quiet_zero, refuses_word, repeats_zero, says_zero, word_fault}
+use Rattle.till_program.proofs.OutputLaws.{more_then, output_more, said_more}
 use Rattle.till_program.proofs.program.word_at.Goals as goal
 
 pub returns-then-status-ne0-clause-performed : goal.returns-then-status-ne0-clause-performed
@@ -11,6 +11,9 @@ returns-then-status-ne0-clause-performed g c clean =
       between = c.do_word-said.new.conn;
       does = λ zero. absurd (c.if-status-ne0.true zero);
       says = λ zero. absurd (c.if-status-ne0.true zero);
+      quiet = λ zero. absurd (c.if-status-ne0.true zero);
+      refuses = λ other. refuses_word _ _ _ _ _ _ _ _ _ _ _ _ _ _ c.do_word-said.result _ _ _ c.print-status.ensures.shown said.own (said.says clean)
+          (said.shows clean) (word_fault c.do_word-said.result _ _ _ _ said.others (said.foreign clean));
       repeats = λ zero. absurd (c.if-status-ne0.true zero);
       kind = λ zero. absurd (c.if-status-ne0.true zero);
       others = said.stays clean;
@@ -26,13 +29,15 @@ returns-clause-performed g c clean =
     let said = c.do_word-said.ensures in
     let before = c.sure_after.ensures.clean clean in
     let done = c.print-status.ensures.done c.if-status-ne0.false in
-    let accepted = c.print-status.ensures.accepted c.if-status-ne0.false in
+    let shown = c.print-status.ensures.shown in
     record {
       between = c.do_word-said.new.conn;
       does = λ zero. ok_done _ done (said.done before);
-      says = λ zero. says_zero _ _ _ _ _ _ _ _ _ _ _ _ _ _ _ _ _ _ done accepted (said.says before) (said.shows before)
-          (c.print-status.ensures.printed c.if-status-ne0.false) c.sure_after.ensures.grows;
-      repeats = λ zero. repeats_zero _ done accepted (said.again before);
+      says = λ zero. says_zero _ _ _ _ _ _ _ _ _ _ _ _ _ _ c.do_word-said.result _ _ _ _ zero done shown (said.says before) (said.shows before)
+          c.sure_after.ensures.grows;
+      quiet = λ zero. quiet_zero c.do_word-said.result _ _ _ zero done shown;
+      refuses = λ other. absurd (other c.if-status-ne0.false);
+      repeats = λ zero. repeats_zero _ done (accepted_zero c.do_word-said.result _ _ _ zero done shown) (said.again before);
       kind = λ zero. ok_done _ done said.own;
       others = said.stays before;
       untouched = said.untouched before;
@@ -42,5 +47,9 @@ returns-clause-performed g c clean =
       sure = c.sure_after.ensures.same clean;
     }
 
+pub returns-then-status-ne0-clause-grows : goal.returns-then-status-ne0-clause-grows
+returns-then-status-ne0-clause-grows g c = said_more c.do_word-said.result _ _ _ c.print-status.ensures.shown
+
 pub returns-clause-grows : goal.returns-clause-grows
-returns-clause-grows g c = grows_then _ _ _ c.print-status.ensures.grows c.sure_after.ensures.grows
+returns-clause-grows g c =
+    more_then _ _ _ (said_more c.do_word-said.result _ _ _ c.print-status.ensures.shown) (output_more _ _ _ c.sure_after.ensures.grows)

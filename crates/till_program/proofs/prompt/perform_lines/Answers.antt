@@ -1,5 +1,5 @@
 use Rattle.std.proofs.Common.{refl, inl, inr}
-use Rattle.till_program.proofs.OutputLaws.{grows_then, whole_grows}
+use Rattle.till_program.proofs.OutputLaws.{grows_then, output_more, whole_grows}
 use Rattle.till_program.proofs.PromptLaws.{not_begun_same, none_done, one_more, done_then, last_done, err_not_ok}
 use Rattle.till_program.proofs.prompt.perform_lines.Goals as goal
 
@@ -7,7 +7,7 @@ pub returns-in_err-greet-clause-performed : goal.returns-in_err-greet-clause-per
 returns-in_err-greet-clause-performed g c = record {
   last = c.args.lines.now;
   next = _;
-  done = none_done _ _ _ _ _ _ _ _ c.greet.ensures.grows (not_begun_same _);
+  done = none_done _ _ _ _ _ _ _ _ (output_more _ _ _ c.greet.ensures.grows) (not_begun_same _);
   ends = inr (inr (err_not_ok _ c.from_residual.ensures.0, inl refl));
 }
 
@@ -15,7 +15,7 @@ pub returns-in_err-invite-clause-performed : goal.returns-in_err-invite-clause-p
 returns-in_err-invite-clause-performed g c = record {
   last = c.args.lines.now;
   next = _;
-  done = none_done _ _ _ _ _ _ _ _ (grows_then _ _ _ c.greet.ensures.grows c.invite.ensures.grows) c.invite.ensures.waited;
+  done = none_done _ _ _ _ _ _ _ _ (output_more _ _ _ (grows_then _ _ _ c.greet.ensures.grows c.invite.ensures.grows)) c.invite.ensures.waited;
   ends = inr (inr (err_not_ok _ c.from_residual-in_err-invite.ensures.0, inl refl));
 }
 
@@ -24,7 +24,8 @@ lines-init g c = record {
   ended = c.invite.ensures.ended;
   first = c.requires.first;
   finite = c.requires.ends;
-  done = rw c.new-known.ensures (none_done _ _ _ _ _ _ _ _ (grows_then _ _ _ c.greet.ensures.grows c.invite.ensures.grows) c.invite.ensures.waited);
+  done = rw c.new-known.ensures (none_done _ _ _ _ _ _ _ _
+      (output_more _ _ _ (grows_then _ _ _ c.greet.ensures.grows c.invite.ensures.grows)) c.invite.ensures.waited);
 }
 
 pub returns-then-not-branch-clause-performed : goal.returns-then-not-branch-clause-performed
@@ -40,7 +41,7 @@ lines-preserved g c =
       first = goes.0;
       finite = goes.1;
       done = one_more _ _ _ _ _ _ c.in-Some.line _ _ _ _ _ _ _ _ _ _ c.lines.invariant.done c.in-Some.ensures.steps c.in_ok-perform_read.ensures.done
-          c.perform_read.ensures.grows c.invite-in-Some.ensures.grows c.invite-in-Some.ensures.waited;
+          c.perform_read.ensures.grows (output_more _ _ _ c.invite-in-Some.ensures.grows) c.invite-in-Some.ensures.waited;
     }
 
 pub returns-in_err-invite-2-clause-performed : goal.returns-in_err-invite-2-clause-performed
@@ -48,7 +49,7 @@ returns-in_err-invite-2-clause-performed g c = record {
   last = c.next.new.self;
   next = c.perform_read.new.known.standing.staff;
   done = one_more _ _ _ _ _ _ c.in-Some.line _ _ _ _ _ _ _ _ _ _ c.lines.invariant.done c.in-Some.ensures.steps c.in_ok-perform_read.ensures.done
-      c.perform_read.ensures.grows c.invite-in-Some.ensures.grows c.invite-in-Some.ensures.waited;
+      c.perform_read.ensures.grows (output_more _ _ _ c.invite-in-Some.ensures.grows) c.invite-in-Some.ensures.waited;
   ends = inr (inr (err_not_ok _ c.from_residual-in_err-invite-2.ensures.0, inl refl));
 }
 
@@ -64,7 +65,7 @@ pub returns-in_err-write_whole-clause-performed : goal.returns-in_err-write_whol
 returns-in_err-write_whole-clause-performed g c = record {
   last = c.lines.lines;
   next = c.lines.known.standing.staff;
-  done = done_then _ _ _ _ _ _ _ _ _ _ _ c.lines.invariant.done (whole_grows _ _ _ _ c.write_whole.ensures.ok c.write_whole.ensures.err);
+  done = done_then _ _ _ _ _ _ _ _ _ _ _ c.lines.invariant.done (output_more _ _ _ (whole_grows _ _ _ _ c.write_whole.ensures.ok c.write_whole.ensures.err));
   ends = inl c.in_default.ensures.steps;
 }
 
@@ -72,6 +73,6 @@ pub returns-clause-performed : goal.returns-clause-performed
 returns-clause-performed g c = record {
   last = c.lines.lines;
   next = c.lines.known.standing.staff;
-  done = done_then _ _ _ _ _ _ _ _ _ _ _ c.lines.invariant.done (whole_grows _ _ _ _ c.write_whole.ensures.ok c.write_whole.ensures.err);
+  done = done_then _ _ _ _ _ _ _ _ _ _ _ c.lines.invariant.done (output_more _ _ _ (whole_grows _ _ _ _ c.write_whole.ensures.ok c.write_whole.ensures.err));
   ends = inl c.in_default.ensures.steps;
 }

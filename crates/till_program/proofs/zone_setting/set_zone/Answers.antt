@@ -1,7 +1,7 @@
 use Rattle.std.proofs.Common.{inr, Some}
 use Rattle.till_program.specs.Lines.{SetsZoneIn, HasZone}
 use Rattle.till_program.proofs.DoneLaws.{if_ok, if_err}
-use Rattle.till_program.proofs.LookLaws.{zone_set}
+use Rattle.till_program.proofs.LookLaws.{zone_set, zone_said}
 use Rattle.till_program.proofs.zone_setting.set_zone.Goals as goal
 
 pub returns-in_err-done-clause-fails : goal.returns-in_err-done-clause-fails
@@ -26,3 +26,8 @@ pub returns-clause-set : goal.returns-clause-set
 returns-clause-set c =
     let set : HasZone c.args.name.now (Some c.changed-done.new.book) = (c.in_ok-zone.zone, c.in_ok-done.ensures.set, c.in_ok-zone.ensures) in
     if_ok _ set
+
+pub returns-clause-said : goal.returns-clause-said
+returns-clause-said c =
+    zone_said c.zone_said-said.result _ c.in_ok-zone.zone c.args.name.now c.in_ok-done.ensures.set c.in_ok-zone.ensures c.zone_said-said.ensures.text
+    c.zone_said-said.ensures.done

@@ -4,8 +4,8 @@ use Rattle.counter_routes.specs.Words.{texts_of}
 use Rattle.till_client.specs.Sealing.{IsSole}
 use Rattle.till_requests.proofs.office.asked_in.Goals as goal
 
-pub returns-in-Ok-Asked : goal.returns-in-Ok-Asked
-returns-in-Ok-Asked c = λ words listed.
+pub returns-in-Ok-Asked-clause-asks : goal.returns-in-Ok-Asked-clause-asks
+returns-in-Ok-Asked-clause-asks c = λ words listed.
     let message = message_of c.in-Some.message in
     let told = rw c.in-Ok-Asked.field-0-is at c.in-Ok-Asked.ensures.reading in
     let equal : bytes_eq message.body c.args.body.now ≡ true = not_not (bytes_eq message.body c.args.body.now) c.if-ne.ensures in

@@ -1,6 +1,6 @@
 use Rattle.shop_types.proofs.Common.{sym, subst, rules, IsUtf8}
 use Rattle.till_requests.proofs.MarkLemmas.{mark-utf8}
-use Rattle.till_requests.proofs.marks.Mark.as_str.Goals as goal
+use Rattle.till_requests.proofs.marks.TillMark.as_str.Goals as goal
 
 pub unwrap-requires : goal.unwrap-requires
 unwrap-requires c =
