@@ -9,7 +9,7 @@ use Rattle.shop_model.specs.GoodShop.{is_within, rental_by, are_apart}
 use Rattle.shop_model.specs.Links.{are_different, pays_for}
 use Rattle.shop_types.specs.Seen.{seen_rental, seen_payment}
 use Rattle.audit_rows.specs.declared.books.OrderedBooks.{OrderedBooks}
-use Rattle.audit_rows.specs.declared.branches.Part.{Part}
+use Rattle.audit_rows.specs.declared.branches.BranchRows.{BranchRows}
 use Rattle.audit_rows.specs.declared.branches.Rest.{Rest}
 use Rattle.audit_rows.specs.declared.rows.CheckedStaff.{CheckedStaff}
 use Rattle.audit_rows.specs.declared.rows.CheckedBranch.{CheckedBranch}
@@ -28,7 +28,7 @@ pub record PartRows : Type 0 where
   pub kept : ℕ
   pub sent : ℕ
 
-abbrev pub rows_of : Part → PartRows
+abbrev pub rows_of : BranchRows → PartRows
 rows_of part = record { rows = lent_rows part.rows; lots = part.lots; kept = part.kept; sent = part.sent }
 
 -- ---- numbers and sizes

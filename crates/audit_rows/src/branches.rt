@@ -7,7 +7,7 @@ use crate::{CheckedHeader, CheckedKept, CheckedLot, NumberedRows, split_branch};
 
 /// The rows of one branch, and the numbers of its lots, of its kept commands and of the consignments that it sent.
 #[derive(Clone, Copy)]
-pub struct Part<'a> {
+pub struct BranchRows<'a> {
     pub rows: NumberedRows<'a>,
     pub lots: usize,
     pub kept: usize,
@@ -24,7 +24,7 @@ pub struct Rest<'a> {
 }
 
 /// Takes the branch's rows, which come first. Returns them, and all rows after them.
-pub fn take_branch<'a>(rest: Rest<'a>, branch: u32) -> (Part<'a>, Rest<'a>)
+pub fn take_branch<'a>(rest: Rest<'a>, branch: u32) -> (BranchRows<'a>, Rest<'a>)
     ensures part { rows_of result.0 ≡ front_rows rest.entry branch }
     ensures more { AreBehind rest.entry result.1 branch }
 {
@@ -32,7 +32,7 @@ pub fn take_branch<'a>(rest: Rest<'a>, branch: u32) -> (Part<'a>, Rest<'a>)
     let (lots, more_lots) = split_branch(rest.lots, branch);
     let (kept, more_kept) = split_branch(rest.kept, branch);
     let (sent, headers) = split_branch(rest.headers, branch);
-    let part = Part {
+    let part = BranchRows {
         rows,
         lots: lots.len(),
         kept: kept.len(),

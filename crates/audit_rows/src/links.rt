@@ -9,7 +9,7 @@ ghost use Rattle.audit_rows.specs.Shops.{is_among};
 ghost use Rattle.audit_rows.specs.Parts.{is_staff_row, has_places, has_people, has_payers, has_links, rows_of};
 
 use crate::books::{CheckedCopy, CheckedCustomer};
-use crate::branches::Part;
+use crate::branches::BranchRows;
 use crate::{CheckedRow, CheckedStaff, OrderedBooks, is_among};
 use shop_types::{CustomerNo, Payment, Rental, RentalNo, StaffNo};
 
@@ -61,7 +61,7 @@ fn copies_have_films(copies: &[CheckedRow<CheckedCopy>], films: usize) -> bool
 }
 
 /// Returns whether every customer's city and every copy's film is there.
-fn have_places(books: &OrderedBooks, part: &Part<'_>) -> bool
+fn have_places(books: &OrderedBooks, part: &BranchRows<'_>) -> bool
     ensures { result ≡ has_places books.now (rows_of part.now) }
 {
     customers_have_cities(part.rows.customers, books.cities.len())
@@ -69,7 +69,7 @@ fn have_places(books: &OrderedBooks, part: &Part<'_>) -> bool
 }
 
 /// Returns whether every rental's copy and customer is there, and its staff is of the branch.
-fn have_people(staff: &[CheckedStaff], branch: u32, part: &Part<'_>) -> bool
+fn have_people(staff: &[CheckedStaff], branch: u32, part: &BranchRows<'_>) -> bool
     ensures { result ≡ has_people branch staff.now (rows_of part.now) }
 {
     let (copies, customers) = (part.rows.copies.len(), part.rows.customers.len());
@@ -82,7 +82,7 @@ fn have_people(staff: &[CheckedStaff], branch: u32, part: &Part<'_>) -> bool
 
 /// Returns whether every payment's customer is there, its staff is of the branch, and its rental is the customer's, if
 /// it names one.
-fn have_payers(staff: &[CheckedStaff], branch: u32, part: &Part<'_>) -> bool
+fn have_payers(staff: &[CheckedStaff], branch: u32, part: &BranchRows<'_>) -> bool
     ensures { result ≡ has_payers branch staff.now (rows_of part.now) }
 {
     let (rentals, customers) = (part.rows.rentals, part.rows.customers.len());
@@ -94,7 +94,7 @@ fn have_payers(staff: &[CheckedStaff], branch: u32, part: &Part<'_>) -> bool
 }
 
 /// Returns whether all that the branch's rows name is there.
-pub fn have_links(books: &OrderedBooks, branch: u32, part: &Part<'_>) -> bool
+pub fn have_links(books: &OrderedBooks, branch: u32, part: &BranchRows<'_>) -> bool
     ensures { result ≡ has_links books.now branch (rows_of part.now) }
 {
     let staff = books.staff.as_slice();

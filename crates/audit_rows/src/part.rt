@@ -3,7 +3,7 @@
 ghost use Rattle.std.specs.Prelude.{◌≡◌, ◌&&◌, ◌==◌, IfOk};
 ghost use Rattle.audit_rows.specs.Parts.{is_termed, is_sized, is_timely, is_held, has_good_rows, is_good_part, rows_of};
 
-use crate::branches::Part;
+use crate::branches::BranchRows;
 use crate::held::are_held_here;
 use crate::links::have_links;
 use crate::shop::{
@@ -18,14 +18,14 @@ use std::alloc::Global;
 const MOST: usize = 1_000_000;
 
 /// If rentals and terms are both numbered 1, 2, .., returns whether each rental has its terms, and no others are there.
-fn are_termed(part: &Part<'_>) -> bool
+fn are_termed(part: &BranchRows<'_>) -> bool
     ensures { result ≡ is_termed (rows_of part.now) }
 {
     part.rows.terms.len() == part.rows.rentals.len()
 }
 
 /// Returns whether there are no more of anything than there may be.
-fn are_few(part: &Part<'_>) -> bool
+fn are_few(part: &BranchRows<'_>) -> bool
     ensures { result ≡ is_sized (rows_of part.now) }
 {
     part.kept <= MOST
@@ -38,7 +38,7 @@ fn are_few(part: &Part<'_>) -> bool
 }
 
 /// Returns whether moments rise with the numbers, and none is after the last one.
-fn are_timely(row: &CheckedBranch, part: &Part<'_>) -> bool
+fn are_timely(row: &CheckedBranch, part: &BranchRows<'_>) -> bool
     ensures { result ≡ is_timely row.now.last (rows_of part.now) }
 {
     are_created_by(row.last, part.rows.customers)
@@ -49,7 +49,12 @@ fn are_timely(row: &CheckedBranch, part: &Part<'_>) -> bool
 }
 
 /// Returns whether numbers, sizes and moments are as they have to be, and what the rows name is there.
-fn has_good_rows(books: &OrderedBooks, branch: u32, row: &CheckedBranch, part: &Part<'_>) -> bool
+fn has_good_rows(
+    books: &OrderedBooks,
+    branch: u32,
+    row: &CheckedBranch,
+    part: &BranchRows<'_>,
+) -> bool
     ensures { result ≡ has_good_rows books.now branch row.now.last (rows_of part.now) }
 {
     part.rows.are_counted()
@@ -60,7 +65,7 @@ fn has_good_rows(books: &OrderedBooks, branch: u32, row: &CheckedBranch, part: &
 }
 
 /// Returns whether copies that are out are here, each once, and no two rentals are one.
-fn are_held(alloc: Global, part: &Part<'_>) -> Result<bool, NoMemory>
+fn are_held(alloc: Global, part: &BranchRows<'_>) -> Result<bool, NoMemory>
     ensures { IfOk result (λ is. is ≡ is_held (rows_of part.now)) }
 {
     if !are_held_here(part.rows.rentals, part.rows.copies) {
@@ -78,7 +83,7 @@ pub fn is_good(
     books: &OrderedBooks,
     branch: u32,
     row: &CheckedBranch,
-    part: &Part<'_>,
+    part: &BranchRows<'_>,
 ) -> Result<bool, NoMemory>
     ensures { IfOk result (λ is. is ≡ is_good_part books.now branch row.now.last (rows_of part.now)) }
 {

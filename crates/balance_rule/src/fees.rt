@@ -8,7 +8,7 @@ ghost use Rattle.shop_types.specs.Seen.{seen_rule};
 ghost use Rattle.balance_rule.specs.Balance.{days_past_of, code_fee_of, comment_fee_of, fee_of, fees_by, paid_by, owed_at, AreTermsOf, ArePaidBy};
 
 use crate::rows::{Paid, RentalTerms};
-use shop_types::{Cents, Moment, Rule};
+use shop_types::{Cents, Moment, Period, Rule};
 
 /// Returns whether the first moment is not after the second.
 fn is_by(moment: Moment, at: Moment) -> bool
@@ -19,7 +19,7 @@ fn is_by(moment: Moment, at: Moment) -> bool
 
 /// Returns the days by which a rental was returned after its period of days, by the numbers of the days and not by
 /// hours. Returns none for an open rental.
-pub fn late_days(rented: Moment, returned: Option<Moment>, period: u8) -> u32
+pub fn late_days(rented: Moment, returned: Option<Moment>, period: Period) -> u32
     ensures value { result ≡ late_days rented returned period }
     ensures bound { result ≤ 2_932_896 }
 {
@@ -27,16 +27,16 @@ pub fn late_days(rented: Moment, returned: Option<Moment>, period: u8) -> u32
         None => 0,
         Some(returned) => {
             let kept = (returned.day() as u32).saturating_sub(rented.day() as u32);
-            kept.saturating_sub(u32::from(period))
+            kept.saturating_sub(period.get())
         }
     }
 }
 
 /// Returns whether the period of a rental ended on a day before that of the moment: overdue, where the rental is open.
-pub fn is_overdue(rented: Moment, period: u8, at: Moment) -> bool
+pub fn is_overdue(rented: Moment, period: Period, at: Moment) -> bool
     ensures { result ≡ nat_lt (day_of rented + period) (day_of at) }
 {
-    rented.day() as u32 + u32::from(period) < at.day() as u32
+    rented.day() as u32 + period.get() < at.day() as u32
 }
 
 /// Returns the days by which a rental is past its period at a moment, which is its end if it wasn't returned by then.
@@ -56,7 +56,7 @@ fn code_fee(rental: &RentalTerms) -> u32
     ensures value { result ≡ code_fee_of rental.now }
     ensures bound { result ≤ 293_299_599 }
 {
-    u32::from(rental.rate.get()) + 100 * late_days(rental.rented, rental.returned, rental.period)
+    rental.rate.get() + 100 * late_days(rental.rented, rental.returned, rental.period)
 }
 
 /// Returns what a rental costs by the comment: its rate, a dollar for each day past its period, and its replacement
@@ -67,8 +67,8 @@ fn comment_fee(rental: &RentalTerms, at: Moment) -> u32
 {
     let past = days_past(rental, at);
     let period = rental.period;
-    let charge = u32::from(rental.rate.get()) + 100 * past;
-    if past > 2 * u32::from(period) {
+    let charge = rental.rate.get() + 100 * past;
+    if past > 2 * period.get() {
         charge + rental.replacement.get()
     } else {
         charge

@@ -1,6 +1,6 @@
 //! What the rules read of a customer's rows.
 
-use shop_types::{Amount, Moment, Rate};
+use shop_types::{Amount, Moment, Period, Rate};
 
 /// What a balance reads of a rental, and of its terms.
 #[derive(Clone, Copy)]
@@ -10,7 +10,7 @@ pub struct RentalTerms {
     pub returned: Option<Moment>,
     pub rate: Rate,
     /// For how many days it was rented.
-    pub period: u8,
+    pub period: Period,
     /// What the film cost to replace when the rental began.
     pub replacement: Amount,
 }

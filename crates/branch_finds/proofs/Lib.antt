@@ -1,7 +1,9 @@
-pub mod Readings
+pub mod OneFilm
 pub mod Lookings
 pub mod FilmLemmas
 pub mod Shows
 pub mod TermLemmas
 pub mod Stocks
 pub mod Singles
+pub mod Telling
+pub mod Answered

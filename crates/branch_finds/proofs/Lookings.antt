@@ -3,7 +3,7 @@ use Rattle.shop_schema.proofs.Common.{◌≡◌, ◌∙◌, ap, sym, Bool, List,
 use Rattle.shop_schema.proofs.Common.{is_film_withdrawn, head}
 use Rattle.shop_store.specs.SharedSeen.{withdrawn_of}
 use Rattle.branch_finds.specs.Finds.{is_yes}
-use Rattle.branch_finds.proofs.Readings.{at_most_one}
+use Rattle.branch_finds.proofs.OneFilm.{at_most_one}
 
 pub head_of : {X Y Z : Type 0} (f : X → Y) (g : Y → Z) (o : Option X) (l : List Y)
     → option_to_list (option_map f o) ≡ l → option_map (λ x. g (f x)) o ≡ head (map g l)

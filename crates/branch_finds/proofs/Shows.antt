@@ -1,6 +1,6 @@
--- Who has a copy, and whether it is in stock.
+-- Who has a copy, whether it is in stock, and the reply that shows the holder.
 use Rattle.shop_schema.proofs.Common.{◌≡◌, ◌∙◌, refl, sym, ap, inl, inr, arith, ℕ, ◌+◌, ◌-◌, ◌≤◌, Bool, true, false, not, List, [], ◌∷◌, map, Option, is_some}
-use Rattle.shop_schema.proofs.Common.{option_to_list, cases_Bool, nat_tests, at, Rental, keeps_out, in_stock, held_by}
+use Rattle.shop_schema.proofs.Common.{option_to_list, cases_Bool, nat_tests, at, Rental, keeps_out, in_stock, held_by, holder_text, head}
 use Rattle.std.specs.Prelude.{◌==◌}
 use Rattle.consign_finds.specs.Finds.{open_from}
 use Rattle.consign_finds.proofs.Outs.{twice, out_shown}
@@ -42,3 +42,7 @@ held_at n x rentals one =
 pub stock_of_out : (x : ℕ) (rentals : List Rental) (out : Option ℕ) (is_in : Bool)
     → is_some out ≡ not is_in → option_to_list out ≡ open_from 1 x rentals → is_in ≡ in_stock x rentals
 stock_of_out x rentals out is_in none is = twice is_in ∙ ap not (sym none ∙ out_shown x rentals out is) ∙ sym (twice (in_stock x rentals))
+
+pub first_holder : (holders : List ℕ) → holder_text (option_to_list (head holders)) ≡ holder_text holders
+first_holder [] = refl
+first_holder (c ∷ holders) = refl

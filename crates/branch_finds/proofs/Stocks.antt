@@ -8,7 +8,7 @@ use Rattle.branch_core.specs.declared.found.StockFound.{StockFound}
 use Rattle.branch_core.specs.StockLists.{films_of as films_found}
 use Rattle.branch_core.specs.Agreed.{RowAgrees}
 use Rattle.shop_store.specs.SharedSeen.{withdrawn_of}
-use Rattle.branch_finds.proofs.Readings.{at_most_one}
+use Rattle.branch_finds.proofs.OneFilm.{at_most_one}
 use Rattle.consign_finds.proofs.Readings.{some_there}
 use Rattle.branch_finds.specs.Commands.{as_listed, found_row, stock_found}
 

@@ -48,7 +48,7 @@ fn charged_by(row: TermedRental) -> RentalTerms
         rented: row.rental.rented,
         returned: row.rental.returned,
         rate: row.terms.rate,
-        period: row.terms.period.get(),
+        period: row.terms.period,
         replacement: row.terms.replacement,
     }
 }

@@ -37,7 +37,7 @@ fn minutes_of(minutes: Option<Minutes>) -> Option<u32>
     ensures { result ≡ minutes }
 {
     match minutes {
-        Some(minutes) => Some(u32::from(minutes.get())),
+        Some(minutes) => Some(minutes.get()),
         None => None,
     }
 }
@@ -53,8 +53,8 @@ pub(crate) fn new_film(number: FilmNo, film: &Film) -> NewFilm<'_>
         description: film.description.as_str(),
         language: film.language,
         category: film.category,
-        period: u32::from(film.period.get()),
-        rate: u32::from(film.rate.get()),
+        period: film.period.get(),
+        rate: film.rate.get(),
         replacement: film.replacement.get(),
         minutes: minutes_of(film.minutes),
         rating: film.rating.text(),

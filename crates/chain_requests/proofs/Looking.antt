@@ -3,10 +3,10 @@ use Rattle.shop_schema.proofs.Common.{◌≡◌, ◌∙◌, refl, sym, ap, subst
 use Rattle.shop_schema.proofs.Common.{lacks, Ask, Request, Look, Sorry, NoRoute, not, not-true, true, false, false≢true, seen_request}
 use Rattle.shop_schema.proofs.Common.{reply_to, answer_of, Books, Counter, shop_of, branch_after, seen_reply, Holds}
 use Rattle.shop_ledger.specs.declared.answered.Answered.{Answered}
-use Rattle.branch_looks.specs.Looks.{IsAnswered, TellsDecision, IsStill, is_list}
-use Rattle.branch_looks.specs.declared.work.Listing.{Listing}
-use Rattle.branch_looks.specs.declared.work.Work.{Work}
-use Rattle.branch_looks.specs.declared.work.Work.TheVariants as work
+use Rattle.branch_finds.specs.Looks.{IsAnswered, TellsDecision, IsStill, is_list}
+use Rattle.branch_finds.specs.declared.work.Listing.{Listing}
+use Rattle.branch_finds.specs.declared.work.Work.{Work}
+use Rattle.branch_finds.specs.declared.work.Work.TheVariants as work
 use Rattle.branch_work.specs.Rules.{rules_of}
 use Rattle.branch_work.specs.Works.{left_by, IsDone}
 use Rattle.shop_types.specs.declared.request.Request.{Request as Asked}

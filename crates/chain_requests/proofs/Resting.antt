@@ -11,12 +11,12 @@ use Rattle.sql_rows.specs.Calls.{DoesInside, StaysSame}
 use Rattle.chain_caches.specs.Films.{AreRows, KnownFilms}
 use Rattle.shop_ledger.specs.declared.answered.Answered.{Answered}
 use Rattle.chain_requests.specs.Chains.{Rests, StaysAsFound}
-use Rattle.branch_looks.specs.declared.work.Work.{Work}
-use Rattle.branch_looks.specs.declared.work.Work.TheVariants as work
+use Rattle.branch_finds.specs.declared.work.Work.{Work}
+use Rattle.branch_finds.specs.declared.work.Work.TheVariants as work
 use Rattle.chain_requests.specs.declared.reports.Report.{Report}
 use Rattle.chain_requests.specs.Reports.{shown_by, ShowsReport}
 use Rattle.branch_work.specs.Works.{left_by, IsDone}
-use Rattle.chain_requests.specs.Steps.{HasCome, Works, IsMade, IsUndone, LeavesAfter, LeavesEitherOf}
+use Rattle.chain_requests.specs.Steps.{HasCome, DoesRequest, IsMade, IsUndone, LeavesAfter, LeavesEitherOf}
 
 pub holds_as : (s t : State) (books : Books) → t.now ≡ s.now → Holds s books → Holds t books
 holds_as s t books same h = record {
@@ -178,13 +178,13 @@ undone_either limits caller request held_in undone = (λ other. undone, λ books
 
 module _ (limits : Limits) (caller : Caller) (request : Request) {Given : Books → Type 0} {after : KnownFilms} where
   came : (old first mid : State) (it : Work Report) → first.now ≡ old.now → IsTrue old.is_open
-      → Works limits caller request Given after it first mid → (books : Books) → Rests old books → Given books
+      → DoesRequest limits caller request Given after it first mid → (books : Books) → Rests old books → Given books
       → HasCome shown_by limits caller request it mid books × AreRows after (left_by limits caller request books).catalogue.films
   came old first mid it same live works books rests = works books (holds_as old first books same (rests.now live))
 
   -- it was done by nothing
   pub made_nothing : {old first mid end : State} {it : Answered} → first.now ≡ old.now
-      → IsTrue old.is_open × Works limits caller request Given after (work.Answered it) first mid → it.is_changed ≡ false
+      → IsTrue old.is_open × DoesRequest limits caller request Given after (work.Answered it) first mid → it.is_changed ≡ false
       → ((books : Books) → Rests old books → Rests end books) → IsMade limits caller request (seen_reply it.reply) Given after old end
   made_nothing {old} {first} {mid} {end} {it} same works unchanged back =
       let done = came old first mid (work.Answered it) same works.0 works.1 in
@@ -196,7 +196,7 @@ module _ (limits : Limits) (caller : Caller) (request : Request) {Given : Books 
 
   -- a reading was looked at in a transaction, which was rolled back, and then it was shown
   pub shows_made : {old first : State} (mid : State) {back end : State} (report : Report) {answer : Answer}
-      → first.now ≡ old.now → IsTrue old.is_open × Works limits caller request Given after (work.Shows report) first mid
+      → first.now ≡ old.now → IsTrue old.is_open × DoesRequest limits caller request Given after (work.Shows report) first mid
       → ((books : Books) → Rests old books → Rests back books) → IsUndone back end → ((books : Books) → Given books → IsHeld books)
       → ShowsReport report answer back → IsMade limits caller request answer Given after old end
   shows_made {old} {first} mid {back} {end} report same works returned stays held_in shown =
@@ -209,7 +209,7 @@ module _ (limits : Limits) (caller : Caller) (request : Request) {Given : Books 
       }
 
   module _ {S E : Type 0} {g : Ghosts S} (old : Held S) {tx mid : MutBor (Held S)} {it : Answered} (is : tx.now ≡ record old { in_transaction = true })
-      (one : DoesInside {E = E} g tx mid (Ok (work.Answered it)) (Works limits caller request Given after))
+      (one : DoesInside {E = E} g tx mid (Ok (work.Answered it)) (DoesRequest limits caller request Given after))
       (end : Held S) (ending : Survives (state g mid.now) (state g end) (λ db. db ≡ (state g mid.now).now.trees)) where
     done : HasCleanDisk (state g mid.now) → (books : Books) → Rests (state g old) books → Given books
         → IsDone limits caller request it (state g mid.now) books × AreRows after (left_by limits caller request books).catalogue.films

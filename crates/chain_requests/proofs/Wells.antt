@@ -2,14 +2,14 @@
 use Rattle.shop_schema.proofs.Common.{◌≡◌, ◌∙◌, ◌⊎◌, ℕ, inl, inr, refl, sym, ap, subst, arith, true, false, Bool, Ok, Err, Result, IfErr, IsErrAnd, MutBor}
 use Rattle.shop_schema.proofs.Common.{Ghosts, Held, Trees, state, State, HasCleanDisk, Survives, Books, StoreFault, Memory, Size, Failed, IsHeld, Reads, IsShop}
 use Rattle.sql_rows.specs.Calls.{DoesInside}
-use Rattle.sql_rows.specs.Causes.{IsReady, IsReadyInside, MetFaults, FailsByFaults}
+use Rattle.sql_rows.specs.Causes.{FailsAtRest, IsReady, IsReadyInside, MetFaults, FailsByFaults}
 use Rattle.sql_rows.proofs.QueryFaults.{err_then}
 use Rattle.sql_rows.proofs.CallFaults.{ready_or_met, met_behind, met_before}
 use Rattle.shop_schema.specs.Asked.{HoldsBooks}
 use Rattle.chain_requests.specs.Holding.{Chained}
 use Rattle.chain_requests.specs.Chains.{Rests, IsAt}
 use Rattle.chain_requests.specs.Decisions.{is_final}
-use Rattle.chain_requests.specs.Wells.{RestsOnBooks, FailsAtRest, IsWell, StaysWell}
+use Rattle.chain_requests.specs.Wells.{RestsOnBooks, IsWell, StaysWell}
 use Rattle.chain_requests.proofs.Resting.{holds_as, left_back}
 use Rattle.chain_requests.proofs.Standing.{are_held}
 

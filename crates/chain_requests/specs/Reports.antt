@@ -8,10 +8,10 @@ use Rattle.shop_model.specs.Machine.{Shown, Shows, RowsAre, TransitIs}
 use Rattle.shop_model.specs.Answers.{Answer, answer_of}
 use Rattle.shop_model.specs.Books.{Books, shop_of}
 use Rattle.shop_schema.specs.Held.{IsHeld}
-use Rattle.branch_looks.specs.Looks.{listed}
-use Rattle.branch_looks.specs.declared.work.Listing.{Listing}
-use Rattle.branch_looks.specs.declared.work.Work.{Work}
-use Rattle.branch_looks.specs.declared.work.Work.TheVariants as work
+use Rattle.branch_finds.specs.Looks.{listed}
+use Rattle.branch_finds.specs.declared.work.Listing.{Listing}
+use Rattle.branch_finds.specs.declared.work.Work.{Work}
+use Rattle.branch_finds.specs.declared.work.Work.TheVariants as work
 use Rattle.consign_store.specs.Listed.{under_way}
 use Rattle.chain_requests.specs.declared.reports.Report.{Report}
 use Rattle.chain_requests.specs.declared.reports.Report.TheVariants.{OfBranch, Sales, Transit}

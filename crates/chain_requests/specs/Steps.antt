@@ -16,9 +16,9 @@ use Rattle.shop_schema.specs.RowValues.{IsNumber, IsKey}
 use Rattle.shop_schema.specs.Forms.{IsCommand, IsOfficeAct}
 use Rattle.shop_schema.specs.Shop.{StandsFor, Holds}
 use Rattle.branch_work.specs.Works.{told_to, left_by, IsDone}
-use Rattle.branch_looks.specs.Looks.{IsKnown}
-use Rattle.branch_looks.specs.declared.work.Work.{Work}
-use Rattle.branch_looks.specs.declared.work.Work.TheVariants as work
+use Rattle.branch_finds.specs.Looks.{IsKnown}
+use Rattle.branch_finds.specs.declared.work.Work.{Work}
+use Rattle.branch_finds.specs.declared.work.Work.TheVariants as work
 use Rattle.chain_requests.specs.declared.asked.Asked.{Asked}
 use Rattle.chain_requests.specs.declared.asked.Asked.TheVariants.{OfBranch, OfOffice}
 use Rattle.chain_requests.specs.declared.reports.Report.{Report}
@@ -75,8 +75,8 @@ HasCome shown limits caller request (work.Shows it) new books =
 
 -- Inside the transaction the request is done, or it asks for a reading, which is shown later. If `Given` held of the books before it, the films that are known
 -- after it are rows of the books after it.
-abbrev pub Works : Limits → Caller → Request → (Books → Type 0) → KnownFilms → Work Report → State → State → Type 0
-Works limits caller request Given after work old new =
+abbrev pub DoesRequest : Limits → Caller → Request → (Books → Type 0) → KnownFilms → Work Report → State → State → Type 0
+DoesRequest limits caller request Given after work old new =
     (books : Books) → Holds old books → Given books
     → HasCome shown_by limits caller request work new books × AreRows after (left_by limits caller request books).catalogue.films
 

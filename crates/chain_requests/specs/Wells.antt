@@ -1,26 +1,19 @@
 -- When a chain fails: only as its disk meets a fault, in this call or in an earlier one.
-use Rattle.std.specs.Prelude.{◌≡◌, ◌⊎◌, ◌≤◌, false, Result, IfErr, Bool, not}
+use Rattle.std.specs.Prelude.{◌≡◌, ◌⊎◌, ◌≤◌, false, Bool, not}
 use Rattle.sqlite_trees.specs.declared.store.Store.{Ghosts}
 use Rattle.sqlite.specs.Held.{Held, state}
 use Rattle.sqlite.specs.State.{State, HasCleanDisk}
 use Rattle.sql_rows.specs.Causes.{IsReady, MetFaults}
-use Rattle.sql_rows.specs.declared.fault.StoreFault.{StoreFault}
-use Rattle.sql_rows.specs.declared.fault.StoreFault.TheVariants.{Failed}
 use Rattle.shop_model.specs.Machine.{Request, Look}
 use Rattle.shop_model.specs.Books.{Books}
 use Rattle.shop_schema.specs.Held.{IsHeld}
-use Rattle.branch_looks.specs.Looks.{is_list}
+use Rattle.branch_finds.specs.Looks.{is_list}
 use Rattle.chain_requests.specs.Holding.{Chained}
 use Rattle.chain_requests.specs.Chains.{Rests, IsAt}
 
 -- the connection rests on books that the tables can hold
 abbrev pub RestsOnBooks : State → Type 0
 RestsOnBooks s = (books : Books) × Rests s books × IsHeld books
-
--- If the connection is ready before the call, and `Asked` holds of its state, the call fails only as the disk meets a fault.
-abbrev pub FailsAtRest : {S X : Type 0} → Ghosts S → Held S → Held S → Result X StoreFault → (State → Type 0) → Type 0
-FailsAtRest g old new result Asked =
-    HasCleanDisk (state g new) → IsReady (state g old) → Asked (state g old) → IfErr result (λ e. e ≡ Failed → MetFaults (state g old) (state g new))
 
 -- the chain hasn't failed, and its connection is ready
 pub record IsWell {S : Type 0} (g : Ghosts S) (chain : Chained S) : Type 0 where

@@ -10,15 +10,15 @@ ghost use Rattle.shop_types.specs.Replies.{seen_reply};
 ghost use Rattle.shop_schema.specs.Asked.{HoldsBooks};
 ghost use Rattle.shop_ledger.specs.Calls.{Finds};
 ghost use Rattle.branch_reports.specs.Told.{IsDecision};
-ghost use Rattle.branch_looks.specs.Looks.{IsKnown, IsStill, TellsDecision};
+ghost use Rattle.branch_finds.specs.Looks.{IsKnown, IsStill, TellsDecision};
 ghost use Rattle.chain_requests.specs.Reports.{for_branch};
-ghost use Rattle.chain_requests.specs.Steps.{IsHeldBy, IsKnownFor, Works, asker, asked_of, no_route};
+ghost use Rattle.chain_requests.specs.Steps.{IsHeldBy, IsKnownFor, DoesRequest, asker, asked_of, no_route};
 ghost use Rattle.chain_requests.specs.Wells.{is_row_look};
 
 use crate::asked::Asked;
 use crate::office_commands::answer_office;
 use crate::reports::Report;
-use branch_looks::{Listing, Work, answer_look, answer_view};
+use branch_finds::{Listing, Work, answer_look, answer_view};
 use branch_work::answer_command;
 use chain_caches::FilmCache;
 use shop_ledger::{Answered, standing_at};
@@ -36,7 +36,7 @@ pub fn answer_inside<S: Alter>(
     asked: &Asked<'_>,
 ) -> Result<Work<Report>, StoreFault>
     ensures does { DoesInside S.Store tx.old.conn tx.new.conn result
-        (Works limits (asker asked.now) (asked_of asked.now) (IsHeldBy (IsKnownFor asked.now) films.old) films.new) }
+        (DoesRequest limits (asker asked.now) (asked_of asked.now) (IsHeldBy (IsKnownFor asked.now) films.old) films.new) }
     ensures decided { IfOk result TellsDecision }
     ensures still { IsTrue (is_row_look (asked_of asked.now)) → IfOk result IsStill }
     ensures fails { IsTrue (is_row_look (asked_of asked.now))
@@ -62,7 +62,7 @@ fn branch_inside<S: Alter>(
     is_known: bool,
     request: &Request,
 ) -> Result<Work<Report>, StoreFault>
-    ensures does { DoesInside S.Store tx.old.conn tx.new.conn result (Works limits (Counter branch)
+    ensures does { DoesInside S.Store tx.old.conn tx.new.conn result (DoesRequest limits (Counter branch)
         (seen_request request.now) (IsHeldBy (IsKnown is_known branch) films.old) films.new) }
     ensures decided { IfOk result TellsDecision }
     ensures still { IsTrue (is_row_look (seen_request request.now)) → IfOk result IsStill }
@@ -130,7 +130,7 @@ fn office_inside<S: Alter>(
     command: &OfficeCommand,
 ) -> Result<Work<Report>, StoreFault>
     ensures does { DoesInside S.Store tx.old.conn tx.new.conn result
-        (Works limits HeadOffice (Office (seen_office command.now)) (IsHeldBy (λ _. ⊤) films.old) films.new) }
+        (DoesRequest limits HeadOffice (Office (seen_office command.now)) (IsHeldBy (λ _. ⊤) films.old) films.new) }
     ensures decided { IfOk result TellsDecision }
 {
     // This comes before any write: the films that stay known are right, whether or not the command is done.

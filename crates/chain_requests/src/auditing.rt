@@ -1,5 +1,6 @@
 //! Audits a chain's tables, in a transaction that changes nothing.
 
+ghost use Rattle.sql_rows.specs.Causes.{FailsAtRest};
 ghost use Rattle.std.specs.Prelude.{◌≡◌, false, IfOk, true, Err};
 ghost use Rattle.sqlite.specs.Held.{state};
 ghost use Rattle.sqlite.specs.State.{HasCleanDisk, Survives};
@@ -8,7 +9,6 @@ ghost use Rattle.chain_requests.specs.Chains.{Rests};
 ghost use Rattle.chain_requests.specs.Audits.{AuditsState, TellsSoundness};
 ghost use Rattle.shop_schema.specs.Shop.{IsShop};
 ghost use Rattle.chain_requests.specs.Steps.{IsUndone};
-ghost use Rattle.chain_requests.specs.Wells.{FailsAtRest};
 
 use books_audit::audit_books;
 use shop_types::Audit;

@@ -4,13 +4,13 @@ ghost use Rattle.std.specs.Prelude.{◌≡◌, false, IfOk, Some, true, Err};
 ghost use Rattle.sqlite.specs.Held.{state};
 ghost use Rattle.sqlite.specs.State.{HasCleanDisk, Survives};
 ghost use Rattle.sql_rows.specs.Calls.{DoesInside};
-ghost use Rattle.sql_rows.specs.Causes.{FailsByFaults};
+ghost use Rattle.sql_rows.specs.Causes.{FailsAtRest, FailsByFaults};
 ghost use Rattle.shop_model.specs.Books.{caller_of};
 ghost use Rattle.shop_types.specs.Seen.{seen_caller};
 ghost use Rattle.shop_schema.specs.Asked.{HoldsBooks};
 ghost use Rattle.shop_ledger.specs.Calls.{Finds};
 ghost use Rattle.chain_requests.specs.Steps.{IsUndone, HasCaller};
-ghost use Rattle.chain_requests.specs.Wells.{FailsAtRest, RestsOnBooks};
+ghost use Rattle.chain_requests.specs.Wells.{RestsOnBooks};
 
 use shop_store::branches::branch_with;
 use shop_store::chain::is_office;

@@ -9,12 +9,12 @@ ghost use Rattle.shop_model.specs.Answers.{shown_text};
 ghost use Rattle.shop_types.specs.Replies.{seen_reply};
 ghost use Rattle.shop_schema.specs.Shop.{Holds};
 ghost use Rattle.shop_schema.specs.Held.{IsHeld};
-ghost use Rattle.branch_looks.specs.Looks.{listed};
+ghost use Rattle.branch_finds.specs.Looks.{listed};
 ghost use Rattle.branch_reports.specs.Told.{IsDecision};
 ghost use Rattle.chain_requests.specs.Steps.{IsUndone};
 ghost use Rattle.chain_requests.specs.Reports.{shown_by, ShowsReport};
 
-use branch_looks::Listing;
+use branch_finds::Listing;
 use consign_store::{arrivals, sent, transit};
 use shop_types::{BranchNo, Reply};
 use sql_rows::StoreFault;

@@ -1,18 +1,19 @@
 //! A request of a branch, or a command of head office, in one transaction.
 
+ghost use Rattle.sql_rows.specs.Causes.{FailsAtRest};
 ghost use Rattle.std.specs.Prelude.{◌≡◌, ◌≢◌, false, IfOk, IfErr, IsTrue};
 ghost use Rattle.sqlite.specs.Held.{state};
 ghost use Rattle.sqlite.specs.State.{HasCleanDisk, Survives};
 ghost use Rattle.shop_types.specs.Replies.{seen_reply};
 ghost use Rattle.branch_reports.specs.Told.{IsDecision};
 ghost use Rattle.chain_requests.specs.Steps.{IsHeldBy, IsKnownFor, IsMade, IsUndone, LeavesAfter, LeavesEitherOf, asker, asked_of};
-ghost use Rattle.chain_requests.specs.Wells.{FailsAtRest, RestsOnBooks, is_row_look};
+ghost use Rattle.chain_requests.specs.Wells.{RestsOnBooks, is_row_look};
 
 use crate::answering::answer_inside;
 use crate::asked::Asked;
 use crate::opened::is_open;
 use crate::reports::show;
-use branch_looks::Work;
+use branch_finds::Work;
 use chain_caches::FilmCache;
 use shop_types::{Limits, Reply};
 use sql_rows::{StoreFault, fault_of};

@@ -4,8 +4,8 @@ use Rattle.shop_types.proofs.Common.{append-nil, append_assoc, length-append, eq
 use Rattle.shop_types.proofs.Common.{append_cancel_right, All-nil, All-pop, flat_map-append, Answer, problem_answer}
 use Rattle.sqlite_trees.specs.declared.store.Store.{Ghosts}
 use Rattle.http_messages.specs.Text.{head_text}
-use Rattle.http_messages.specs.declared.messages.Fault.{Fault}
-use Rattle.http_messages.specs.declared.messages.Fault.TheVariants.{BadHead, TooLong}
+use Rattle.http_messages.specs.declared.messages.MessageFault.{MessageFault}
+use Rattle.http_messages.specs.declared.messages.MessageFault.TheVariants.{BadHead, TooLong}
 use Rattle.shop_model.specs.Refusals as named
 use Rattle.counter_http.specs.Exchanges.{Exchange, text_of, texts, GoesOn}
 use Rattle.counter_http.specs.Served.{IsEnd, IsServed, IsReadFault, IsWriteFault, IsFault, fault_text, fault_replies}
@@ -138,7 +138,7 @@ some_text : (answer : Answer) → text_of answer ≡ [] → ⊥
 unfolding head_text
 some_text answer e = cc
 
-some_refusal : (fault : Fault) → fault_text fault ≡ [] → ⊥
+some_refusal : (fault : MessageFault) → fault_text fault ≡ [] → ⊥
 some_refusal BadHead e = some_text (problem_answer named.BadHead) e
 some_refusal TooLong e = some_text (problem_answer (named.Decision named.TooLong)) e
 

@@ -6,9 +6,9 @@ use Rattle.shop_types.proofs.Common.{Appends, Consumes, Consumes-nil, Appends-ni
 use Rattle.http_messages.specs.Message.{Message}
 use Rattle.http_messages.specs.Input.{HasMessage, HasMessages}
 use Rattle.http_messages.specs.Shown.{IsReading}
-use Rattle.http_messages.specs.declared.messages.Fault.{Fault}
-use Rattle.http_messages.specs.declared.messages.Fault.TheVariants.{BadHead, TooLong}
-use Rattle.http_messages.specs.declared.messages.Reading.TheVariants.{Refused as NoMessage}
+use Rattle.http_messages.specs.declared.messages.MessageFault.{MessageFault}
+use Rattle.http_messages.specs.declared.messages.MessageFault.TheVariants.{BadHead, TooLong}
+use Rattle.http_messages.specs.declared.messages.MessageReading.TheVariants.{Refused as NoMessage}
 use Rattle.http_messages.proofs.StreamLemmas.{HasMessages-append}
 use Rattle.counter_http.specs.Exchanges.{Exchange, text_of, texts, messages_of, GoesOn, HasRun}
 use Rattle.counter_http.specs.Served.{EndsWith, IsRefused, fault_text}
@@ -37,7 +37,7 @@ none_some end ending goes is = absurd (clash (sym goes ∙ is))
     clash : None ≡ Some end → ⊥
     clash e = cc
 
-pub refused_is : (input : List ℕ) (fault : Fault) → IsReading input (NoMessage fault) → IsRefused fault input
+pub refused_is : (input : List ℕ) (fault : MessageFault) → IsReading input (NoMessage fault) → IsRefused fault input
 refused_is input BadHead x = x
 refused_is input TooLong x = x
 
@@ -128,7 +128,7 @@ turn_answer old new Ran input output e empty live has near told one same goes ra
 }
 
 -- a text that is no message was refused
-pub turn_refusal : (old : ConnectionState) (Ran : List Exchange → Type 0) (input output : Option (List ℕ)) (fault : Fault)
+pub turn_refusal : (old : ConnectionState) (Ran : List Exchange → Type 0) (input output : Option (List ℕ)) (fault : MessageFault)
     → MayAnswer old → old.unsent ≡ [] → old.ending ≡ None → IsRefused fault old.inbox → Ran []
     → IsTurn old (record old { unsent = fault_text fault; ending = Some Refused }) Ran input input output output
 turn_refusal old Ran input output fault may empty live refused start = record {

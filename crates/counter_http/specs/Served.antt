@@ -2,8 +2,8 @@
 use Rattle.std.specs.Prelude.{◌≡◌, ◌≢◌, ℕ, ◌+◌, ◌<◌, ◌≤◌, ◌⊎◌, true, false, List, [], ◌∷◌, ◌++◌, length, All, Option}
 use Rattle.std.specs.Io.KnownBytes.{Consumes, Appends, Keeps, IsAtEnd}
 use Rattle.http_messages.specs.Input.{IsBadHead, IsTooLong, IsCut}
-use Rattle.http_messages.specs.declared.messages.Fault.{Fault}
-use Rattle.http_messages.specs.declared.messages.Fault.TheVariants.{BadHead, TooLong}
+use Rattle.http_messages.specs.declared.messages.MessageFault.{MessageFault}
+use Rattle.http_messages.specs.declared.messages.MessageFault.TheVariants.{BadHead, TooLong}
 use Rattle.shop_model.specs.Refusals as named
 use Rattle.shop_model.specs.Answers.{problem_answer}
 use Rattle.shop_model.specs.Histories.{is_store_failure}
@@ -29,12 +29,12 @@ EndsWith after exchanges =
     (front : List Exchange) × (last : Exchange) × (exchanges ≡ front ++ last ∷ []) × All GoesOn front × IsAfter after last
 
 -- the bytes sent for a text that is no message
-abbrev pub fault_text : Fault → List ℕ
+abbrev pub fault_text : MessageFault → List ℕ
 fault_text BadHead = text_of (problem_answer named.BadHead)
 fault_text TooLong = text_of (problem_answer (named.Decision named.TooLong))
 
 -- the rest of what was read is at fault
-abbrev pub IsRefused : Fault → List ℕ → Type 0
+abbrev pub IsRefused : MessageFault → List ℕ → Type 0
 IsRefused BadHead rest = IsBadHead rest
 IsRefused TooLong rest = IsTooLong rest
 
@@ -43,7 +43,7 @@ abbrev pub IsEnd : End → ℕ → List Exchange → Option (List ℕ) → List 
 IsEnd Closed most exchanges left rest last = All GoesOn exchanges × (length exchanges < most) × IsAtEnd left × (rest ≡ []) × (last ≡ [])
 IsEnd Cut most exchanges left rest last = All GoesOn exchanges × (length exchanges < most) × IsAtEnd left × (rest ≢ []) × IsCut rest × (last ≡ [])
 IsEnd Refused most exchanges left rest last =
-    All GoesOn exchanges × (length exchanges < most) × (fault : Fault) × IsRefused fault rest × (last ≡ fault_text fault)
+    All GoesOn exchanges × (length exchanges < most) × (fault : MessageFault) × IsRefused fault rest × (last ≡ fault_text fault)
 IsEnd Limit most exchanges left rest last = All GoesOn exchanges × (length exchanges ≡ most) × (last ≡ [])
 IsEnd Asked most exchanges left rest last = EndsWith Asks exchanges × (length exchanges ≤ most) × (last ≡ [])
 IsEnd StoreFailed most exchanges left rest last = EndsWith Fails exchanges × (length exchanges ≤ most) × (last ≡ [])
@@ -100,7 +100,7 @@ pub record IsWriteFault (replies most : ℕ) (Ran : List Exchange → Type 0) (i
   pub near : length rest ≤ ROOM
   pub unfinished : 0 < length more
   pub cut : ((exchange : Exchange) × (failed ≡ exchange ∷ []) × (text_of exchange.answer ≡ part ++ more))
-      ⊎ ((failed ≡ []) × ((fault : Fault) × IsRefused fault rest × (fault_text fault ≡ part ++ more)))
+      ⊎ ((failed ≡ []) × ((fault : MessageFault) × IsRefused fault rest × (fault_text fault ≡ part ++ more)))
   pub count : replies ≡ length exchanges
   pub few : replies < most
   pub goes : All GoesOn exchanges

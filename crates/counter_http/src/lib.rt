@@ -11,7 +11,9 @@ mod reply;
 mod unsent;
 
 pub use connection::{End, ServeFault, Served, serve};
-pub use http_messages::{Fault, Reading, Request as Message, read_request, write_whole};
+pub use http_messages::{
+    MessageFault, MessageReading, Request as Message, read_request, write_whole,
+};
 pub use laws::{
     branches_are_sent_the_same, connections_are_one_history, connections_are_served_together,
     turns_serve_alike,

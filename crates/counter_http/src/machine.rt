@@ -17,7 +17,7 @@ use crate::inbox::{Inbox, ROOM};
 use crate::unsent::Unsent;
 use chain_engine::Chain;
 use counter_routes::Routes;
-use http_messages::{Fault, Reading, Request, read_request};
+use http_messages::{MessageFault, MessageReading, Request, read_request};
 use shop_types::{OfficeWords, Refusal, Reply};
 use sqlite::Alter;
 use std::alloc::{AllocError, Global};
@@ -106,12 +106,12 @@ fn after_reply(has_failed: bool, request: &Request<'_>) -> After
 }
 
 /// Returns the reply to a text that is no message.
-fn fault_reply(fault: Fault) -> Reply
+fn fault_reply(fault: MessageFault) -> Reply
     ensures { text_of (seen_reply result) ≡ fault_text fault }
 {
     match fault {
-        Fault::BadHead => Reply::refused(Refusal::BadHead),
-        Fault::TooLong => Reply::refused(Refusal::TooLong),
+        MessageFault::BadHead => Reply::refused(Refusal::BadHead),
+        MessageFault::TooLong => Reply::refused(Refusal::TooLong),
     }
 }
 
@@ -217,7 +217,7 @@ impl Connection {
         ensures waits { result ≡ false → (self.new ≡ self.old) × (length self.new.inbox < ROOM) × IsCut self.new.inbox }
     {
         match read_request(self.inbox.bytes()) {
-            Reading::Whole(request, len) => {
+            MessageReading::Whole(request, len) => {
                 let reply = answer(alloc, chain, &board.routes, words, &request);
                 let after = after_reply(chain.is_failed(), &request);
                 self.inbox.consume(len);
@@ -226,8 +226,8 @@ impl Connection {
                 self.replies += 1;
                 true
             }
-            Reading::More => false,
-            Reading::Refused(fault) => {
+            MessageReading::More => false,
+            MessageReading::Refused(fault) => {
                 self.unsent.put(fault_reply(fault));
                 self.ending = Some(End::Refused);
                 true

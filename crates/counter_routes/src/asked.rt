@@ -6,9 +6,9 @@ ghost use Rattle.shop_model.specs.Values.{Command as Written, Ask as Asking, Vie
 ghost use Rattle.shop_types.specs.Seen.{seen_command, seen_ask, seen_view, seen_caller};
 ghost use Rattle.counter_routes.specs.Routes.{route_of};
 ghost use Rattle.counter_routes.specs.Readings.{Reads, command_or_bad, look_or_bad, view_or_no_route, request_at, reading_of, is_command, takes_memory};
-ghost use Rattle.counter_routes.specs.declared.bodies.Fault.TheVariants.{BadBody, NoMemory as OutOfMemory};
+ghost use Rattle.counter_routes.specs.declared.bodies.BodyFault.TheVariants.{BadBody, NoMemory as OutOfMemory};
 
-use crate::bodies::Fault;
+use crate::bodies::BodyFault;
 use crate::commands::body_command;
 use crate::imports::import_command;
 use crate::looks::{look_asked, view_asked};
@@ -25,7 +25,7 @@ pub enum Reading {
 }
 
 /// Returns what a command's message asks: the command, or `bad_body` if the message writes none.
-fn read_command(command: Result<Command, Fault>) -> Result<Reading, NoMemory>
+fn read_command(command: Result<Command, BodyFault>) -> Result<Reading, NoMemory>
     ensures reading { (written : Option Written) → IfOk command (λ c. written ≡ Some (seen_command c))
         → IfErr command (λ fault. fault ≡ BadBody → written ≡ None)
         → IfOk result (λ reading. Reads reading (command_or_bad written)) }
@@ -34,8 +34,8 @@ fn read_command(command: Result<Command, Fault>) -> Result<Reading, NoMemory>
     match command {
         Ok(command) => Ok(Reading::Asked(Request::Do(command))),
         Err(fault) => match fault {
-            Fault::BadBody => Ok(Reading::Refused(Refusal::BadBody)),
-            Fault::NoMemory => Err(NoMemory),
+            BodyFault::BadBody => Ok(Reading::Refused(Refusal::BadBody)),
+            BodyFault::NoMemory => Err(NoMemory),
         },
     }
 }

@@ -6,10 +6,10 @@ ghost use Rattle.shop_types.specs.Seen.{seen_act, seen_command};
 ghost use Rattle.counter_routes.specs.Commands.{member_count, act_at, giver_at, command_in};
 ghost use Rattle.counter_routes.specs.Readings.{written_in};
 ghost use Rattle.counter_routes.specs.Sizes.{size};
-ghost use Rattle.counter_routes.specs.declared.bodies.Fault.TheVariants.{BadBody};
+ghost use Rattle.counter_routes.specs.declared.bodies.BodyFault.TheVariants.{BadBody};
 
 use crate::bodies::{
-    Fault, amount, flag, has_members, key, moment, number, numbers, person, rental_or_none,
+    BodyFault, amount, flag, has_members, key, moment, number, numbers, person, rental_or_none,
     value_of,
 };
 use crate::paths::{Pattern, Route};
@@ -56,7 +56,7 @@ fn member_count(form: CommandForm) -> usize
 }
 
 /// Returns what a command of the form does, by the members that say it.
-fn act(alloc: Global, form: CommandForm, value: &Value) -> Result<Act, Fault>
+fn act(alloc: Global, form: CommandForm, value: &Value) -> Result<Act, BodyFault>
     requires { size (view value.now) ≤ 65_537 }
     ensures ok { IfOk result (λ act. act_at form (view value.now) ≡ Some (seen_act act)) }
     ensures bad { IfErr result (λ fault. fault ≡ BadBody → act_at form (view value.now) ≡ None) }
@@ -93,21 +93,21 @@ fn act(alloc: Global, form: CommandForm, value: &Value) -> Result<Act, Fault>
 }
 
 /// Reads who gives the command, and when, if the body has so many members.
-fn giver(value: &Value, count: usize) -> Result<(StaffNo, Moment), Fault>
+fn giver(value: &Value, count: usize) -> Result<(StaffNo, Moment), BodyFault>
     ensures ok { IfOk result (λ giver. giver_at count (view value.now) ≡ Some giver) }
     ensures bad { IfErr result (λ fault. fault ≡ BadBody → giver_at count (view value.now) ≡ None) }
 {
     if !has_members(value, count) {
-        return Err(Fault::BadBody);
+        return Err(BodyFault::BadBody);
     }
     let staff = number(value, "staff")?;
-    let at = moment(value).ok_or(Fault::BadBody)?;
+    let at = moment(value).ok_or(BodyFault::BadBody)?;
     Ok((staff, at))
 }
 
 /// Returns the command of the form that a value writes.
 #[tactic(auto, unfolding(crate::specs::Commands::command_in))]
-fn command(alloc: Global, form: CommandForm, value: &Value) -> Result<Command, Fault>
+fn command(alloc: Global, form: CommandForm, value: &Value) -> Result<Command, BodyFault>
     requires { size (view value.now) ≤ 65_537 }
     ensures ok { IfOk result (λ command. command_in form (view value.now) ≡ Some (seen_command command)) }
     ensures bad { IfErr result (λ fault. fault ≡ BadBody → command_in form (view value.now) ≡ None) }
@@ -124,7 +124,11 @@ fn command(alloc: Global, form: CommandForm, value: &Value) -> Result<Command, F
 }
 
 /// Returns the command of the form that a body writes.
-pub(crate) fn body_command(alloc: Global, form: CommandForm, body: &[u8]) -> Result<Command, Fault>
+pub(crate) fn body_command(
+    alloc: Global,
+    form: CommandForm,
+    body: &[u8],
+) -> Result<Command, BodyFault>
     requires { length body.now ≤ 65_536 }
     ensures ok { IfOk result (λ command. written_in (command_in form) body.now ≡ Some (seen_command command)) }
     ensures bad { IfErr result (λ fault. fault ≡ BadBody → written_in (command_in form) body.now ≡ None) }

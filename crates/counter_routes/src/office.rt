@@ -7,30 +7,30 @@ ghost use Rattle.shop_types.specs.Seen.{seen_request};
 ghost use Rattle.shop_types.specs.Lines.{seen_line};
 ghost use Rattle.counter_routes.specs.Words.{list_of_texts, texts_of, request_of_line, request_of_words, is_to_office as asks_office};
 ghost use Rattle.counter_routes.specs.Readings.{Reads, office_or_usage, office_request};
-ghost use Rattle.counter_routes.specs.declared.bodies.Fault.TheVariants.{BadBody};
+ghost use Rattle.counter_routes.specs.declared.bodies.BodyFault.TheVariants.{BadBody};
 
 use crate::asked::Reading;
-use crate::bodies::{Fault, value_of};
+use crate::bodies::{BodyFault, value_of};
 use serde_json::Value;
 use shop_types::{Line, LineAct, NoMemory, OfficeWords, Refusal, Request, Usage};
 use std::alloc::Global;
 
 /// Returns the texts that a value lists.
-fn texts(alloc: Global, value: &Value) -> Result<Vec<String>, Fault>
+fn texts(alloc: Global, value: &Value) -> Result<Vec<String>, BodyFault>
     ensures ok { IfOk result (λ texts. list_of_texts (view value.now) ≡ Some (map string_bytes texts.items)) }
     ensures bad { IfErr result (λ fault. fault ≡ BadBody → list_of_texts (view value.now) ≡ None) }
 {
-    let items = value.as_array().ok_or(Fault::BadBody)?;
+    let items = value.as_array().ok_or(BodyFault::BadBody)?;
     let mut texts = Vec::with_capacity(alloc, items.len())?;
     for item in items {
-        let text = item.as_str().ok_or(Fault::BadBody)?;
+        let text = item.as_str().ok_or(BodyFault::BadBody)?;
         texts.push_reserved(String::from_str(alloc, text)?);
     }
     Ok(texts)
 }
 
 /// Returns the texts that a body lists.
-fn body_texts(alloc: Global, body: &[u8]) -> Result<Vec<String>, Fault>
+fn body_texts(alloc: Global, body: &[u8]) -> Result<Vec<String>, BodyFault>
     ensures ok { IfOk result (λ texts. texts_of body.now ≡ Some (map string_bytes texts.items)) }
     ensures bad { IfErr result (λ fault. fault ≡ BadBody → texts_of body.now ≡ None) }
 {
@@ -97,8 +97,8 @@ pub(crate) fn read_office<O: OfficeWords>(
     match body_texts(alloc, message.body) {
         Ok(texts) => read_words(words, texts.as_slice()),
         Err(fault) => match fault {
-            Fault::BadBody => Ok(Reading::Refused(Refusal::BadBody)),
-            Fault::NoMemory => Err(NoMemory),
+            BodyFault::BadBody => Ok(Reading::Refused(Refusal::BadBody)),
+            BodyFault::NoMemory => Err(NoMemory),
         },
     }
 }

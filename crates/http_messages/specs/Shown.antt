@@ -6,12 +6,12 @@ use Rattle.httparse.specs.declared.spans.HeaderSpan.{HeaderSpan}
 use Rattle.httparse.specs.declared.spans.RequestSpans.{RequestSpans}
 use Rattle.http_messages.specs.Message.{Message, pairs_of}
 use Rattle.http_messages.specs.Input.{HasHead, HasMessage, IsBadHead, IsTooLong, IsCut}
-use Rattle.http_messages.specs.declared.fields.Found.{Found}
-use Rattle.http_messages.specs.declared.fields.Found.TheVariants.{Absent, One, Many}
+use Rattle.http_messages.specs.declared.fields.FieldValues.{FieldValues}
+use Rattle.http_messages.specs.declared.fields.FieldValues.TheVariants.{Absent, One, Many}
 use Rattle.http_messages.specs.declared.messages.Request.{Request}
-use Rattle.http_messages.specs.declared.messages.Fault.TheVariants.{BadHead, TooLong}
-use Rattle.http_messages.specs.declared.messages.Reading.{Reading}
-use Rattle.http_messages.specs.declared.messages.Reading.TheVariants.{Whole, More, Refused}
+use Rattle.http_messages.specs.declared.messages.MessageFault.TheVariants.{BadHead, TooLong}
+use Rattle.http_messages.specs.declared.messages.MessageReading.{MessageReading}
+use Rattle.http_messages.specs.declared.messages.MessageReading.TheVariants.{Whole, More, Refused}
 
 -- the message that a request's slices show
 abbrev pub message_of : Request → Message
@@ -24,14 +24,14 @@ message_of r = record {
 }
 
 -- how many values there are, and which if there is one
-abbrev pub IsFound : Found → List (List ℕ) → Type 0
+abbrev pub IsFound : FieldValues → List (List ℕ) → Type 0
 IsFound Absent values = values ≡ []
 IsFound (One v) values = values ≡ v.now ∷ []
 IsFound Many values = 1 < length values
 
 -- What the bytes so far are. More is answered for fewer bytes than the longest request has, 8,192 and 65,536,
 -- so a buffer of that size never has to grow.
-abbrev pub IsReading : List ℕ → Reading → Type 0
+abbrev pub IsReading : List ℕ → MessageReading → Type 0
 IsReading input (Whole request len) =
     (len ≤ length input) × HasMessage input (message_of request) (drop len input)
 IsReading input More = (length input < 73728) × IsCut input

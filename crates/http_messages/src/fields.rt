@@ -13,21 +13,21 @@ use shop_types::decimal;
 
 /// The values of the fields of one name.
 #[derive(Clone, Copy)]
-pub(crate) enum Found<'b> {
+pub(crate) enum FieldValues<'b> {
     Absent,
     One(&'b [u8]),
     Many,
 }
 
-impl<'b> Found<'b> {
+impl<'b> FieldValues<'b> {
     /// Returns what is found with one more value.
-    fn and(self, value: &'b [u8]) -> Found<'b>
+    fn and(self, value: &'b [u8]) -> FieldValues<'b>
         ensures { (values : List (List ℕ))
             → IsFound self.entry values → IsFound result (values ++ value.now ∷ []) }
     {
         match self {
-            Found::Absent => Found::One(value),
-            Found::One(_) | Found::Many => Found::Many,
+            FieldValues::Absent => FieldValues::One(value),
+            FieldValues::One(_) | FieldValues::Many => FieldValues::Many,
         }
     }
 }
@@ -38,11 +38,11 @@ fn is_named(name: &[u8], wanted: &[u8]) -> bool
     name.eq_ignore_ascii_case(wanted)
 }
 
-fn find<'b>(bytes: &'b [u8], headers: &[HeaderSpan], name: &[u8]) -> Found<'b>
+fn find<'b>(bytes: &'b [u8], headers: &[HeaderSpan], name: &[u8]) -> FieldValues<'b>
     requires { All (IsHeaderWithin (length bytes.now)) headers.now }
     ensures { IsFound result (values_of name.now (map (header_bytes bytes.now) headers.now)) }
 {
-    let mut found = Found::Absent;
+    let mut found = FieldValues::Absent;
     for header in headers {
         if is_named(header.name.of(bytes), name) {
             found = found.and(header.value.of(bytes));
@@ -71,13 +71,13 @@ pub(crate) fn size_of_body(bytes: &[u8], method: &[u8], headers: &[HeaderSpan]) 
     if !is_get_method(method) && !is_post_method(method) {
         return None;
     }
-    let Found::Absent = find(bytes, headers, b"transfer-encoding") else {
+    let FieldValues::Absent = find(bytes, headers, b"transfer-encoding") else {
         return None;
     };
     match find(bytes, headers, b"content-length") {
-        Found::Absent => Some(0),
-        Found::One(value) => decimal(value),
-        Found::Many => None,
+        FieldValues::Absent => Some(0),
+        FieldValues::One(value) => decimal(value),
+        FieldValues::Many => None,
     }
 }
 
@@ -101,7 +101,7 @@ pub(crate) fn token_of<'b>(bytes: &'b [u8], headers: &[HeaderSpan]) -> Option<&'
         option_map (λ t. t.now) result ≡ only_one (values_of (codes "counter-token") pairs) }
 {
     match find(bytes, headers, b"counter-token") {
-        Found::One(value) => Some(value),
-        Found::Absent | Found::Many => None,
+        FieldValues::One(value) => Some(value),
+        FieldValues::Absent | FieldValues::Many => None,
     }
 }

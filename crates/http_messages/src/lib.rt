@@ -14,7 +14,8 @@ mod writes;
 
 pub use lists::part;
 pub use messages::{
-    BODY_LIMIT, FIELD_LIMIT, Fault, HEAD_LIMIT, Reading, Request, one_reading, read_request,
+    BODY_LIMIT, FIELD_LIMIT, HEAD_LIMIT, MessageFault, MessageReading, Request, one_reading,
+    read_request,
 };
 pub use replies::{REPLY_HEAD_ROOM, reply_head};
 pub use writes::{write_part, write_whole};

@@ -38,7 +38,7 @@ pub struct Request<'b> {
 
 /// Why no more of an input is read.
 #[derive(Clone, Copy, Debug)]
-pub enum Fault {
+pub enum MessageFault {
     /// `bad_head`: no head of HTTP/1.x with at most 32 fields can begin so, or the method is neither
     /// GET nor POST. Or there is a `transfer-encoding` field, more than one `content-length`, or one
     /// that isn't 1 to 19 digits.
@@ -49,13 +49,13 @@ pub enum Fault {
 
 /// The outcome of reading the bytes so far.
 #[derive(Clone, Copy)]
-pub enum Reading<'b> {
+pub enum MessageReading<'b> {
     /// A whole request, and the count of its bytes. The next request begins after them.
     Whole(Request<'b>, usize),
     /// The start of a request, or no byte at all.
     More,
     /// No bytes that follow can complete these bytes to a request.
-    Refused(Fault),
+    Refused(MessageFault),
 }
 
 /// Reads what follows a head.
@@ -64,7 +64,7 @@ fn read_body<'b>(
     window: &'b [u8],
     head: RequestSpans,
     headers: &[HeaderSpan],
-) -> Reading<'b>
+) -> MessageReading<'b>
     requires method { IsWithin (length window.now) head.method }
     requires path { IsWithin (length window.now) head.path }
     requires headers { All (IsHeaderWithin (length window.now)) headers.now }
@@ -73,15 +73,15 @@ fn read_body<'b>(
 {
     let method = head.method.of(window);
     let Some(size) = size_of_body(window, method, headers) else {
-        return Reading::Refused(Fault::BadHead);
+        return MessageReading::Refused(MessageFault::BadHead);
     };
     if size > BODY_LIMIT {
-        return Reading::Refused(Fault::TooLong);
+        return MessageReading::Refused(MessageFault::TooLong);
     }
     let size = size as usize;
     let rest = &input[head.len..];
     if rest.len() < size {
-        return Reading::More;
+        return MessageReading::More;
     }
     let request = Request {
         posts: is_post_method(method),
@@ -90,7 +90,7 @@ fn read_body<'b>(
         closes: head.version == 0 || connection_closes(window, headers),
         body: &rest[..size],
     };
-    Reading::Whole(request, head.len + size)
+    MessageReading::Whole(request, head.len + size)
 }
 
 /// Finds out what the bytes of a connection after the last request are so far: a whole request at their front, the
@@ -99,16 +99,16 @@ fn read_body<'b>(
 /// A head is one of RFC 9112 as `httparse` reads it in its default configuration, within the limits
 /// of our own profile. It is left open whether bytes that end inside a target that isn't UTF-8, or
 /// inside or after a 33rd field, are a fault already.
-pub fn read_request(input: &[u8]) -> Reading<'_>
+pub fn read_request(input: &[u8]) -> MessageReading<'_>
     ensures { IsReading input.now result }
 {
     let mut headers = [EMPTY_HEADER_SPAN; FIELD_LIMIT];
     let window = &input[..input.len().min(HEAD_LIMIT)];
     match parse_request(window, &mut headers) {
         Ok(Status::Complete(head)) => read_body(input, window, head, &headers[..head.headers]),
-        Ok(Status::Partial) if input.len() < HEAD_LIMIT => Reading::More,
-        Ok(Status::Partial) => Reading::Refused(Fault::TooLong),
-        Err(_) => Reading::Refused(Fault::BadHead),
+        Ok(Status::Partial) if input.len() < HEAD_LIMIT => MessageReading::More,
+        Ok(Status::Partial) => MessageReading::Refused(MessageFault::TooLong),
+        Err(_) => MessageReading::Refused(MessageFault::BadHead),
     }
 }
 

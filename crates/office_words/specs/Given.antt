@@ -1,11 +1,12 @@
 -- What the options of a subcommand say, each as a value of its kind. An option that is missing or isn't of its kind gives none.
 use Rattle.std.specs.Prelude.{ℕ, ◌^◌, ◌&&◌, ◌==◌, List, Option, Some, None}
-use Rattle.std.specs.Prelude.{option_map, codes, find, [], ◌∷◌, if◌then◌else◌, nat_lt, nat_le}
+use Rattle.std.specs.Prelude.{option_map, codes, find, [], ◌∷◌, if◌then◌else◌, nat_lt}
 use Rattle.std.specs.Str.{bytes_eq}
 use Rattle.std.specs.Str.Parse.{digits_value, without_leading_plus}
 use Rattle.clap.specs.ValueTests.{is_numeral}
 use Rattle.clap.specs.Words.{Row, Text, first_of, one_of}
 use Rattle.shop_model.specs.OfficeActs.{rule_name}
+use Rattle.shop_types.specs.Numbers.{number_within}
 use Rattle.shop_types.specs.Texts.{is_key}
 use Rattle.shop_types.specs.declared.film.Rating.{Rating}
 use Rattle.shop_types.specs.declared.film.Features.{Features}
@@ -49,18 +50,18 @@ abbrev pub row_given : Text → List Row → Option ℕ
 row_given id rows = with_value (number_given 32 id rows) (λ n. if n == 0 then None else Some n)
 
 abbrev pub rate_given : List Row → Option ℕ
-rate_given rows = with_value (number_given 16 (codes "rate") rows) (λ n. if nat_le n 9_999 then Some n else None)
+rate_given rows = with_value (number_given 16 (codes "rate") rows) (number_within 0 9_999)
 
 abbrev pub replacement_given : List Row → Option ℕ
-replacement_given rows = with_value (number_given 32 (codes "replacement") rows) (λ n. if nat_le n 99_999 then Some n else None)
+replacement_given rows = with_value (number_given 32 (codes "replacement") rows) (number_within 0 99_999)
 
 abbrev pub period_given : List Row → Option ℕ
-period_given rows = with_value (number_given 8 (codes "period") rows) (λ n. if nat_lt 0 n then Some n else None)
+period_given rows = with_value (number_given 8 (codes "period") rows) (number_within 1 255)
 
 abbrev pub minutes_from : Option Text → List Row → Option (Option ℕ)
 minutes_from None rows = Some None
 minutes_from (Some text) rows =
-    option_map Some (with_value (number_given 16 (codes "length") rows) (λ n. if nat_lt 0 n then Some n else None))
+    option_map Some (with_value (number_given 16 (codes "length") rows) (number_within 1 65_535))
 
 -- the length of a film, which may be left out
 abbrev pub minutes_given : List Row → Option (Option ℕ)

@@ -195,7 +195,7 @@ pub(crate) fn row<const KIND: u8>(
 fn read_rate(given: &ArgMatches<'_>) -> Option<Rate>
     ensures { result ≡ rate_given (values_of given.now) }
 {
-    Rate::new(u16_of(given, "rate")?)
+    Rate::new(u32::from(u16_of(given, "rate")?))
 }
 
 pub(crate) fn rate(alloc: Global, given: &ArgMatches<'_>) -> Result<Rate, Usage>
@@ -221,7 +221,7 @@ pub(crate) fn replacement(alloc: Global, given: &ArgMatches<'_>) -> Result<Amoun
 fn read_period(given: &ArgMatches<'_>) -> Option<Period>
     ensures { result ≡ period_given (values_of given.now) }
 {
-    Period::new(u8_of(given, "period")?)
+    Period::new(u32::from(u8_of(given, "period")?))
 }
 
 pub(crate) fn period(alloc: Global, given: &ArgMatches<'_>) -> Result<Period, Usage>
@@ -237,7 +237,7 @@ fn read_minutes(given: &ArgMatches<'_>) -> Option<Option<Minutes>>
     let Some(_) = str_of(given, "length") else {
         return Some(None);
     };
-    Some(Some(Minutes::new(u16_of(given, "length")?)?))
+    Some(Some(Minutes::new(u32::from(u16_of(given, "length")?))?))
 }
 
 /// Returns the length of a film, which may be left out.

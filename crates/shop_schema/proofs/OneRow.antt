@@ -86,7 +86,6 @@ same_number_or_null = same_or_null number_value (λ n h. cc) same_number
 pub same_value : (k : Kind) (x y : Held k) → Fits k x → Fits k y → value_of k x ≡ value_of k y → x ≡ y
 same_value kind.Number x y p q h = cc
 same_value (kind.Within low high) x y p q h = cc
-same_value (kind.AtMost high) x y p q h = cc
 same_value (kind.Below bound) x y p q h = cc
 same_value kind.Place x y p q h = cc
 same_value kind.Version x y p q h = refl

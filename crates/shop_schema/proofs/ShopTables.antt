@@ -1,5 +1,6 @@
 -- The tables of the shop, each as one value.
-use Rattle.shop_schema.proofs.Common.{◌≡◌, ◌||◌, ℕ, List, [], ◌∷◌, Bool, true, false, true≢false, refl, sym, codes, bytes_eq, rating_text, features_text}
+use Rattle.shop_schema.proofs.Common.{◌≡◌, ◌≤◌, ◌||◌, arith, ℕ, List, [], ◌∷◌, Bool, true, false, true≢false, refl, sym, codes, bytes_eq, rating_text}
+use Rattle.shop_schema.proofs.Common.{features_text}
 use Rattle.shop_schema.proofs.Common.{seen_rule, seen_state, Rating, chain_columns, rule_columns, named_columns, city_columns, actor_columns, film_columns}
 use Rattle.shop_schema.proofs.Common.{cast_columns, staff_columns, customer_columns, copy_columns, rental_columns, terms_columns, payment_columns, lot_columns}
 use Rattle.shop_schema.proofs.Common.{IsName, IsToken, IsRating, IsCity, IsActor, IsFilm, IsCast, IsStaff, IsRow, IsCustomer, IsCopy, IsRental, IsTerms}
@@ -92,9 +93,13 @@ actors = record {
   only = λ it h. ((it.0, (it.1.first, (it.1.last, tt))), (h.0, (h.1.0, (h.1.1, tt))), refl);
 }
 
+-- a number has no lower bound but 0
+pub at_least : {n high : ℕ} → n ≤ high → (0 ≤ n) × (n ≤ high)
+at_least low = (omega arith, low)
+
 abbrev pub films : TableOf film_columns (IsShared IsFilm)
 films = record {
-  kinds = kind.Number ∷ kind.Text 1 128 ∷ kind.Text 0 500 ∷ kind.Number ∷ kind.Number ∷ kind.Within 1 255 ∷ kind.AtMost 9_999 ∷ kind.AtMost 99_999
+  kinds = kind.Number ∷ kind.Text 1 128 ∷ kind.Text 0 500 ∷ kind.Number ∷ kind.Number ∷ kind.Within 1 255 ∷ kind.Within 0 9_999 ∷ kind.Within 0 99_999
       ∷ kind.WithinOrNull 1 65_535 ∷ kind.Rating ∷ kind.Features ∷ kind.Flag ∷ [];
   from = λ (number, (title, (description, (language, (category, (period, (rate, (replacement, (minutes, (rating, (features, (withdrawn, z)))))))))))). (
     number,
@@ -121,8 +126,8 @@ films = record {
       language = h.1.1.1.0;
       category = h.1.1.1.1.0;
       period = h.1.1.1.1.1.0;
-      rate = h.1.1.1.1.1.1.0;
-      replacement = h.1.1.1.1.1.1.1.0;
+      rate = h.1.1.1.1.1.1.0.1;
+      replacement = h.1.1.1.1.1.1.1.0.1;
       minutes = h.1.1.1.1.1.1.1.1.0;
       rating = rating_fits v.1.1.1.1.1.1.1.1.1.0;
       features = (v.1.1.1.1.1.1.1.1.1.1.0, refl);
@@ -146,7 +151,13 @@ films = record {
             ),
           ),
         ),
-        (h.0, (is.title, (is.description, (is.language, (is.category, (is.period, (is.rate, (is.replacement, (is.minutes, (tt, (tt, (tt, tt)))))))))))),
+        (
+          h.0,
+          (
+            is.title,
+            (is.description, (is.language, (is.category, (is.period, (at_least is.rate, (at_least is.replacement, (is.minutes, (tt, (tt, (tt, tt)))))))))),
+          ),
+        ),
         (λ i. (it.0, record film { rating = rated.1 i; features = featured.1 i })),
       );
 }
@@ -251,30 +262,30 @@ rentals = record {
 
 abbrev pub terms : TableOf terms_columns (IsRow IsTerms)
 terms = record {
-  kinds = kind.Number ∷ kind.Number ∷ kind.AtMost 9_999 ∷ kind.Within 1 255 ∷ kind.AtMost 99_999 ∷ [];
+  kinds = kind.Number ∷ kind.Number ∷ kind.Within 0 9_999 ∷ kind.Within 1 255 ∷ kind.Within 0 99_999 ∷ [];
   from = λ (branch, (number, (rate, (period, (replacement, z))))).
       record { branch = branch; number = number; it = record { rate = rate; period = period; replacement = replacement } };
   told = λ v. refl;
-  ones = λ v h. (h.0, h.1.0, record { rate = h.1.1.0; period = h.1.1.1.0; replacement = h.1.1.1.1.0 });
+  ones = λ v h. (h.0, h.1.0, record { rate = h.1.1.0.1; period = h.1.1.1.0; replacement = h.1.1.1.1.0.1 });
   only = λ row h. (
     (row.branch, (row.number, (row.it.rate, (row.it.period, (row.it.replacement, tt))))),
-    (h.0, (h.1, (h.2.rate, (h.2.period, (h.2.replacement, tt))))),
+    (h.0, (h.1, (at_least h.2.rate, (h.2.period, (at_least h.2.replacement, tt))))),
     refl,
   );
 }
 
 abbrev pub payments : TableOf payment_columns (IsRow IsPayment)
 payments = record {
-  kinds = kind.Number ∷ kind.Number ∷ kind.Number ∷ kind.Number ∷ kind.NumberOrNull ∷ kind.AtMost 99_999 ∷ kind.Moment ∷ [];
+  kinds = kind.Number ∷ kind.Number ∷ kind.Number ∷ kind.Number ∷ kind.NumberOrNull ∷ kind.Within 0 99_999 ∷ kind.Moment ∷ [];
   from = λ (branch, (number, (customer, (staff, (rental, (amount, (paid, z))))))).
       record { branch = branch; number = number; it = record { customer = customer; staff = staff; rental = rental; amount = amount; paid = paid } };
   told = λ v. refl;
-  ones = λ v h. (h.0, h.1.0, record { customer = h.1.1.0; staff = h.1.1.1.0; rental = h.1.1.1.1.0; amount = h.1.1.1.1.1.0; paid = h.1.1.1.1.1.1.0 });
+  ones = λ v h. (h.0, h.1.0, record { customer = h.1.1.0; staff = h.1.1.1.0; rental = h.1.1.1.1.0; amount = h.1.1.1.1.1.0.1; paid = h.1.1.1.1.1.1.0 });
   only = λ row h.
       let it = row.it in
       let is = h.2 in (
         (row.branch, (row.number, (it.customer, (it.staff, (it.rental, (it.amount, (it.paid, tt))))))),
-        (h.0, (h.1, (is.customer, (is.staff, (is.rental, (is.amount, (is.paid, tt))))))),
+        (h.0, (h.1, (is.customer, (is.staff, (is.rental, (at_least is.amount, (is.paid, tt))))))),
         refl,
       );
 }

@@ -20,7 +20,6 @@ use Rattle.shop_schema.specs.RowValues.{IsNumber, IsText, IsKey, IsToken, IsPlac
 pub data Kind : Type 0 where
   Number : Kind  -- of a row
   Within : ℕ → ℕ → Kind  -- from the one to the other
-  AtMost : ℕ → Kind
   Below : ℕ → Kind
   Place : Kind  -- in the order of dispatch
   Version : Kind  -- of these tables
@@ -44,7 +43,6 @@ pub data Kind : Type 0 where
 abbrev pub Held : Kind → Type 0
 Held Number = ℕ
 Held (Within low high) = ℕ
-Held (AtMost high) = ℕ
 Held (Below bound) = ℕ
 Held Place = ℕ
 Held Version = ThisVersion
@@ -68,7 +66,6 @@ Held MomentOrNull = Option calendar.Moment
 abbrev pub value_of : (k : Kind) → Held k → Value
 value_of Number n = number_value n
 value_of (Within low high) n = number_value n
-value_of (AtMost high) n = number_value n
 value_of (Below bound) n = number_value n
 value_of Place n = number_value n
 value_of Version x = number_value 2
@@ -92,7 +89,6 @@ value_of MomentOrNull o = or_null moment_value o
 abbrev pub Fits : (k : Kind) → Held k → Type 0
 Fits Number n = IsNumber n
 Fits (Within low high) n = (low ≤ n) × (n ≤ high)
-Fits (AtMost high) n = n ≤ high
 Fits (Below bound) n = n < bound
 Fits Place n = IsPlace n
 Fits Version x = ⊤

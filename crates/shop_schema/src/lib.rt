@@ -27,8 +27,8 @@ pub use moment_text::MomentText;
 pub use office_forms::{office_form, office_values};
 pub use place::DispatchPlace;
 pub use read::{
-    first_of, moment_at, moment_or_null_at, query_first, row_number_at, row_number_or_null_at,
-    row_numbers_in, text_at,
+    bounded_at, first_of, moment_at, moment_or_null_at, query_first, row_number_at,
+    row_number_or_null_at, row_numbers_in, text_at,
 };
 pub use same_tables::same_schema;
 pub use shop_cells::ThisVersion;

@@ -20,7 +20,7 @@ fn add_minutes(form: &mut Vec<u8>, minutes: Option<Minutes>) -> Result<(), NoMem
     match minutes {
         Some(minutes) => {
             add_number(form, 1)?;
-            add_number(form, minutes.get() as u32)
+            add_number(form, minutes.get())
         }
         None => add_number(form, 0),
     }
@@ -44,8 +44,8 @@ fn add_terms(form: &mut Vec<u8>, film: &Film) -> Result<(), NoMemory>
     ensures { OnOk result (form.new.items ≡ form.old.items ++
         joined (number_form film.now.period ∷ number_form film.now.rate ∷ number_form film.now.replacement ∷ [])) }
 {
-    add_number(form, film.period.get() as u32)?;
-    add_number(form, film.rate.get() as u32)?;
+    add_number(form, film.period.get())?;
+    add_number(form, film.rate.get())?;
     add_number(form, film.replacement.get())
 }
 
@@ -102,7 +102,7 @@ fn add_office_act(form: &mut Vec<u8>, act: &OfficeAct) -> Result<(), NoMemory>
             form.extend_from_slice(&[6])?;
             add_film(form, film)
         }
-        OfficeAct::Price { film, rate } => add_pair(form, 7, film.get(), rate.get() as u32),
+        OfficeAct::Price { film, rate } => add_pair(form, 7, film.get(), rate.get()),
         OfficeAct::Withdraw(film) => add_one(form, 8, film.get()),
         OfficeAct::Cast { film, actor } => add_pair(form, 9, film.get(), actor.get()),
         OfficeAct::Branch(branch) => {

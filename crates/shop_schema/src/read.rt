@@ -1,7 +1,7 @@
 //! Columns read as the shop's values, and the first row of an answer. Where a column holds no such value, the fault
 //! is `Failed`.
 
-ghost use Rattle.std.specs.Prelude.{◌≡◌, ◌≢◌, ◌<◌, ℕ, Option, List, Ok, Err, length, map, IfOk, IfErr, IfSome};
+ghost use Rattle.std.specs.Prelude.{◌≡◌, ◌≢◌, ◌<◌, ◌≤◌, ℕ, Option, List, Ok, Err, length, map, IfOk, IfErr, IfSome};
 ghost use Rattle.std.specs.Fn.{FnReturnsAt};
 ghost use Rattle.sqlite.specs.declared.types.Value.TheVariants.{Text as SqlText};
 ghost use Rattle.sqlite.specs.Held.{state};
@@ -16,7 +16,7 @@ ghost use Rattle.shop_model.specs.Calendar.{Moment as Civil, IsMoment};
 ghost use Rattle.shop_schema.specs.First.{TellsFirst};
 ghost use Rattle.shop_schema.specs.RowValues.{IsNumber, IsText, moment_value};
 
-use shop_types::{Moment, RowNumber, Text};
+use shop_types::{Bounded, Moment, RowNumber, Text};
 use sql_rows::{StoreFault, number_at, number_or_null_at, query, words_at, words_or_null_at};
 use sqlite::types::ValueRef;
 use sqlite::{Alter, Row, Transaction};
@@ -30,6 +30,22 @@ pub fn row_number_at<const KIND: u8>(row: &Row, at: usize) -> Result<RowNumber<K
         → column row.now at ≢ number_value n) }
 {
     match RowNumber::new(number_at(row, at)?) {
+        Some(number) => Ok(number),
+        None => Err(StoreFault::Failed),
+    }
+}
+
+/// Returns the number from LOW to HIGH in the column.
+pub fn bounded_at<const LOW: u32, const HIGH: u32>(
+    row: &Row,
+    at: usize,
+) -> Result<Bounded<LOW, HIGH>, StoreFault>
+    ensures ok { IfOk result (λ n. column row.now at ≡ number_value n) }
+    ensures value { IfOk result (λ n. (LOW ≤ n) × (n ≤ HIGH)) }
+    ensures failed { IfErr result (λ e. e ≡ Failed → (n : ℕ) → LOW ≤ n → n ≤ HIGH → at < length row.now
+        → column row.now at ≢ number_value n) }
+{
+    match Bounded::new(number_at(row, at)?) {
         Some(number) => Ok(number),
         None => Err(StoreFault::Failed),
     }

@@ -12,10 +12,9 @@ ghost use Rattle.shop_schema.specs.RowValues.{IsNumber, IsText, IsKey, IsToken, 
 
 use crate::cells::Cell;
 use crate::place::DispatchPlace;
-use crate::read::{moment_at, row_number_at, text_at};
+use crate::read::{bounded_at, moment_at, row_number_at, text_at};
 use shop_types::{
-    Amount, CopyState, Features, LineState, Minutes, Moment, Name, Period, Rate, Rating, RowNumber,
-    Rule, Text, Token,
+    Bounded, CopyState, Features, LineState, Moment, Name, Rating, RowNumber, Rule, Text, Token,
 };
 use sql_rows::{StoreFault, fault_of, number_at, words_at};
 use sqlite::Row;
@@ -84,64 +83,13 @@ impl Cell for Moment {
     }
 }
 
-impl Cell for Amount {
+impl<const LOW: u32, const HIGH: u32> Cell for Bounded<LOW, HIGH> {
     ghost value = { number_value };
 
-    ghost fits = { λ n. n ≤ 99_999 };
+    ghost fits = { λ n. (LOW ≤ n) × (n ≤ HIGH) };
 
-    fn read_at(row: &Row, at: usize) -> Result<Amount, StoreFault> {
-        match Amount::new(number_at(row, at)?) {
-            Some(amount) => Ok(amount),
-            None => Err(StoreFault::Failed),
-        }
-    }
-}
-
-impl Cell for Rate {
-    ghost value = { number_value };
-
-    ghost fits = { λ n. n ≤ 9_999 };
-
-    fn read_at(row: &Row, at: usize) -> Result<Rate, StoreFault> {
-        let Ok(cents) = u16::try_from(number_at(row, at)?) else {
-            return Err(StoreFault::Failed);
-        };
-        match Rate::new(cents) {
-            Some(rate) => Ok(rate),
-            None => Err(StoreFault::Failed),
-        }
-    }
-}
-
-impl Cell for Period {
-    ghost value = { number_value };
-
-    ghost fits = { λ n. (1 ≤ n) × (n ≤ 255) };
-
-    fn read_at(row: &Row, at: usize) -> Result<Period, StoreFault> {
-        let Ok(days) = u8::try_from(number_at(row, at)?) else {
-            return Err(StoreFault::Failed);
-        };
-        match Period::new(days) {
-            Some(period) => Ok(period),
-            None => Err(StoreFault::Failed),
-        }
-    }
-}
-
-impl Cell for Minutes {
-    ghost value = { number_value };
-
-    ghost fits = { λ n. (1 ≤ n) × (n ≤ 65_535) };
-
-    fn read_at(row: &Row, at: usize) -> Result<Minutes, StoreFault> {
-        let Ok(minutes) = u16::try_from(number_at(row, at)?) else {
-            return Err(StoreFault::Failed);
-        };
-        match Minutes::new(minutes) {
-            Some(minutes) => Ok(minutes),
-            None => Err(StoreFault::Failed),
-        }
+    fn read_at(row: &Row, at: usize) -> Result<Bounded<LOW, HIGH>, StoreFault> {
+        bounded_at(row, at)
     }
 }
 

@@ -1,8 +1,12 @@
--- The numbers of rows, and how they are written.
+-- Numbers in a range, the numbers of rows, and how these are written.
 use Rattle.std.specs.Prelude.{ℕ, ◌^◌, ◌&&◌, ◌==◌, Bool, not, nat_lt, nat_le, List, length, slice_index, Option, Some, None, if◌then◌else◌}
 use Rattle.std.specs.List.{list_all}
 use Rattle.std.specs.Char.{is_ascii_digit}
 use Rattle.std.specs.Str.Parse.{digits_value}
+
+-- the number, if it is from `low` to `high`
+abbrev pub number_within : ℕ → ℕ → ℕ → Option ℕ
+number_within low high n = if nat_le low n && nat_le n high then Some n else None
 
 -- a number that a row can have: from 1 to 4,294,967,295
 abbrev pub is_row_number : ℕ → Bool

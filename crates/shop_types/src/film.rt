@@ -3,76 +3,8 @@ ghost use Rattle.shop_types.specs.declared.film.Rating.{Rating};
 ghost use Rattle.shop_types.specs.declared.film.Features.{Features};
 ghost use Rattle.shop_types.specs.Films.{rating_text, rating_of, features_text, features_of};
 
-use crate::{Amount, CategoryNo, L500, LanguageNo, Rate, T128};
+use crate::{Amount, CategoryNo, L500, LanguageNo, Minutes, Period, Rate, T128};
 use std::marker::Model;
-
-/// How many days a film may be kept, from 1 to 255.
-#[derive(Clone, Copy)]
-pub struct Period(u8);
-
-impl Model for Period {
-    ghost use Rattle.std.specs.Prelude.{ℕ, ◌≤◌};
-
-    ghost Value = { ℕ };
-
-    ghost view = { λ a. a.0 };
-
-    ghost invariant = { λ a. 1 ≤ a.0 };
-
-    ghost inverse = { λ days. record { 0 = days } };
-}
-
-impl Period {
-    /// Returns the period, or none if it is 0.
-    pub fn new(days: u8) -> Option<Period>
-        ensures { result ≡ (if nat_lt 0 days then Some days else None) }
-    {
-        if 0 < days { Some(Period(days)) } else { None }
-    }
-
-    pub fn get(self) -> u8
-        ensures value { result ≡ self }
-        ensures bound { 1 ≤ result }
-    {
-        self.0
-    }
-}
-
-/// How long a film is, from 1 to 65,535 minutes.
-#[derive(Clone, Copy)]
-pub struct Minutes(u16);
-
-impl Model for Minutes {
-    ghost use Rattle.std.specs.Prelude.{ℕ, ◌≤◌};
-
-    ghost Value = { ℕ };
-
-    ghost view = { λ a. a.0 };
-
-    ghost invariant = { λ a. 1 ≤ a.0 };
-
-    ghost inverse = { λ minutes. record { 0 = minutes } };
-}
-
-impl Minutes {
-    /// Returns the length, or none if it is 0.
-    pub fn new(minutes: u16) -> Option<Minutes>
-        ensures { result ≡ (if nat_lt 0 minutes then Some minutes else None) }
-    {
-        if 0 < minutes {
-            Some(Minutes(minutes))
-        } else {
-            None
-        }
-    }
-
-    pub fn get(self) -> u16
-        ensures value { result ≡ self }
-        ensures bound { 1 ≤ result }
-    {
-        self.0
-    }
-}
 
 /// For whom a film is meant: the ratings of the Sakila sample database.
 #[derive(Clone, Copy)]

@@ -3,6 +3,7 @@
 #![tactic(auto)]
 
 mod audit;
+mod bounded;
 mod catalogue;
 mod change;
 mod command;
@@ -33,18 +34,19 @@ mod token;
 mod words;
 
 pub use audit::Audit;
+pub use bounded::{Amount, Bounded, Minutes, Period, Rate};
 pub use catalogue::{Actor, Branch, City, Staff};
 pub use change::Change;
 pub use command::{Act, Command};
 pub use custody::{CopyState, LineState, Mark, Place, is_here};
 pub use digits::decimal;
-pub use film::{Features, Film, Minutes, Period, Rating};
+pub use film::{Features, Film, Rating};
 pub use found::{KeptFound, StaffFound};
 pub use key::{Key, LotName, Name};
 pub use limits::Limits;
 pub use line::{Line, LineAct, Usage};
 pub use moment::{Moment, moment_texts_are_one_to_one};
-pub use money::{Amount, Cents, Rate};
+pub use money::Cents;
 pub use no_memory::NoMemory;
 pub use numbers::{CopyNos, LineNos, Numbers};
 pub use office::{OfficeAct, OfficeCommand};

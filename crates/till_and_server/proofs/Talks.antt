@@ -7,8 +7,8 @@ use Rattle.httparse.specs.Grammar.{print_blank, print_version, print_end, print_
 use Rattle.httparse.proofs.GrammarLemmas.{print_request-append}
 use Rattle.http_messages.specs.Message.{Message}
 use Rattle.http_messages.specs.Input.{HasMessage, HasMessages}
-use Rattle.http_messages.specs.declared.messages.Fault.{Fault}
-use Rattle.http_messages.specs.declared.messages.Fault.TheVariants.{BadHead, TooLong}
+use Rattle.http_messages.specs.declared.messages.MessageFault.{MessageFault}
+use Rattle.http_messages.specs.declared.messages.MessageFault.TheVariants.{BadHead, TooLong}
 use Rattle.http_messages.proofs.StreamLemmas.{HasMessage-unique, HasMessage-not-bad, HasMessage-not-long, IsBadHead-append, IsTooLong-append}
 use Rattle.counter_http.specs.Exchanges.{Exchange, text_of, texts, messages_of, HasRun}
 use Rattle.counter_http.specs.Served.{IsEnd, IsRefused, fault_text}
@@ -33,7 +33,7 @@ pub record Talks (came sent : List ℕ) (exchanges : List Exchange) : Type 0 whe
   pub last : List ℕ
   pub unsent : List ℕ
   pub writes : texts exchanges ++ last ≡ sent ++ unsent
-  pub refused : (last ≡ []) ⊎ ((fault : Fault) × IsRefused fault it.rest)
+  pub refused : (last ≡ []) ⊎ ((fault : MessageFault) × IsRefused fault it.rest)
 
 -- ---- known bytes
 
@@ -47,7 +47,7 @@ grown held sent bytes x = append_cancel_left held sent bytes x
 -- ---- each outcome of the server's side
 
 end_last : (end : End) (most : ℕ) (es : List Exchange) (left : Option (List ℕ)) (rest last : List ℕ)
-    → IsEnd end most es left rest last → (last ≡ []) ⊎ ((fault : Fault) × IsRefused fault rest)
+    → IsEnd end most es left rest last → (last ≡ []) ⊎ ((fault : MessageFault) × IsRefused fault rest)
 end_last Closed most es left rest last x = inl x.4
 end_last Cut most es left rest last x = inl x.5
 end_last Refused most es left rest last x = inr (x.2, x.3)
@@ -56,7 +56,7 @@ end_last Asked most es left rest last x = inl x.2
 end_last StoreFailed most es left rest last x = inl x.2
 
 turn_last : (ending : Option End) (most : ℕ) (es : List Exchange) (left : Option (List ℕ)) (rest last : List ℕ)
-    → GoesOrEnds ending most es left rest last → (last ≡ []) ⊎ ((fault : Fault) × IsRefused fault rest)
+    → GoesOrEnds ending most es left rest last → (last ≡ []) ⊎ ((fault : MessageFault) × IsRefused fault rest)
 turn_last None most es left rest last x = inl x.2
 turn_last (Some end) most es left rest last x = end_last end most es left rest last x
 
@@ -66,10 +66,10 @@ same_kept (Some xs) None x = absurd x
 same_kept (Some xs) (Some ys) x = x ∙ sym (append-nil xs)
 
 turn_refused : (most : ℕ) (line : ConnectionState) (server : Streams) (mine : List Exchange) (x : ServesThese (Turns line) most mine server)
-    → (x.last ≡ []) ⊎ ((fault : Fault) × IsRefused fault line.inbox)
+    → (x.last ≡ []) ⊎ ((fault : MessageFault) × IsRefused fault line.inbox)
 turn_refused most line server mine x = by_ending (opened most).ending refl
   where
-    by_ending : (ending : Option End) → (opened most).ending ≡ ending → (x.last ≡ []) ⊎ ((fault : Fault) × IsRefused fault line.inbox)
+    by_ending : (ending : Option End) → (opened most).ending ≡ ending → (x.last ≡ []) ⊎ ((fault : MessageFault) × IsRefused fault line.inbox)
     by_ending None is = turn_last line.ending ((opened most).most - (opened most).replies) x.exchanges server.left line.inbox x.last (x.goes is)
     by_ending (Some end) is = inl (x.stopped end is).3
 
@@ -187,16 +187,16 @@ message_has_bytes request m (h, after, size, has, small, there, m_is, rest_is) =
     let some = some_before h.method tail in
     omega (arith, some, long, length-append (print_blank h.blank) (h.method ++ 32 ∷ tail))
 
-refused_more : (fault : Fault) (input more : List ℕ) → IsRefused fault input → IsRefused fault (input ++ more)
+refused_more : (fault : MessageFault) (input more : List ℕ) → IsRefused fault input → IsRefused fault (input ++ more)
 refused_more BadHead input more x = IsBadHead-append input more x
 refused_more TooLong input more x = IsTooLong-append input more x
 
-never_refused : (fault : Fault) (input : List ℕ) (m : Message) (rest : List ℕ) → HasMessage input m rest → IsRefused fault input → ⊥
+never_refused : (fault : MessageFault) (input : List ℕ) (m : Message) (rest : List ℕ) → HasMessage input m rest → IsRefused fault input → ⊥
 never_refused BadHead input m rest has x = HasMessage-not-bad input m rest has x
 never_refused TooLong input m rest has x = HasMessage-not-long input m rest has x
 
 -- no rest of a prefix of one message is refused
-none_refused : (request read more rest : List ℕ) (m : Message) (ms : List Message) (fault : Fault)
+none_refused : (request read more rest : List ℕ) (m : Message) (ms : List Message) (fault : MessageFault)
     → HasMessage request m [] → request ≡ read ++ more → HasMessages read ms rest
     → (ms ≡ []) ⊎ ((ms ≡ m ∷ []) × (read ≡ request)) → IsRefused fault rest → ⊥
 none_refused request read more rest m ms fault has parts reads (inl none) bad =
@@ -212,7 +212,7 @@ none_refused request read more rest m ms fault has parts reads (inr (one, all)) 
 
 pub last_is_none : (request read more rest last : List ℕ) (m : Message) (ms : List Message)
     → HasMessage request m [] → request ≡ read ++ more → HasMessages read ms rest
-    → (ms ≡ []) ⊎ ((ms ≡ m ∷ []) × (read ≡ request)) → (last ≡ []) ⊎ ((fault : Fault) × IsRefused fault rest) → last ≡ []
+    → (ms ≡ []) ⊎ ((ms ≡ m ∷ []) × (read ≡ request)) → (last ≡ []) ⊎ ((fault : MessageFault) × IsRefused fault rest) → last ≡ []
 last_is_none request read more rest last m ms has parts reads which (inl none) = none
 last_is_none request read more rest last m ms has parts reads which (inr (fault, bad)) =
     absurd (none_refused request read more rest m ms fault has parts reads which bad)

@@ -11,8 +11,8 @@ use Rattle.std.specs.List.{list_any}
 use Rattle.shop_model.specs.Refusals.{Problem}
 use Rattle.till_book.specs.Marks.{Rented, rents_told, returns_told, is_reply_to, final_problems, is_unsure}
 use Rattle.till_book.specs.Marking.{AreMarked, IsMarkOf}
-use Rattle.till_book.specs.declared.marks.Mark.{Mark}
-use Rattle.till_book.specs.declared.marks.Mark.TheVariants as mark
+use Rattle.till_book.specs.declared.marks.EntryMark.{EntryMark}
+use Rattle.till_book.specs.declared.marks.EntryMark.TheVariants as mark
 use Rattle.till_book.proofs.Marked.{rents_refused, returns_refused}
 
 abbrev pub rent_rows : ℕ → ℕ → ℕ → Option ℕ → List Rented
@@ -31,7 +31,7 @@ return_told rental answer done = record { rents = λ n. refl; returns = λ n. rw
 says_one : (request : List ℕ) (one two : Command) → Says request one → Says request two → one ≡ two
 says_one request one two first second = one_command request first.0 second.0 one two first.1 second.1
 
-pub mark_of : (request : List ℕ) (answer : Answer) (command : Command) (it : Mark)
+pub mark_of : (request : List ℕ) (answer : Answer) (command : Command) (it : EntryMark)
     → Says request command → AreMarked command.act answer it → IsMarkOf request answer false it
 mark_of request answer command it says told = record {
   rents = λ other also n. told.rents n ∙ ap (λ (c : Command). rents_told n c.act (Some answer)) (says_one request command other says also);
@@ -69,13 +69,13 @@ unsure_mark request answer doubt is doubtful =
       unsure = λ n. ap (λ (b : Bool). if b then n ∷ [] else []) (sym unsure);
     }
 
-pub sure_mark : (request : List ℕ) (answer : Answer) (doubt : Bool) (it : Mark) → doubt ≡ is_unsure answer
+pub sure_mark : (request : List ℕ) (answer : Answer) (doubt : Bool) (it : EntryMark) → doubt ≡ is_unsure answer
     → doubt ≡ false → IsMarkOf request answer false it → IsMarkOf request answer (is_unsure answer) it
 sure_mark request answer doubt it is no_doubt mark =
     let sure : is_unsure answer ≡ false = sym is ∙ no_doubt in
     subst (λ (b : Bool). IsMarkOf request answer b it) (sym sure) mark
 
-pub mark_at : (request : List ℕ) (status : ℕ) (body : List ℕ) (command : Command) (it : Mark)
+pub mark_at : (request : List ℕ) (status : ℕ) (body : List ℕ) (command : Command) (it : EntryMark)
     → status ≡ 200 → Says request command → AreMarked command.act (record { status = 200; body = body }) it
     → IsMarkOf request (record { status = status; body = body }) false it
 mark_at request status body command it done says told =

@@ -20,8 +20,8 @@ use Rattle.till_book.specs.Journal.{settled_of, is_refused, unsure_of, entries_i
 use Rattle.till_book.specs.Journal.{PutsRefused, PutsSettled, Finds, FindsEntry}
 use Rattle.till_book.specs.Statements.{Adds, HasAdded, DropsUnsure, HasDropped, Marks, HasMarked, rents_marked, returns_marked, unsure_marked}
 use Rattle.till_book.specs.Marking.{IsMarkOf}
-use Rattle.till_book.specs.declared.marks.Mark.{Mark}
-use Rattle.till_book.specs.declared.marks.Mark.TheVariants as mark
+use Rattle.till_book.specs.declared.marks.EntryMark.{EntryMark}
+use Rattle.till_book.specs.declared.marks.EntryMark.TheVariants as mark
 use Rattle.till_book.proofs.Saids.{as_long, said_at, say_before}
 use Rattle.till_book.proofs.Marked.{accepted_other, accepted_not, more_entries, more_replies, more_settled, alike_settled, rents_silent, returns_silent}
 use Rattle.till_book.proofs.Marked.{rents_refused, returns_refused}
@@ -111,7 +111,7 @@ if_one false n = refl
 
 -- ---- a reply more
 
-pub marks_reply : (n : ℕ) (answer : Answer) (request : List ℕ) (sign : Mark) (two new : State) (it : Journal)
+pub marks_reply : (n : ℕ) (answer : Answer) (request : List ℕ) (sign : EntryMark) (two new : State) (it : Journal)
     → n ≡ length it.replies + 1 → slice_get it.entries (length it.replies) ≡ Some request
     → IsMarkOf request answer (is_unsure answer) sign → HasMarked n sign two new → AreMarked two.now.trees it → AreMarked new.now.trees (with_reply answer it)
 marks_reply n answer request sign two new it next there is_mark done s =
@@ -150,7 +150,7 @@ marks_reply n answer request sign two new it next there is_mark done s =
     inside (y ∷ xs) zero x is = omega arith
     inside (y ∷ xs) (suc i) x is = omega (arith, inside xs i x is)
 
-pub puts_reply : (n : ℕ) (answer : Answer) (request : List ℕ) (sign : Mark) (old one two new : State)
+pub puts_reply : (n : ℕ) (answer : Answer) (request : List ℕ) (sign : EntryMark) (old one two new : State)
     → FindsEntry n (Some request) old one → Adds reply_table 3 (reply_columns (n, answer)) one two
     → IsMarkOf request answer (is_unsure answer) sign → Marks n sign two new → PutsReply n answer old new
 puts_reply n answer request sign old one two new finds adds is_mark marks it first next =
@@ -186,7 +186,7 @@ puts_reply n answer request sign old one two new finds adds is_mark marks it fir
 
 -- ---- a settlement more
 
-module _ (n : ℕ) (answer : Answer) (request : List ℕ) (sign : Mark) (it : Journal) (i : ℕ)
+module _ (n : ℕ) (answer : Answer) (request : List ℕ) (sign : EntryMark) (it : Journal) (i : ℕ)
     (r : Answer) (is : n ≡ i + 1) (replied : slice_get it.replies i ≡ Some r) (other : r.status ≢ 200)
     (there : slice_get it.entries i ≡ Some request) (none : accepted_of n it.settled ≡ None) {A : Type 0}
     (tells : ℕ → Act → Option Answer → List A) (silent : (n : ℕ) (act : Act) → tells n act None ≡ [])
@@ -209,7 +209,7 @@ module _ (n : ℕ) (answer : Answer) (request : List ℕ) (sign : Mark) (it : Jo
       same_bag : (xs : List A) → IsPermutation xs xs
       same_bag xs = IsPermutation-refl xs
 
-pub marks_settled : (n : ℕ) (answer : Answer) (request : List ℕ) (sign : Mark) (three four new : State) (it : Journal)
+pub marks_settled : (n : ℕ) (answer : Answer) (request : List ℕ) (sign : EntryMark) (three four new : State) (it : Journal)
     → settled_of n it.settled ≡ [] → is_refused it.replies n ≡ true
     → ((i : ℕ) → n ≡ i + 1 → Some request ≡ slice_get it.entries i) → IsMarkOf request answer false sign
     → HasDropped n three four → IsKeyed book_schema three → HasMarked n sign four new
@@ -249,7 +249,7 @@ marks_settled n answer request sign three four new it unsettled refusal found is
           (moved 2 (three.now.trees 10) (four.now.trees 10) _ (dropped.others.1.1.1.1.1.0 (λ e. absurd (omega (arith, e)))) (s.returned commands say)));
     }
 
-pub puts_refused : (n : ℕ) (answer : Answer) (request : List ℕ) (sign : Mark) (one two three four new : State)
+pub puts_refused : (n : ℕ) (answer : Answer) (request : List ℕ) (sign : EntryMark) (one two three four new : State)
     → FindsEntry n (Some request) one two → Adds settled_table 3 (reply_columns (n, answer)) two three → DropsUnsure n three four
     → IsMarkOf request answer false sign → Marks n sign four new → PutsRefused n answer one new
 puts_refused n answer request sign one two three four new finds adds drops is_mark marks it before given =
@@ -356,16 +356,16 @@ marks_nothing n s has = record {
 }
 
 -- the same for a mark that is known to be a rent
-pub marks_rent_as : (it : Mark) (copy n rental customer : ℕ) (old new : State) → it ≡ mark.Rent copy rental customer
+pub marks_rent_as : (it : EntryMark) (copy n rental customer : ℕ) (old new : State) → it ≡ mark.Rent copy rental customer
     → Adds rented_table 4 (rented_columns (record { copy = copy; number = n; rental = rental; customer = customer })) old new → Marks n it old new
-marks_rent_as it copy n rental customer old new is adds = subst (λ (m : Mark). Marks n m old new) (sym is) (marks_rent copy n rental customer old new adds)
+marks_rent_as it copy n rental customer old new is adds = subst (λ (m : EntryMark). Marks n m old new) (sym is) (marks_rent copy n rental customer old new adds)
 
-pub marks_return_as : (it : Mark) (rental n : ℕ) (old new : State) → it ≡ mark.Return rental
+pub marks_return_as : (it : EntryMark) (rental n : ℕ) (old new : State) → it ≡ mark.Return rental
     → Adds returned_table 2 (returned_columns (record { rental = rental; number = n })) old new → Marks n it old new
-marks_return_as it rental n old new is adds = subst (λ (m : Mark). Marks n m old new) (sym is) (marks_return rental n old new adds)
+marks_return_as it rental n old new is adds = subst (λ (m : EntryMark). Marks n m old new) (sym is) (marks_return rental n old new adds)
 
-pub marks_unsure_as : (it : Mark) (n : ℕ) (old new : State) → it ≡ mark.Unsure → Adds unsure_table 1 (unsure_columns n) old new → Marks n it old new
-marks_unsure_as it n old new is adds = subst (λ (m : Mark). Marks n m old new) (sym is) (marks_unsure n old new adds)
+pub marks_unsure_as : (it : EntryMark) (n : ℕ) (old new : State) → it ≡ mark.Unsure → Adds unsure_table 1 (unsure_columns n) old new → Marks n it old new
+marks_unsure_as it n old new is adds = subst (λ (m : EntryMark). Marks n m old new) (sym is) (marks_unsure n old new adds)
 
-pub marks_nothing_as : (it : Mark) (n : ℕ) (s : State) → it ≡ mark.Nothing → Marks n it s s
-marks_nothing_as it n s is = subst (λ (m : Mark). Marks n m s s) (sym is) (marks_nothing n s)
+pub marks_nothing_as : (it : EntryMark) (n : ℕ) (s : State) → it ≡ mark.Nothing → Marks n it s s
+marks_nothing_as it n s is = subst (λ (m : EntryMark). Marks n m s s) (sym is) (marks_nothing n s)

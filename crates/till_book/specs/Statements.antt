@@ -9,8 +9,8 @@ use Rattle.sql_rows.specs.Rows.{HasRows, SameBut, PicksOne}
 use Rattle.till_book.specs.Tables.{book_schema, unsure_table}
 use Rattle.till_book.specs.Journal.{unsure_columns, rented_columns, returned_columns}
 use Rattle.till_book.specs.Marks.{Rented, Returned}
-use Rattle.till_book.specs.declared.marks.Mark.{Mark}
-use Rattle.till_book.specs.declared.marks.Mark.TheVariants as mark
+use Rattle.till_book.specs.declared.marks.EntryMark.{EntryMark}
+use Rattle.till_book.specs.declared.marks.EntryMark.TheVariants as mark
 
 -- one row more in that table
 pub record HasAdded (table : Table) (width : ℕ) (row : sql.Row) (old new : State) : Type 0 where
@@ -35,20 +35,20 @@ DropsUnsure n old new = IsOf book_schema old → HasDropped n old new
 
 -- ---- what a reply means to the tables beside the journal
 
-abbrev pub rents_marked : ℕ → Mark → List Rented
+abbrev pub rents_marked : ℕ → EntryMark → List Rented
 rents_marked n (mark.Rent copy rental customer) = record { copy = copy; number = n; rental = rental; customer = customer } ∷ []
 rents_marked n it = []
 
-abbrev pub returns_marked : ℕ → Mark → List Returned
+abbrev pub returns_marked : ℕ → EntryMark → List Returned
 returns_marked n (mark.Return rental) = record { rental = rental; number = n } ∷ []
 returns_marked n it = []
 
-abbrev pub unsure_marked : ℕ → Mark → List ℕ
+abbrev pub unsure_marked : ℕ → EntryMark → List ℕ
 unsure_marked n mark.Unsure = n ∷ []
 unsure_marked n it = []
 
 -- the mark's rows are added to the tables beside the journal, and the journal's tables stay
-pub record HasMarked (n : ℕ) (it : Mark) (old new : State) : Type 0 where
+pub record HasMarked (n : ℕ) (it : EntryMark) (old new : State) : Type 0 where
   pub schema_is : IsOf book_schema new
   pub keyed : IsKeyed book_schema old → IsKeyed book_schema new
   pub entries : new.now.trees 0 ≡ old.now.trees 0
@@ -58,5 +58,5 @@ pub record HasMarked (n : ℕ) (it : Mark) (old new : State) : Type 0 where
   pub rented : (rows : List sql.Row) → HasRows 4 (old.now.trees 8) rows → HasRows 4 (new.now.trees 8) (rows ++ map rented_columns (rents_marked n it))
   pub returned : (rows : List sql.Row) → HasRows 2 (old.now.trees 10) rows → HasRows 2 (new.now.trees 10) (rows ++ map returned_columns (returns_marked n it))
 
-abbrev pub Marks : ℕ → Mark → State → State → Type 0
+abbrev pub Marks : ℕ → EntryMark → State → State → Type 0
 Marks n it old new = IsOf book_schema old → HasMarked n it old new

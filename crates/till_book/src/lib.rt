@@ -21,7 +21,7 @@ pub use ends::{BookEnd, EntryNumber};
 pub use journal::{drop_unsure, make_journal};
 pub use laws::a_drawer_is_the_difference;
 pub use lists::{BookRows, Entries, Replies, Settlements};
-pub use marks::{Mark, put_mark, reply_mark, settled_mark};
+pub use marks::{EntryMark, put_mark, reply_mark, settled_mark};
 pub use reading::all_rows;
 pub use rents::HeldRental;
 pub use rows::{BookEntry, BookReply, Settlement};

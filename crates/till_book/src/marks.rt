@@ -19,7 +19,7 @@ use till_client::{NotSealed, command_of, rental_in_reply};
 
 /// What a reply adds to the tables beside the journal.
 #[derive(Clone, Copy)]
-pub enum Mark {
+pub enum EntryMark {
     /// An accepted rent of the copy, with the rental that its reply names.
     Rent {
         copy: CopyNo,
@@ -63,20 +63,20 @@ fn is_unsure(status: u32, body: &[u8]) -> bool
 }
 
 /// Returns what an accepted command adds.
-fn accepted_mark(alloc: Global, act: &Act, body: &[u8]) -> Result<Mark, StoreFault>
+fn accepted_mark(alloc: Global, act: &Act, body: &[u8]) -> Result<EntryMark, StoreFault>
     ensures { IfOk result (AreMarked (seen_act act.now) (record { status = 200; body = body.now })) }
 {
     match act {
         Act::Rent { customer, copy } => match rental_in_reply(alloc, 200, body)? {
-            Some(rental) => Ok(Mark::Rent {
+            Some(rental) => Ok(EntryMark::Rent {
                 copy: *copy,
                 rental,
                 customer: *customer,
             }),
-            None => Ok(Mark::Nothing),
+            None => Ok(EntryMark::Nothing),
         },
-        Act::TakeBack(rental) => Ok(Mark::Return(*rental)),
-        _ => Ok(Mark::Nothing),
+        Act::TakeBack(rental) => Ok(EntryMark::Return(*rental)),
+        _ => Ok(EntryMark::Nothing),
     }
 }
 
@@ -88,15 +88,15 @@ pub fn settled_mark(
     request: &[u8],
     status: u32,
     body: &[u8],
-) -> Result<Mark, StoreFault>
+) -> Result<EntryMark, StoreFault>
     ensures { IfOk result (IsMarkOf request.now (record { status = status; body = body.now }) false) }
 {
     if status != 200 {
-        return Ok(Mark::Nothing);
+        return Ok(EntryMark::Nothing);
     }
     match command_of(alloc, routes, request) {
         Ok(command) => accepted_mark(alloc, &command.act, body),
-        Err(NotSealed::Other) => Ok(Mark::Nothing),
+        Err(NotSealed::Other) => Ok(EntryMark::Nothing),
         Err(NotSealed::Memory) => Err(StoreFault::Memory),
     }
 }
@@ -108,11 +108,11 @@ pub fn reply_mark(
     request: &[u8],
     status: u32,
     body: &[u8],
-) -> Result<Mark, StoreFault>
+) -> Result<EntryMark, StoreFault>
     ensures { IfOk result (IsReplyMark request.now (record { status = status; body = body.now })) }
 {
     if is_unsure(status, body) {
-        Ok(Mark::Unsure)
+        Ok(EntryMark::Unsure)
     } else {
         settled_mark(alloc, routes, request, status, body)
     }
@@ -122,18 +122,18 @@ pub fn reply_mark(
 pub fn put_mark<S: Alter>(
     tx: &mut Transaction<'_, S>,
     number: u32,
-    mark: Mark,
+    mark: EntryMark,
 ) -> Result<(), StoreFault>
     ensures { DoesWithin S.Store tx.old.conn tx.new.conn result (λ _. Marks number mark) }
 {
     match mark {
-        Mark::Rent {
+        EntryMark::Rent {
             copy,
             rental,
             customer,
         } => add_rented(tx, number, copy, rental, customer),
-        Mark::Return(rental) => add_returned(tx, number, rental),
-        Mark::Unsure => add_unsure(tx, number),
-        Mark::Nothing => Ok(()),
+        EntryMark::Return(rental) => add_returned(tx, number, rental),
+        EntryMark::Unsure => add_unsure(tx, number),
+        EntryMark::Nothing => Ok(()),
     }
 }

@@ -5,9 +5,9 @@ use Rattle.http_messages.specs.Message.{Message}
 use Rattle.http_messages.specs.Input.{HasMessage}
 use Rattle.http_messages.specs.Shown.{IsReading}
 use Rattle.http_messages.specs.declared.messages.Request.{Request as Slices}
-use Rattle.http_messages.specs.declared.messages.Reading.{Reading}
-use Rattle.http_messages.specs.declared.messages.Reading.TheVariants.{Whole, More, Refused}
-use Rattle.http_messages.specs.declared.messages.Fault.TheVariants.{BadHead, TooLong}
+use Rattle.http_messages.specs.declared.messages.MessageReading.{MessageReading}
+use Rattle.http_messages.specs.declared.messages.MessageReading.TheVariants.{Whole, More, Refused}
+use Rattle.http_messages.specs.declared.messages.MessageFault.TheVariants.{BadHead, TooLong}
 use Rattle.http_messages.proofs.StreamLemmas.{HasMessage-unique, HasMessage-not-bad, HasMessage-not-long, HasMessage-not-cut}
 use Rattle.counter_routes.specs.Readings.{counter_request}
 use Rattle.counter_routes.specs.Words.{Meaning}
@@ -46,7 +46,7 @@ asks_other bytes token m command sole says =
 
 -- ---- bytes that are no such message
 
-pub not_read : (bytes : List ℕ) (r : Reading) → IsReading bytes r
+pub not_read : (bytes : List ℕ) (r : MessageReading) → IsReading bytes r
     → ((m : Slices) (len : ℕ) → r ≡ Whole m len → ⊥) → (message : Message) → HasMessage bytes message [] → ⊥
 not_read bytes (Whole m len) is other message has = other m len refl
 not_read bytes More is other message has = HasMessage-not-cut bytes message [] has is.1

@@ -10,7 +10,7 @@ ghost use Rattle.counter_routes.specs.Readings.{Reads};
 ghost use Rattle.till_client.specs.Sealing.{IsSole, SaysCommand, IsUnsealed};
 
 use counter_routes::{Reading, Routes};
-use http_messages::{Reading as MessageReading, Request as MessageSlices, read_request};
+use http_messages::{MessageReading, Request as MessageSlices, read_request};
 use shop_types::{Caller, Command, Line, OfficeWords, Request, RowNumber, Usage};
 use std::alloc::Global;
 

@@ -9,7 +9,7 @@ use Rattle.shop_model.proofs.Resends.{same_some, same_none}
 use Rattle.till_book.specs.Journal.{Journal, is_refused, settled_of}
 use Rattle.till_book.specs.Statements.{DropsUnsure, Marks}
 use Rattle.till_book.specs.Marking.{IsMarkOf, IsReplyMark}
-use Rattle.till_book.specs.declared.marks.Mark.{Mark}
+use Rattle.till_book.specs.declared.marks.EntryMark.{EntryMark}
 use Rattle.till_book.proofs.JournalTexts.{picked}
 use Rattle.till_book.proofs.Puttings.{marks_reply, marks_settled}
 use Rattle.till_files.specs.Playing.{journal_of, MarksTo, MarksReply, MarksReplies, MarksSettlement, MarksSettlements}
@@ -62,7 +62,7 @@ at_place f (y ∷ xs) (suc i) x low is = at_place f xs i x (omega (arith, low)) 
 
 -- ---- replies
 
-pub reply_marked : (entries : List (List ℕ)) (at n : ℕ) (answer told : Answer) (request asked : List ℕ) (sign : Mark) (old new : State)
+pub reply_marked : (entries : List (List ℕ)) (at n : ℕ) (answer told : Answer) (request asked : List ℕ) (sign : EntryMark) (old new : State)
     → n ≡ at + 1 → slice_get entries at ≡ Some request
     → asked ≡ request → told ≡ answer → IsReplyMark asked told sign → Marks n sign old new → MarksReply entries at answer old new
 reply_marked entries at n answer told request asked sign old new is there same_request same_answer said marks replies long has keyed =
@@ -103,7 +103,7 @@ is_refused_at replies n i reply is there other =
 
 pub settlement_marked :
     (entries : List (List ℕ)) (replies : List Answer) (it : ℕ × Answer) (told : Answer)
-    (i : ℕ) (reply : Answer) (request asked : List ℕ) (sign : Mark) (old mid new : State)
+    (i : ℕ) (reply : Answer) (request asked : List ℕ) (sign : EntryMark) (old mid new : State)
     → it.0 ≡ i + 1 → slice_get replies i ≡ Some reply → reply.status ≢ 200 → slice_get entries i ≡ Some request → asked ≡ request → told ≡ it.1
     → IsMarkOf asked told false sign → DropsUnsure it.0 old mid → Marks it.0 sign mid new → MarksSettlement entries replies it old new
 settlement_marked entries replies it told i reply request asked sign old mid new is replied

@@ -7,7 +7,7 @@ use shop_types::Moment;
 use std::alloc::Global;
 use std::cell::{Cell, RefCell};
 use std::marker::Model;
-use till_cashier::{Line, Shelf};
+use till_cashier::{Link, Shelf};
 
 /// A clock, a shelf, the line to the server, and what is known of that line.
 #[derive(Drop)]
@@ -16,7 +16,7 @@ pub struct Kit<C: Counter> {
     /// The number of the till's zone.
     pub zone: Cell<usize>,
     /// What the last words showed of the line, by which a desk's windows go.
-    pub line: Cell<Line>,
+    pub line: Cell<Link>,
     pub shelf: Board,
     pub wire: RefCell<Wire<C>>,
 }
@@ -36,7 +36,7 @@ impl<C: Counter> Kit<C> {
         Kit {
             clock: Hands::new(),
             zone: Cell::new(NO_ZONE),
-            line: Cell::new(Line::Open),
+            line: Cell::new(Link::Open),
             shelf: Board::new(alloc),
             wire: RefCell::new(Wire::new(alloc, counter, repeats)),
         }

@@ -236,7 +236,7 @@ impl<C: Counter> Wire<C> {
 
 /// The till's way to the line, and one end of a connection.
 #[derive(Drop)]
-pub struct Line<'x, C: Counter> {
+pub struct WireEnd<'x, C: Counter> {
     pub wire: &'x RefCell<Wire<C>>,
 }
 
@@ -244,30 +244,30 @@ fn broken() -> io::Error {
     io::Error::from(ErrorKind::ConnectionReset)
 }
 
-impl<'x, C: Counter> Server for Line<'x, C> {
-    type Reader = Line<'x, C>;
+impl<'x, C: Counter> Server for WireEnd<'x, C> {
+    type Reader = WireEnd<'x, C>;
 
-    type Writer = Line<'x, C>;
+    type Writer = WireEnd<'x, C>;
 
     // no clause can say what a cell holds
     ghost opens = { λ _ _ _. ⊤ };
 
     ghost refuses = { λ _. ⊤ };
 
-    fn connect(&self) -> io::Result<(Line<'x, C>, Line<'x, C>)> {
+    fn connect(&self) -> io::Result<(WireEnd<'x, C>, WireEnd<'x, C>)> {
         let is_there = match self.wire.try_borrow_mut() {
             Ok(mut wire) => wire.begin(),
             Err(_) => false,
         };
         if is_there {
-            Ok((Line { wire: self.wire }, Line { wire: self.wire }))
+            Ok((WireEnd { wire: self.wire }, WireEnd { wire: self.wire }))
         } else {
             Err(broken())
         }
     }
 }
 
-impl<C: Counter> Read for Line<'_, C> {
+impl<C: Counter> Read for WireEnd<'_, C> {
     fn read(&mut self, buf: &mut [u8]) -> io::Result<usize> {
         match self.wire.try_borrow_mut() {
             Ok(mut wire) => wire.tell(buf),
@@ -276,7 +276,7 @@ impl<C: Counter> Read for Line<'_, C> {
     }
 }
 
-impl<C: Counter> Write for Line<'_, C> {
+impl<C: Counter> Write for WireEnd<'_, C> {
     fn write(&mut self, buf: &[u8]) -> io::Result<usize> {
         match self.wire.try_borrow_mut() {
             Ok(mut wire) => match wire.takes(buf) {

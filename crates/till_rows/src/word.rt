@@ -3,7 +3,7 @@ ghost use Rattle.std.specs.Prelude.{◌≡◌, false};
 
 use crate::book::NO_BOOK;
 use crate::kit::Kit;
-use crate::line::{Counter, Line};
+use crate::line::{Counter, WireEnd};
 use crate::shelf::{Board, Hands};
 use crate::world::World;
 use row_player::{Fault, Texts};
@@ -11,8 +11,8 @@ use shop_types::{Act, LotName, NewCustomer, Person, StaffNo, StockFile};
 use sqlite::{Alter, Connection};
 use std::alloc::Global;
 use till_cashier::{
-    Desk, Quiet, Said, TillFault, accept_zone, city_on_sheet, do_word, make_sure, read_sheet,
-    said_day, zone_said,
+    Desk, Quiet, Said, TillFault, accept_zone, city_on_sheet, do_word, fault_line, make_sure,
+    read_sheet, said_day, zone_said,
 };
 use till_requests::Zone;
 use till_words::{PersonIn, TillAct, TillLine, read_till_words, split_line};
@@ -107,7 +107,7 @@ struct Typed {
     /// Whether what can't be undone is to be done.
     is_sure: bool,
     /// What is known of the line to the server.
-    line: till_cashier::Line,
+    line: till_cashier::Link,
     /// The number of the till's zone.
     zone: usize,
 }
@@ -139,7 +139,7 @@ fn read_input<C: Counter>(
     } = read(alloc, words)?;
     drop(book);
     let (own, line) = match typist {
-        Typist::Till => (None, till_cashier::Line::Open),
+        Typist::Till => (None, till_cashier::Link::Open),
         Typist::Window(staff) => (Some(staff), kit.line.get()),
     };
     let zone = zone_in(world, kit, &act)?;
@@ -160,7 +160,7 @@ fn read_input<C: Counter>(
 
 /// Sets the zone of the desk's settings for the book, which had that zone before.
 fn set_zone<S: Alter, C: Counter>(
-    desk: &Desk<'_, Hands, Line<'_, C>, Board>,
+    desk: &Desk<'_, Hands, WireEnd<'_, C>, Board>,
     conn: &mut Connection<S>,
     before: &Option<Zone>,
 ) -> Result<Said, TillFault>
@@ -173,7 +173,7 @@ fn set_zone<S: Alter, C: Counter>(
 /// Does a word at an open book that had that zone before, and then settles refused entries with `make_sure`, as the
 /// program does.
 fn done<S: Alter, C: Counter>(
-    desk: &Desk<'_, Hands, Line<'_, C>, Board>,
+    desk: &Desk<'_, Hands, WireEnd<'_, C>, Board>,
     conn: &mut Connection<S>,
     act: TillAct,
     before: &Option<Zone>,
@@ -195,17 +195,21 @@ fn done<S: Alter, C: Counter>(
 /// Notes what a word showed of the line to the server, as the program does.
 fn note<C: Counter>(kit: &Kit<C>, is_send: bool, said: &Result<Said, TillFault>) {
     match said {
-        Ok(_) if is_send => kit.line.set(till_cashier::Line::Open),
-        Err(fault) if fault.is_unanswered() => kit.line.set(till_cashier::Line::Down),
+        Ok(_) if is_send => kit.line.set(till_cashier::Link::Open),
+        Err(fault) if fault.is_unanswered() => kit.line.set(till_cashier::Link::Down),
         Ok(_) | Err(_) => {}
     }
 }
 
 /// Puts the fault of a word into `told`, as it is printed.
 fn tell_fault(alloc: Global, fault: TillFault, told: &mut Texts) -> Result<(), Fault> {
-    let text = format!(in alloc; "{fault}\n")?;
-    told.printed(fault.status(), text.as_str());
-    Ok(())
+    match fault_line(alloc, fault) {
+        Ok(line) => {
+            told.printed(fault.status(), line.as_str());
+            Ok(())
+        }
+        Err(_) => Err(Fault::Line("no memory")),
+    }
 }
 
 /// Puts what a word prints into `told`. Returns false if the book's disk has failed.
@@ -224,7 +228,7 @@ fn at_desk<'d, 'x, S: Alter, C: Counter>(
     alloc: Global,
     world: &'d World,
     kit: &'d Kit<C>,
-    server: &'d Line<'x, C>,
+    server: &'d WireEnd<'x, C>,
     sheet: &'d [u8],
     conn: &mut Connection<S>,
     typed: Typed,
@@ -282,7 +286,7 @@ pub fn type_at<'x, S: Alter, C: Counter>(
     }
     let sheet = read_sheet(alloc, &kit.shelf);
     let typed = read_input(alloc, world, kit, typist, words, sheet.as_slice())?;
-    let server = Line { wire: &kit.wire };
+    let server = WireEnd { wire: &kit.wire };
     at_desk(
         alloc,
         &*world,

@@ -12,7 +12,7 @@ ghost use Rattle.till_shows.specs.Lists.{first_named, named_in};
 ghost use Rattle.till_shows.specs.declared.bodies.NotShown.TheVariants.{OtherForm};
 
 use crate::bodies::{NotShown, has_number, owned_text, rows_of, text_at, value_of};
-use crate::parts::{Part, columns_of, money_part, number, plain, row_text, searched};
+use crate::parts::{Member, columns_of, money_part, number, plain, row_text, searched};
 use crate::tables::Table;
 use caseless::default_case_fold_str;
 use serde_json::Value;
@@ -66,7 +66,7 @@ fn folded(alloc: Global, text: &str) -> Result<String, AllocError>
 }
 
 /// Returns the object's text of the field without upper and lower case, if the field is searched and the object has it.
-fn searched_text(alloc: Global, value: &Value, field: &Part) -> Result<Option<String>, AllocError>
+fn searched_text(alloc: Global, value: &Value, field: &Member) -> Result<Option<String>, AllocError>
     ensures { IfOk result (λ text. option_map string_bytes text ≡ searched_text (view value.now) field.now) }
 {
     if !field.is_searched {
@@ -79,7 +79,7 @@ fn searched_text(alloc: Global, value: &Value, field: &Part) -> Result<Option<St
 }
 
 /// Returns the object's searched texts without upper and lower case.
-fn searched_texts(alloc: Global, value: &Value, parts: &[Part]) -> Result<Vec<String>, AllocError>
+fn searched_texts(alloc: Global, value: &Value, parts: &[Member]) -> Result<Vec<String>, AllocError>
     ensures { IfOk result (λ texts. map string_bytes texts.items ≡ searched_texts parts.now (view value.now)) }
 {
     let mut texts = Vec::new(alloc);
@@ -118,7 +118,12 @@ fn is_sought(texts: &[String], words: &str) -> bool
 }
 
 /// Reports whether each word is found in the object.
-fn has_words(alloc: Global, value: &Value, parts: &[Part], words: &str) -> Result<bool, AllocError>
+fn has_words(
+    alloc: Global,
+    value: &Value,
+    parts: &[Member],
+    words: &str,
+) -> Result<bool, AllocError>
     ensures { IfOk result (λ has. has ≡ has_words words.now parts.now (view value.now)) }
 {
     let texts = searched_texts(alloc, value, parts)?;
@@ -126,7 +131,12 @@ fn has_words(alloc: Global, value: &Value, parts: &[Part], words: &str) -> Resul
 }
 
 /// Adds the object's row to the table.
-fn add_row(alloc: Global, value: &Value, parts: &[Part], table: &mut Table) -> Result<(), NotShown>
+fn add_row(
+    alloc: Global,
+    value: &Value,
+    parts: &[Member],
+    table: &mut Table,
+) -> Result<(), NotShown>
     ensures shown { OnOk result (option_map (more_rows table.old) (each (row_of parts.now) (view value.now ∷ []))
         ≡ Some table.new) }
     ensures other { IfErr result (λ fault. fault ≡ OtherForm
@@ -141,7 +151,7 @@ fn add_row(alloc: Global, value: &Value, parts: &[Part], table: &mut Table) -> R
 fn add_found(
     alloc: Global,
     value: &Value,
-    parts: &[Part],
+    parts: &[Member],
     part: &str,
     table: &mut Table,
 ) -> Result<(), NotShown>
@@ -161,7 +171,7 @@ fn add_found(
 fn add_rows(
     alloc: Global,
     rows: &[Value],
-    parts: &[Part],
+    parts: &[Member],
     part: &str,
     table: &mut Table,
 ) -> Result<(), NotShown>
@@ -177,7 +187,7 @@ fn add_rows(
 }
 
 /// Returns a table with the headings of the parts, and no row.
-fn empty_table(alloc: Global, parts: &[Part]) -> Result<Table, AllocError>
+fn empty_table(alloc: Global, parts: &[Member]) -> Result<Table, AllocError>
     ensures { IfOk result (λ table. table ≡ headed parts.now) }
 {
     let columns = columns_of(alloc, parts)?;
@@ -188,7 +198,7 @@ fn empty_table(alloc: Global, parts: &[Part]) -> Result<Table, AllocError>
 fn table_of_rows(
     alloc: Global,
     rows: &[Value],
-    parts: &[Part],
+    parts: &[Member],
     part: &str,
 ) -> Result<Table, NotShown>
     ensures shown { IfOk result (λ table. option_map (more_rows (headed parts.now))
@@ -202,7 +212,7 @@ fn table_of_rows(
 }
 
 /// Returns the table, with these parts, of the body's objects in which the part's words are found, in the body's order.
-fn table_of(alloc: Global, body: &[u8], parts: &[Part], part: &str) -> Result<Table, NotShown>
+fn table_of(alloc: Global, body: &[u8], parts: &[Member], part: &str) -> Result<Table, NotShown>
     ensures shown { IfOk result (λ table. table_in parts.now part.now body.now ≡ Some table) }
     ensures other { IfErr result (λ fault. fault ≡ OtherForm → table_in parts.now part.now body.now ≡ None) }
 {
@@ -214,14 +224,14 @@ fn table_of(alloc: Global, body: &[u8], parts: &[Part], part: &str) -> Result<Ta
 }
 
 /// Returns the table, with these parts, of all objects in the body's list.
-fn whole_table(alloc: Global, body: &[u8], parts: &[Part]) -> Result<Table, NotShown>
+fn whole_table(alloc: Global, body: &[u8], parts: &[Member]) -> Result<Table, NotShown>
     ensures shown { IfOk result (λ table. whole_table parts.now body.now ≡ Some table) }
     ensures other { IfErr result (λ fault. fault ≡ OtherForm → whole_table parts.now body.now ≡ None) }
 {
     table_of(alloc, body, parts, "")
 }
 
-fn customer_parts() -> [Part; 6]
+fn customer_parts() -> [Member; 6]
     ensures { result ≡ customer_fields }
 {
     [
@@ -246,7 +256,7 @@ pub fn customers_with(alloc: Global, body: &[u8], part: &str) -> Result<Table, N
     table_of(alloc, body, customer_parts().as_slice(), part.as_str())
 }
 
-fn film_parts() -> [Part; 5]
+fn film_parts() -> [Member; 5]
     ensures { result ≡ film_fields }
 {
     [
@@ -269,7 +279,7 @@ pub fn films_with(alloc: Global, body: &[u8], part: &str) -> Result<Table, NotSh
     table_of(alloc, body, film_parts().as_slice(), part.as_str())
 }
 
-fn overdue_parts() -> [Part; 3]
+fn overdue_parts() -> [Member; 3]
     ensures { result ≡ overdue_fields }
 {
     [
@@ -287,7 +297,7 @@ pub fn overdue(alloc: Global, body: &[u8]) -> Result<Table, NotShown>
     whole_table(alloc, body, overdue_parts().as_slice())
 }
 
-fn arrival_parts() -> [Part; 4]
+fn arrival_parts() -> [Member; 4]
     ensures { result ≡ arrival_fields }
 {
     [
@@ -306,7 +316,7 @@ pub fn arrivals(alloc: Global, body: &[u8]) -> Result<Table, NotShown>
     whole_table(alloc, body, arrival_parts().as_slice())
 }
 
-fn sent_parts() -> [Part; 3]
+fn sent_parts() -> [Member; 3]
     ensures { result ≡ sent_fields }
 {
     [
@@ -324,7 +334,7 @@ pub fn sent(alloc: Global, body: &[u8]) -> Result<Table, NotShown>
     whole_table(alloc, body, sent_parts().as_slice())
 }
 
-fn store_parts() -> [Part; 3]
+fn store_parts() -> [Member; 3]
     ensures { result ≡ store_fields }
 {
     [
@@ -342,7 +352,7 @@ pub fn sales_by_store(alloc: Global, body: &[u8]) -> Result<Table, NotShown>
     whole_table(alloc, body, store_parts().as_slice())
 }
 
-fn category_parts() -> [Part; 2]
+fn category_parts() -> [Member; 2]
     ensures { result ≡ category_fields }
 {
     [plain("category", "category"), money_part("total", "total")]

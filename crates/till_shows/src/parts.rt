@@ -29,7 +29,7 @@ pub(crate) enum Form {
 
 /// A member of an object, and how it is shown.
 #[derive(Drop)]
-pub(crate) struct Part {
+pub(crate) struct Member {
     pub(crate) name: &'static str,
     pub(crate) heading: &'static str,
     form: Form,
@@ -38,7 +38,7 @@ pub(crate) struct Part {
     pub(crate) is_searched: bool,
 }
 
-impl Model for Part {
+impl Model for Member {
     ghost use Rattle.till_shows.specs.Fields.{Field};
 
     ghost Value = { Field };
@@ -52,10 +52,10 @@ impl Model for Part {
     } };
 }
 
-pub(crate) fn plain(name: &'static str, heading: &'static str) -> Part
+pub(crate) fn plain(name: &'static str, heading: &'static str) -> Member
     ensures { result ≡ plain_field name.now heading.now }
 {
-    Part {
+    Member {
         name,
         heading,
         form: Form::Plain,
@@ -64,10 +64,10 @@ pub(crate) fn plain(name: &'static str, heading: &'static str) -> Part
     }
 }
 
-pub(crate) fn number(name: &'static str, heading: &'static str) -> Part
+pub(crate) fn number(name: &'static str, heading: &'static str) -> Member
     ensures { result ≡ number_field name.now heading.now }
 {
-    Part {
+    Member {
         name,
         heading,
         form: Form::Plain,
@@ -76,10 +76,10 @@ pub(crate) fn number(name: &'static str, heading: &'static str) -> Part
     }
 }
 
-pub(crate) fn money_part(name: &'static str, heading: &'static str) -> Part
+pub(crate) fn money_part(name: &'static str, heading: &'static str) -> Member
     ensures { result ≡ money_field name.now heading.now }
 {
-    Part {
+    Member {
         name,
         heading,
         form: Form::Money,
@@ -88,10 +88,10 @@ pub(crate) fn money_part(name: &'static str, heading: &'static str) -> Part
     }
 }
 
-pub(crate) fn searched(name: &'static str, heading: &'static str) -> Part
+pub(crate) fn searched(name: &'static str, heading: &'static str) -> Member
     ensures { result ≡ searched_field name.now heading.now }
 {
-    Part {
+    Member {
         name,
         heading,
         form: Form::Plain,
@@ -157,7 +157,7 @@ fn value_text(alloc: Global, value: &Value, form: Form) -> Result<String, NotSho
 }
 
 /// Returns the text of the object's member that the part names.
-pub(crate) fn part_text(alloc: Global, value: &Value, part: &Part) -> Result<String, NotShown>
+pub(crate) fn part_text(alloc: Global, value: &Value, part: &Member) -> Result<String, NotShown>
     ensures shown { IfOk result (λ text. field_text (view value.now) part.now ≡ Some (string_bytes text)) }
     ensures other { IfErr result (λ fault. fault ≡ OtherForm → field_text (view value.now) part.now ≡ None) }
 {
@@ -168,7 +168,7 @@ pub(crate) fn part_text(alloc: Global, value: &Value, part: &Part) -> Result<Str
 }
 
 /// Returns the object's row: the texts of the parts.
-pub(crate) fn row_text(alloc: Global, value: &Value, parts: &[Part]) -> Result<Row, NotShown>
+pub(crate) fn row_text(alloc: Global, value: &Value, parts: &[Member]) -> Result<Row, NotShown>
     ensures shown { IfOk result (λ row. row_of parts.now (view value.now) ≡ Some row) }
     ensures other { IfErr result (λ fault. fault ≡ OtherForm → row_of parts.now (view value.now) ≡ None) }
 {
@@ -180,7 +180,7 @@ pub(crate) fn row_text(alloc: Global, value: &Value, parts: &[Part]) -> Result<R
     Ok(row)
 }
 
-pub(crate) fn columns_of(alloc: Global, parts: &[Part]) -> Result<Vec<Column>, AllocError>
+pub(crate) fn columns_of(alloc: Global, parts: &[Member]) -> Result<Vec<Column>, AllocError>
     ensures sides { IfOk result (λ columns. seen_sides columns.items ≡ map (λ field. field.side) parts.now) }
     ensures headings { IfOk result (λ columns. seen_headings columns.items ≡ map (λ field. field.heading) parts.now) }
 {

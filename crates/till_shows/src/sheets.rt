@@ -11,7 +11,7 @@ ghost use Rattle.till_shows.specs.declared.bodies.NotShown.TheVariants.{OtherFor
 
 use crate::bodies::{NotShown, text_at, value_of};
 use crate::moments::moment_words;
-use crate::parts::{Part, money_part, part_text, plain};
+use crate::parts::{Member, money_part, part_text, plain};
 use serde_json::Value;
 use shop_types::Moment;
 use std::alloc::{AllocError, Global};
@@ -23,7 +23,7 @@ fn sheet_line(alloc: Global, heading: &str, text: &str) -> Result<String, AllocE
     format!(in alloc; "{heading}: {text}\n")
 }
 
-fn part_line(alloc: Global, value: &Value, part: &Part) -> Result<String, NotShown>
+fn part_line(alloc: Global, value: &Value, part: &Member) -> Result<String, NotShown>
     ensures shown { IfOk result (λ line. field_line (view value.now) part.now ≡ Some (string_bytes line)) }
     ensures other { IfErr result (λ fault. fault ≡ OtherForm → field_line (view value.now) part.now ≡ None) }
 {
@@ -32,7 +32,7 @@ fn part_line(alloc: Global, value: &Value, part: &Part) -> Result<String, NotSho
 }
 
 /// Returns a line for each part: its heading and its text.
-fn sheet(alloc: Global, value: &Value, parts: &[Part]) -> Result<String, NotShown>
+fn sheet(alloc: Global, value: &Value, parts: &[Member]) -> Result<String, NotShown>
     ensures shown { IfOk result (λ sheet. sheet_of parts.now (view value.now) ≡ Some (string_bytes sheet)) }
     ensures other { IfErr result (λ fault. fault ≡ OtherForm → sheet_of parts.now (view value.now) ≡ None) }
 {
@@ -44,7 +44,7 @@ fn sheet(alloc: Global, value: &Value, parts: &[Part]) -> Result<String, NotShow
     Ok(sheet)
 }
 
-fn customer_parts() -> [Part; 8]
+fn customer_parts() -> [Member; 8]
     ensures { result ≡ customer_sheet_fields }
 {
     [
@@ -110,7 +110,7 @@ pub fn customer_sheet(alloc: Global, body: &[u8]) -> Result<String, NotShown>
     Ok(sheet)
 }
 
-fn film_parts() -> [Part; 10]
+fn film_parts() -> [Member; 10]
     ensures { result ≡ film_sheet_fields }
 {
     [

@@ -4,7 +4,7 @@ use Rattle.std.specs.Prelude.{option_map, if◌then◌else◌, slice_index}
 use Rattle.std.specs.List.{slice_split}
 use Rattle.clap.specs.Words.{Text}
 use Rattle.shop_types.specs.Digits.{decimal_value}
-use Rattle.shop_types.specs.Numbers.{row_number_of}
+use Rattle.shop_types.specs.Numbers.{number_within, row_number_of}
 use Rattle.word_tables.specs.Given.{with_value}
 
 -- ---- amounts
@@ -38,7 +38,7 @@ cents_of text =
 
 -- no more than 999.99 dollars
 abbrev pub amount_of : Text → Option ℕ
-amount_of text = with_value (cents_of text) (λ cents. if nat_le cents 99_999 then Some cents else None)
+amount_of text = with_value (cents_of text) (number_within 0 99_999)
 
 -- ---- lists
 

@@ -1,7 +1,7 @@
 //! The list of all actors, each with the actor's films by category. Neighbouring rows of one join belong to one actor,
 //! and among them neighbouring rows belong to one category.
 
-ghost use Rattle.std.specs.Prelude.{◌≡◌, List, [], ◌∷◌, ◌++◌, Option, Some, None, IfOk, OnOk, map, option_map, string_bytes};
+ghost use Rattle.std.specs.Prelude.{⊤, ◌≡◌, List, [], ◌∷◌, ◌++◌, Option, Some, None, IfOk, OnOk, map, option_map, string_bytes};
 ghost use Rattle.sqlite.specs.Held.{state};
 ghost use Rattle.sqlite.specs.State.{HasCleanDisk};
 ghost use Rattle.sql_rows.specs.Calls.{StaysSame};
@@ -234,6 +234,8 @@ pub(crate) struct ActorPage {
 
 impl TakesRows for ActorPage {
     ghost took = { HasActors };
+
+    ghost refuses = { λ _ _. ⊤ };
 
     fn take(&mut self, row: &Row) -> Result<(), StoreFault> {
         let actor = self.actor.take();

@@ -1,6 +1,6 @@
 //! What a branch has taken for rentals of each category's films.
 
-ghost use Rattle.std.specs.Prelude.{◌≡◌, ◌≤◌, length, ◌+◌, List, [], ◌∷◌, ◌++◌, Option, IfSome, IfOk, OnOk, map, string_bytes};
+ghost use Rattle.std.specs.Prelude.{⊤, ◌≡◌, ◌≤◌, length, ◌+◌, List, [], ◌∷◌, ◌++◌, Option, IfSome, IfOk, OnOk, map, string_bytes};
 ghost use Rattle.std.specs.List.{insert};
 ghost use Rattle.sqlite.specs.Held.{state};
 ghost use Rattle.sqlite.specs.State.{HasCleanDisk};
@@ -49,6 +49,8 @@ pub(crate) struct CategoryNames {
 
 impl TakesRows for CategoryNames {
     ghost took = { HasNames };
+
+    ghost refuses = { λ _ _. ⊤ };
 
     fn take(&mut self, row: &Row) -> Result<(), StoreFault> {
         if place_of(number_at(row, 0)?) != Some(self.sums.len()) {
@@ -125,6 +127,8 @@ pub(crate) struct CategorySums {
 
 impl TakesRows for CategorySums {
     ghost took = { HasSums };
+
+    ghost refuses = { λ _ _. ⊤ };
 
     fn take(&mut self, row: &Row) -> Result<(), StoreFault> {
         add_sale(&mut self.sums, row)

@@ -1,6 +1,6 @@
 //! The list of all films, each with its actors. Neighbouring rows of one join belong to one film.
 
-ghost use Rattle.std.specs.Prelude.{◌≡◌, List, [], ◌∷◌, ◌++◌, Option, Some, IfOk, OnOk, map, option_map, string_bytes};
+ghost use Rattle.std.specs.Prelude.{⊤, ◌≡◌, List, [], ◌∷◌, ◌++◌, Option, Some, IfOk, OnOk, map, option_map, string_bytes};
 ghost use Rattle.sqlite.specs.Held.{state};
 ghost use Rattle.sqlite.specs.State.{HasCleanDisk};
 ghost use Rattle.sql_rows.specs.Calls.{StaysSame};
@@ -21,26 +21,13 @@ ghost use Rattle.view_texts.specs.Shown.{FilmLine, shown_film};
 ghost use Rattle.view_texts.specs.Films.{names_of, film_alone, seen_part, take_line, closed, HasFilms};
 
 use crate::people::{name_at, person_name_or_null_at};
-use shop_schema::{row_number_at, text_at};
-use shop_types::{Minutes, Rate, Rating};
+use shop_schema::{bounded_at, row_number_at, text_at};
+use shop_types::{Minutes, Rating};
 use shop_views::ListPage;
 use shop_views::films::ListedFilm;
-use sql_rows::{StoreFault, TakesRows, each_row, number_at, number_or_null_at, words_at};
+use sql_rows::{StoreFault, TakesRows, each_row, number_or_null_at, words_at};
 use sqlite::{Alter, Connection, Row};
 use std::alloc::{AllocError, Global};
-
-/// Reads the rate in the column, in cents.
-fn rate_at(row: &Row, at: usize) -> Result<Rate, StoreFault>
-    ensures { IfOk result (λ n. column row.now at ≡ number_value n) }
-{
-    let Ok(cents) = u16::try_from(number_at(row, at)?) else {
-        return Err(StoreFault::Failed);
-    };
-    match Rate::new(cents) {
-        Some(rate) => Ok(rate),
-        None => Err(StoreFault::Failed),
-    }
-}
 
 /// Reads the length in the column, or none if the column is NULL.
 fn minutes_at(row: &Row, at: usize) -> Result<Option<Minutes>, StoreFault>
@@ -48,9 +35,6 @@ fn minutes_at(row: &Row, at: usize) -> Result<Option<Minutes>, StoreFault>
 {
     let Some(number) = number_or_null_at(row, at)? else {
         return Ok(None);
-    };
-    let Ok(number) = u16::try_from(number) else {
-        return Err(StoreFault::Failed);
     };
     match Minutes::new(number) {
         Some(minutes) => Ok(Some(minutes)),
@@ -76,7 +60,7 @@ fn film_at(alloc: Global, row: &Row) -> Result<ListedFilm, StoreFault>
 {
     Ok(ListedFilm {
         number: row_number_at(row, 0)?,
-        rate: rate_at(row, 4)?,
+        rate: bounded_at(row, 4)?,
         minutes: minutes_at(row, 5)?,
         rating: rating_at(row, 6)?,
         title: text_at(row, 1)?,
@@ -132,6 +116,8 @@ pub(crate) struct FilmPage {
 
 impl TakesRows for FilmPage {
     ghost took = { HasFilms };
+
+    ghost refuses = { λ _ _. ⊤ };
 
     fn take(&mut self, row: &Row) -> Result<(), StoreFault> {
         let film = self.film.take();

@@ -4,8 +4,6 @@
 ghost use Rattle.std.specs.Prelude.{◌≡◌, List, ◌∷◌, [], if◌then◌else◌, map, IfOk, string_bytes};
 ghost use Rattle.sqlite.specs.Held.{state};
 ghost use Rattle.sqlite.specs.State.{HasCleanDisk};
-ghost use Rattle.sqlite_value.specs.Order.{column};
-ghost use Rattle.sql_rows.specs.Rows.{number_value};
 ghost use Rattle.sql_rows.specs.Calls.{StaysSame};
 ghost use Rattle.shop_model.specs.Json.{array};
 ghost use Rattle.shop_model.specs.Values.{Rental, Terms};
@@ -19,23 +17,13 @@ ghost use Rattle.view_texts.specs.Overdue.{shown_out, is_late, IsReal};
 
 use crate::pages::{ReadsRows, rows_text};
 use balance_rule::is_overdue;
-use shop_schema::{moment_at, text_at};
+use shop_schema::{bounded_at, moment_at, text_at};
 use shop_types::{BranchNo, Moment};
 use shop_views::overdue_rows::OverdueRow;
-use sql_rows::{StoreFault, number_at};
+use sql_rows::StoreFault;
 use sqlite::types::ToSql;
 use sqlite::{Alter, Connection, Row};
 use std::alloc::Global;
-
-/// Reads the period in the column, in days.
-fn period_at(row: &Row, at: usize) -> Result<u8, StoreFault>
-    ensures { IfOk result (λ n. column row.now at ≡ number_value n) }
-{
-    match u8::try_from(number_at(row, at)?) {
-        Ok(period) => Ok(period),
-        Err(_) => Err(StoreFault::Failed),
-    }
-}
 
 /// Returns whether the open rental of the row is overdue at the moment.
 fn is_late_at(row: &Row, moment: Moment) -> Result<bool, StoreFault>
@@ -43,7 +31,7 @@ fn is_late_at(row: &Row, moment: Moment) -> Result<bool, StoreFault>
         → row.now ≡ shown_out catalogue shop it → late ≡ is_late moment it) }
 {
     let rented = moment_at(row, 0)?;
-    let period = period_at(row, 1)?;
+    let period = bounded_at(row, 1)?;
     Ok(is_overdue(rented, period, moment))
 }
 

@@ -1,6 +1,6 @@
 //! Lists whose values are read from the rows of a query, at most one from a row.
 
-ghost use Rattle.std.specs.Prelude.{◌≡◌, List, IfOk, map, string_bytes};
+ghost use Rattle.std.specs.Prelude.{⊤, ◌≡◌, List, IfOk, map, string_bytes};
 ghost use Rattle.std.specs.Option.{option_to_list};
 ghost use Rattle.sqlite.specs.Held.{state};
 ghost use Rattle.sqlite.specs.State.{HasCleanDisk, Shown};
@@ -40,6 +40,8 @@ pub(crate) struct RowsPage<R> {
 impl<R: ReadsRows> TakesRows for RowsPage<R> {
     ghost took = { λ first it given. (it.reader ≡ first.reader)
         × HasRead (R.ReadsRows.reads first.reader) given it.page };
+
+    ghost refuses = { λ _ _. ⊤ };
 
     fn take(&mut self, row: &Row) -> Result<(), StoreFault> {
         if let Some(it) = self.reader.read(self.alloc, row)? {

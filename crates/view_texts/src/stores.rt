@@ -1,6 +1,6 @@
 //! What branches have taken for rentals.
 
-ghost use Rattle.std.specs.Prelude.{◌≡◌, ℕ, List, [], ◌∷◌, ◌++◌, Option, Some, None, IfOk, OnOk, map, option_map, false, not, flat_map, string_bytes};
+ghost use Rattle.std.specs.Prelude.{⊤, ◌≡◌, ℕ, List, [], ◌∷◌, ◌++◌, Option, Some, None, IfOk, OnOk, map, option_map, false, not, flat_map, string_bytes};
 ghost use Rattle.sqlite.specs.Held.{state};
 ghost use Rattle.sqlite.specs.State.{HasCleanDisk};
 ghost use Rattle.sql_rows.specs.Calls.{StaysSame};
@@ -50,6 +50,8 @@ pub(crate) struct SalesSum {
 impl TakesRows for SalesSum {
     ghost took = { HasSold };
 
+    ghost refuses = { λ _ _. ⊤ };
+
     fn take(&mut self, row: &Row) -> Result<(), StoreFault> {
         self.sum = with_payment(self.sum, row)?;
         Ok(())
@@ -79,6 +81,8 @@ pub(crate) struct FoundStore {
 
 impl TakesRows for FoundStore {
     ghost took = { HasFound };
+
+    ghost refuses = { λ _ _. ⊤ };
 
     fn take(&mut self, row: &Row) -> Result<(), StoreFault> {
         self.row = Some(read_store(self.alloc, row)?);

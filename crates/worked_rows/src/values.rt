@@ -1,6 +1,6 @@
 //! Requests as values.
-use counter_http::{Message, Reading, read_request};
-use counter_routes::{Reading as Read, Routes};
+use counter_http::{Message, MessageReading, read_request};
+use counter_routes::{Reading, Routes};
 use office_words::ClapWords;
 use row_player::Texts;
 use shop_types::{BranchNo, Caller, Request, Token};
@@ -36,13 +36,13 @@ impl Values {
             return false;
         };
         match routes.read(alloc, &ClapWords { alloc }, message, Caller::Branch(branch)) {
-            Ok(Read::Asked(request)) => {
+            Ok(Reading::Asked(request)) => {
                 let put = self.list.push((token, request));
                 let is_put = put.is_ok();
                 drop(put);
                 is_put
             }
-            Ok(Read::Refused(_)) | Err(_) => false,
+            Ok(Reading::Refused(_)) | Err(_) => false,
         }
     }
 
@@ -50,7 +50,7 @@ impl Values {
     fn put_all(&mut self, alloc: Global, routes: &Routes, input: &[u8]) -> bool {
         let mut rest = input;
         for _ in 0..input.len() {
-            let Reading::Whole(message, length) = read_request(rest) else {
+            let MessageReading::Whole(message, length) = read_request(rest) else {
                 return true;
             };
             if !self.put(alloc, routes, &message) {

@@ -1,3 +1,0 @@
-pub mod Shows
-pub mod Telling
-pub mod Answered
