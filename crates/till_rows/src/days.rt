@@ -20,7 +20,7 @@ const FEWEST: u32 = 50;
 
 /// What is disturbed.
 #[derive(Clone, Copy)]
-enum Disturbed {
+enum DisturbedPart {
     /// The disk of the book's log and the disk of its other file, each in turn. What wasn't synced is lost.
     Till,
     /// The same disks, but nothing that was written is lost.
@@ -45,17 +45,17 @@ fn cut_at(is_sent: bool, number: u64) -> Cut {
 }
 
 /// Returns the disturbances of the day with that number, in the first or the second half of the part.
-fn trouble_at(part: Disturbed, is_first: bool, number: u64) -> Trouble {
+fn trouble_at(part: DisturbedPart, is_first: bool, number: u64) -> Trouble {
     let mut trouble = QUIET;
     match part {
-        Disturbed::Till => trouble.book = failing_after(is_first, number),
-        Disturbed::Killed => {
+        DisturbedPart::Till => trouble.book = failing_after(is_first, number),
+        DisturbedPart::Killed => {
             trouble.book = failing_after(is_first, number);
             trouble.loses = false;
         }
-        Disturbed::Server => trouble.server = failing_after(is_first, number),
-        Disturbed::Line => trouble.cut = cut_at(is_first, number),
-        Disturbed::Late => trouble.repeats = is_first && number == 0,
+        DisturbedPart::Server => trouble.server = failing_after(is_first, number),
+        DisturbedPart::Line => trouble.cut = cut_at(is_first, number),
+        DisturbedPart::Late => trouble.repeats = is_first && number == 0,
     }
     trouble
 }
@@ -139,7 +139,7 @@ fn sweep<D: InMemory>(
     alloc: Global,
     world: &World,
     script: &Script<'_>,
-    part: Disturbed,
+    part: DisturbedPart,
     is_first: bool,
     asked: &mut Asked,
     book: &mut Vec<u8>,
@@ -162,7 +162,7 @@ fn sweeps<D: InMemory>(
     alloc: Global,
     world: &World,
     script: &Script<'_>,
-    part: Disturbed,
+    part: DisturbedPart,
     asked: &mut Asked,
     book: &mut Vec<u8>,
 ) -> Result<(), Fault> {
@@ -185,11 +185,11 @@ fn all_disturbed<D: InMemory>(
     let alloc = rt.alloc();
     let mut book = Vec::new(alloc);
     for (name, part) in [
-        ("stopped_at_each_call", Disturbed::Till),
-        ("killed_at_each_call", Disturbed::Killed),
-        ("server_stopped_at_each_call", Disturbed::Server),
-        ("cut_at_each_byte", Disturbed::Line),
-        ("late_messages", Disturbed::Late),
+        ("stopped_at_each_call", DisturbedPart::Till),
+        ("killed_at_each_call", DisturbedPart::Killed),
+        ("server_stopped_at_each_call", DisturbedPart::Server),
+        ("cut_at_each_byte", DisturbedPart::Line),
+        ("late_messages", DisturbedPart::Late),
     ] {
         let fewest = FEWEST;
         let _ = match sweeps::<D>(alloc, world, script, part, asked, &mut book) {
